@@ -1,7 +1,7 @@
--- The list of candidates under construction, and how candidates are marked as installed one by one. The
--- rules are in `docs/selection.md`, "What there is to choose from". The contracts of `Pool` cite
--- *IsCandidateList* and *candidates_in*. *is_installed_package_at* and *marked_installed_if_same_at* serve their proofs: they are
--- *with_installed* for one place.
+-- The list of candidates under construction, and how candidates are marked as installed one by one. The rules are in
+-- `docs/selection.md`, "What there is to choose from". The contracts of `Pool` cite *IsCandidateList* and
+-- *candidates_in*. Proofs use *is_installed_package_at* and *marked_installed_if_same_at*: these do for one place of
+-- the list what *with_installed* does for all.
 use Rattle.std.specs.Prelude.{◌≤◌, ℕ, zero, suc, Bool, false, if◌then◌else◌, List, [], ◌∷◌, length, Option, Some, None, slice_get}
 use Rattle.std.specs.Option.{option_map_or}
 use Rattle.candidate_core.specs.declared.candidate_list.CandidateList.{CandidateList}
@@ -18,17 +18,17 @@ pub record IsCandidateList (list : CandidateList) : Type 0 where
   -- there are no more candidates than a list may have
   pub fits : length (candidates_of_packages list.packages) ≤ MOST_CANDIDATES
 
--- the candidates of a pool; none after an error, which drops the list
+-- the candidates of a pool; none if an error has dropped the list, or before the first candidate is added
 abbrev pub candidates_in : Option CandidateList → List Candidate
 candidates_in None = []
 candidates_in (Some list) = candidates_of_packages list.packages
 
--- whether the candidate at a place is the installed package; not if no candidate is there
+-- whether the candidate at a place is the same package as the installed one; false if no candidate is there
 abbrev pub is_installed_package_at : Candidate → List Candidate → ℕ → Bool
 is_installed_package_at installed cs place =
     option_map_or (is_same_package installed) (slice_get cs place) false
 
--- the list, with the candidate at a place marked as installed if it is the installed package
+-- the list, in which the candidate at a place is marked as installed if it is the same package as the installed one
 abbrev pub marked_installed_if_same_at : Candidate → ℕ → List Candidate → List Candidate
 marked_installed_if_same_at installed place [] = []
 marked_installed_if_same_at installed zero (c ∷ cs) =

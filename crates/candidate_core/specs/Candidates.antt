@@ -14,45 +14,50 @@ use Rattle.dep_core.specs.Dependency.{Dependency}
 use Rattle.dep_core.specs.Meets.{meets}
 pub use Rattle.adb_schema.specs.Dependencies.{dependency_in}
 
--- a package to choose from: `info` is its information in its index, or in the database, and the other
--- parts are read from it. The version is None only if the text is no version, which never happens in a
--- tested container. Repositories count from 1; an installed package that no index has is from none
+-- a package to choose from. `info` is its information in its index, or in the database; the parts from the name to
+-- the priority are read from it. The version is None only if the text is no version, which never happens in a tested
+-- container. Repositories count from 1; an installed package that no index has is from none
 pub record Candidate : Type 0 where
-  -- its information, as a plain value of its index or of the database
+  -- the package's information, as a plain value of its index or of the database
   pub info : Plain
-  -- its name, the text of its version (None: no version), and its id, which may be empty or a prefix
+  -- the package's name
   pub name : List ℕ
+  -- the text of the package's version; None if the text is no version
   pub version : Option (List ℕ)
+  -- the package's id, which may be empty, or a prefix of the whole id
   pub id : List ℕ
-  -- its lists of dependencies, as `docs/formats.md` names these fields
+  -- the dependencies of the package, its conflicts among them
   pub depends : List Dependency
+  -- what the package provides: names, each with or without a version
   pub provides : List Dependency
+  -- the install-if of the package: if each of these dependencies is met, the name of the package is needed
   pub install_if : List Dependency
-  -- its `provider-priority`
+  -- the package's `provider-priority`: the greater is preferred (key 6 of the order of options)
   pub priority : ℕ
-  -- its repository, counted from 1, and the tag of this repository, if there are such
+  -- the number of the package's repository, counted from 1; None if the package is from no repository
   pub repository : Option ℕ
+  -- the tag of this repository; None if there is no repository or no tag
   pub tag : Option (List ℕ)
-  -- whether it is installed
+  -- whether the package is installed
   pub installed : Bool
 
 -- ---- the parts of a package's information
 
--- the version that a text denotes, if it is one
+-- the version with this text; None if the text is no version
 abbrev pub version_of_text : List ℕ → Option (List ℕ)
 version_of_text text = if is_version text then Some text else None
 
--- the dependencies of an array; an entry that is no dependency is skipped, which no tested container
--- has
+-- the dependencies to which these values of an array refer; a value that is no dependency is left out, and no tested
+-- container has one
 abbrev pub dependencies_of : Plains → List Dependency
 dependencies_of none = []
 dependencies_of (more value values) = cons_option (dependency_in value) (dependencies_of values)
 
--- the dependencies in a list of a package's information, such as its `depends`
+-- the dependencies in the value of one field of a package's information, such as its `depends`
 abbrev pub dependencies_in : Plain → List Dependency
 dependencies_in value = dependencies_of (entries_in value)
 
--- a candidate from its parts
+-- a candidate from its parts, in the order of the fields of *Candidate*
 abbrev pub candidate_from_parts :
     Plain → List ℕ → Option (List ℕ) → List ℕ →
     List Dependency → List Dependency → List Dependency →
@@ -72,7 +77,7 @@ candidate_from_parts info name version id depends provides install_if priority r
       installed = installed;
     }
 
--- the candidate with this information, of a repository and its tag, installed or not
+-- the candidate with this information, of a repository, with the repository's tag, and installed or not
 abbrev pub candidate_of : Plain → Option ℕ → Option (List ℕ) → Bool → Candidate
 candidate_of info repository tag installed =
     candidate_from_parts info (text_in (entry_in info INFO_NAME))
@@ -83,14 +88,15 @@ candidate_of info repository tag installed =
 
 -- ---- the list: the packages of each index, then the installed ones that no index has
 
--- the candidates of a repository's index, with its tag: its packages, in its order, none of them
--- installed yet
+-- the candidates of a repository's index, with the repository's number and tag: the packages of the index, in its
+-- order, none of them marked as installed yet
 abbrev pub candidates_of_index : ℕ → Option (List ℕ) → Plains → List Candidate
 candidates_of_index repository tag none = []
 candidates_of_index repository tag (more info infos) =
     candidate_of info (Some repository) tag false ∷ candidates_of_index repository tag infos
 
--- whether two ids are the same: both are nonempty, and the shorter is a prefix of the longer
+-- whether two ids are the same: both are nonempty, and the shorter is a prefix of the longer, since an index may
+-- store a prefix only
 abbrev pub is_same_id : List ℕ → List ℕ → Bool
 is_same_id a b =
     nat_lt 0 (length a)
@@ -103,8 +109,8 @@ is_same_version None (Some b) = false
 is_same_version (Some a) None = false
 is_same_version (Some a) (Some b) = bytes_eq a b
 
--- whether a candidate is from a repository and is the installed package: name, text of the version and
--- id are the same
+-- whether the candidate `c` is from a repository and is the same package as `installed`: name, text of the version
+-- and id are the same
 abbrev pub is_same_package : Candidate → Candidate → Bool
 is_same_package installed c =
     is_some c.repository
@@ -115,14 +121,15 @@ is_same_package installed c =
 abbrev pub as_installed : Candidate → Candidate
 as_installed c = record c { installed = true }
 
--- the list, with each candidate that is the installed package marked as installed
+-- the list, in which each candidate that is the same package as `installed` is marked as installed
 abbrev pub as_installed_where_same : Candidate → List Candidate → List Candidate
 as_installed_where_same installed [] = []
 as_installed_where_same installed (c ∷ cs) =
     (if is_same_package installed c then as_installed c else c)
     ∷ as_installed_where_same installed cs
 
--- the list with an installed package, which becomes a candidate of its own only if no index has it
+-- the list after an installed package was added: the candidates that are the same package are marked as installed; if
+-- there are none, the installed package is appended as a candidate of its own
 abbrev pub with_installed : List Candidate → Candidate → List Candidate
 with_installed cs installed =
     if list_any (is_same_package installed) cs then as_installed_where_same installed cs
@@ -137,16 +144,17 @@ pub data Need : Type 0 where
   -- the name of a package whose install-if applies
   named : List ℕ → Need
 
--- the name of a need
+-- the name of a need: that of the dependency, or the name itself
 abbrev pub need_name : Need → List ℕ
 need_name (entry d) = d.name
 need_name (named name) = name
 
--- whether an entry of provides meets a dependency; an entry that is a conflict provides nothing
+-- whether an entry `p` of provides meets the dependency `d`; an entry that is a conflict provides nothing
 abbrev pub is_met_by_provides_entry : Dependency → Dependency → Bool
 is_met_by_provides_entry d p = not p.conflict && meets d p.name p.version
 
--- whether a candidate meets a dependency by its own name and version
+-- whether a candidate meets a dependency by its own name and version. It does not matter whether the dependency is a
+-- conflict
 abbrev pub meets_by_own_name : Dependency → Candidate → Bool
 meets_by_own_name d c = meets d c.name c.version
 
@@ -155,7 +163,8 @@ meets_by_own_name d c = meets d c.name c.version
 abbrev pub meets_dependency : Dependency → Candidate → Bool
 meets_dependency d c = meets_by_own_name d c || list_any (is_met_by_provides_entry d) c.provides
 
--- whether a candidate meets a need; only a candidate of that name meets the name of an install-if
+-- whether a candidate meets a need. The name of a package whose install-if applies is met only by a candidate of that
+-- name
 abbrev pub meets_need : Need → Candidate → Bool
 meets_need (entry d) c = meets_dependency d c
 meets_need (named name) c = bytes_eq name c.name
@@ -175,8 +184,7 @@ offers_name name c =
     bytes_eq name c.name
     || list_any (λ (p : Dependency). not p.conflict && bytes_eq name p.name) c.provides
 
--- whether an entry of provides occupies the name: it is of the name, has a version and is no
--- conflict
+-- whether an entry `p` of provides occupies the name: `p` has this name and a version, and is no conflict
 abbrev pub is_name_occupied_by_provides_entry : List ℕ → Dependency → Bool
 is_name_occupied_by_provides_entry name p = not p.conflict && (is_some p.version && bytes_eq name p.name)
 
@@ -187,7 +195,7 @@ occupies_name name c = bytes_eq name c.name || list_any (is_name_occupied_by_pro
 
 -- ---- under a world
 
--- the positive entries of world, which are no conflicts
+-- the positive entries of world: those that are no conflicts
 abbrev pub positive_entries_of : List Dependency → List Dependency
 positive_entries_of world = filter (λ (d : Dependency). not d.conflict) world
 
@@ -210,8 +218,8 @@ is_barred_by_world world c = list_any (λ (d : Dependency). d.conflict && meets_
 abbrev pub is_eligible : List Dependency → Candidate → Bool
 is_eligible world c = is_allowed_by_tags_of_world world c && not (is_barred_by_world world c)
 
--- whether a candidate has an install-if that can apply: it may be selected itself, and its install-if
--- is not empty and has no conflict
+-- whether a candidate has an install-if that can apply: the candidate may be selected, and its install-if has an
+-- entry and no conflict
 abbrev pub has_usable_install_if : List Dependency → Candidate → Bool
 has_usable_install_if world c =
     is_eligible world c

@@ -17,7 +17,7 @@ use Rattle.candidate_core.specs.declared.packages.Source.{Source}
 abbrev pub dependency_accepts : Dependency → Option (List ℕ) → Bool
 dependency_accepts d version = constraint_accepts d.version d.bits version
 
--- the order of the places of texts: by their sources, and in one source by their words
+-- the order of the places of two texts, each a source and a word: by the sources, and in one source by the words
 abbrev pub text_place_cmp : ℕ × ℕ → ℕ × ℕ → Ordering
 text_place_cmp one other = ordering_then (nat_cmp one.0 other.0) (nat_cmp one.1 other.1)
 
@@ -25,24 +25,25 @@ text_place_cmp one other = ordering_then (nat_cmp one.0 other.0) (nat_cmp one.1 
 abbrev pub IsRememberedMatch : KnownMatches → ℕ → ℕ → Bool → Type 0
 IsRememberedMatch known source word answer = get text_place_cmp known.answers (source, word) ≡ Some answer
 
--- each remembered result is whether the dependency accepts the text at its place
+-- each remembered result says rightly whether the dependency accepts the text at its place; `text` gives the text for
+-- a source and a word
 abbrev pub AreRememberedMatchesOf : (ℕ → ℕ → List ℕ) → Dependency → KnownMatches → Type 0
 AreRememberedMatchesOf text d known = (source word : ℕ) (answer : Bool)
     → IsRememberedMatch known source word answer → answer ≡ dependency_accepts d (Some (text source word))
 
--- The remembered results are right for a need. For a dependency, each is whether it accepts the version.
--- A bare name accepts each version, so nothing is claimed for it.
+-- The remembered results are right for a need. For a dependency, each says whether the dependency accepts the
+-- version. The name of a package whose install-if applies compares no version, so nothing is claimed for it.
 abbrev pub AreMatchesFor : (ℕ → ℕ → List ℕ) → Need → KnownMatches → Type 0
 AreMatchesFor text (entry d) known = AreRememberedMatchesOf text d known
 AreMatchesFor text (named name) known = Unit {0}
 
--- the function gives the texts of a source at this index
+-- the function `text` gives, for the index `place`, the texts of this source by their words
 abbrev pub GivesTextsOfSource : Source → ℕ → (ℕ → ℕ → List ℕ) → Type 0
 GivesTextsOfSource source place text = (word : ℕ)
     → text place word ≡ text_in (value_at (payload_of source.adb) Text word)
 
--- the results for a need are right by some function of places, which at this index gives the texts of the
--- source
+-- the results for a need are right, by some function from places to texts, which for the index `place` gives the
+-- texts of this source
 abbrev pub AreMatchesIn : Source → ℕ → Need → KnownMatches → Type 0
 AreMatchesIn source place need known = (text : ℕ → ℕ → List ℕ)
     × GivesTextsOfSource source place text × AreMatchesFor text need known

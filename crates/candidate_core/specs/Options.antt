@@ -16,8 +16,8 @@ abbrev pub AreDistinct : List ℕ → Type 0
 AreDistinct [] = Unit {0}
 AreDistinct (c ∷ cs) = (IsIn c cs → ⊥) × AreDistinct cs
 
--- the places of the candidates that pass a test, in rising order; the first candidate of the list
--- has the place `n`
+-- the places of all candidates of the list that pass a test, in rising order; the first candidate of the list has the
+-- place `n`
 abbrev pub places_passing_from : ℕ → (Candidate → Bool) → List Candidate → List ℕ
 places_passing_from n test [] = []
 places_passing_from n test (c ∷ cs) =
@@ -32,30 +32,30 @@ places_offering name candidates = places_passing_from 0 (offers_name name) candi
 abbrev pub is_eligible_for_need : SealedPool → Need → Candidate → Bool
 is_eligible_for_need pool need c = is_eligible pool.world c && meets_need need c
 
--- places in rank order, with one more, which precedes the first that it is better than
+-- places in rank order, with the place `c` added before the first place that `c` is better than
 abbrev pub insert_by_rank : (ℕ → ℕ → Bool) → ℕ → List ℕ → List ℕ
 insert_by_rank better c [] = c ∷ []
 insert_by_rank better c (d ∷ ds) =
     if better c d then c ∷ (d ∷ ds) else d ∷ insert_by_rank better c ds
 
--- places in rank order: each better one first
+-- the places in rank order: each better place first, where `better` says which of two places is better
 abbrev pub rank_order_of : (ℕ → ℕ → Bool) → List ℕ → List ℕ
 rank_order_of better [] = []
 rank_order_of better (c ∷ cs) = insert_by_rank better c (rank_order_of better cs)
 
--- the options of a need: the candidates that may be selected and meet it, best first
+-- the options of a need: the places of the candidates that may be selected and meet the need, best first
 unfoldable pub options_for : SealedPool → Need → List ℕ
 options_for pool need =
     rank_order_of (is_better pool need)
     (places_passing_from 0 (is_eligible_for_need pool need) pool.candidates)
 
--- each place of the list is better than those after it
+-- each place of the list is better than all places after it, where `better` says which of two places is better
 abbrev pub IsSortedBestFirst : (ℕ → ℕ → Bool) → List ℕ → Type 0
 IsSortedBestFirst better [] = Unit {0}
 IsSortedBestFirst better (c ∷ cs) =
     ((d : ℕ) → IsIn d cs → better c d ≡ true) × IsSortedBestFirst better cs
 
--- each number of the list is less than those after it
+-- each number of the list is less than all numbers after it
 abbrev pub AreStrictlyIncreasing : List ℕ → Type 0
 AreStrictlyIncreasing [] = Unit {0}
 AreStrictlyIncreasing (c ∷ cs) = ((d : ℕ) → IsIn d cs → c < d) × AreStrictlyIncreasing cs

@@ -14,7 +14,7 @@ use Rattle.candidate_core.specs.declared.matches.KnownMatches.{KnownMatches}
 use Rattle.candidate_core.specs.declared.package_matches.PackageDep.{PackageDep}
 use Rattle.candidate_core.specs.declared.package_matches.PackageMatches.{PackageMatches}
 
--- the candidate at the place of the package has the dependency at its index
+-- the candidate at the place of the package, if there is one, has the dependency at its index
 abbrev pub IsDepOfPackageAt : List Candidate → PackageDep → Type 0
 IsDepOfPackageAt candidates held = (c : Candidate) → slice_get candidates held.package ≡ Some c
     → slice_get c.depends held.index ≡ Some (dependency held.dep.now)
@@ -25,8 +25,8 @@ abbrev pub wanted_version_cmp : ℕ × ℕ × ℕ → ℕ × ℕ × ℕ → Orde
 wanted_version_cmp one other = ordering_then
     (ordering_then (nat_cmp one.0 other.0) (nat_cmp one.1 other.1)) (nat_cmp one.2 other.2)
 
--- the results for the place of a version's text and some match bits are right for each dependency with
--- this version and these bits
+-- the remembered results, each set stored by the place of a version's text and by match bits, are right for every
+-- dependency with this version and these bits
 abbrev pub AreMatchesByVersion :
     (ℕ → ℕ → List ℕ) → BTreeMap (ℕ × ℕ × ℕ) KnownMatches → Type 0
 AreMatchesByVersion text by_version =
@@ -34,7 +34,7 @@ AreMatchesByVersion text by_version =
     → get wanted_version_cmp by_version (source, word, bits) ≡ Some known
     → d.version ≡ Some (text source word) → d.bits ≡ bits → AreRememberedMatchesOf text d known
 
--- the packages are these candidates, and the results for their dependencies are right
+-- the packages are these candidates, and the remembered results for the dependencies of packages are right
 abbrev pub AreMatchesAmong : List Candidate → PackageMatches → Type 0
 AreMatchesAmong candidates matches =
     (candidates_of_packages matches.packages.now ≡ candidates)

@@ -11,7 +11,7 @@ use Rattle.candidate_core.specs.SoundTexts.{HasSoundTexts}
 use Rattle.candidate_core.specs.declared.packages.PackageWord.{PackageWord}
 use Rattle.candidate_core.specs.declared.packages.Source.{Source}
 
--- the information of the package with a word in a source
+-- the information of the package that a word refers to in a source
 abbrev pub info_in_source : Source → ℕ → Plain
 info_in_source source word = value_at (payload_of source.adb) (Obj PkgInfo) word
 
@@ -31,6 +31,6 @@ pub record IsPackageWordAt (sources : List Source) (place word : ℕ) : Type 0 w
   pub of_source : (source : Source) → slice_get sources place ≡ Some source
       → IsPackageWordOf source word
 
--- the stored word of a package is that of a package of the source at its index
+-- the stored word of a package is that of a package of the source whose index is stored with it
 abbrev pub IsPackageWordAmong : List Source → PackageWord → Type 0
 IsPackageWordAmong sources kept = IsPackageWordAt sources kept.source kept.word

@@ -1,6 +1,6 @@
--- The candidates of packages that are stored as words. The order of the list is in `docs/selection.md`,
--- "What there is to choose from". Serves the contracts of `src/packages.rt` and
--- `src/candidate_list.rt`: it says which candidates a list of stored words stands for.
+-- The candidates of packages that are stored as words. The order of the list is in `docs/selection.md`, "What there
+-- is to choose from". Serves the contracts of `src/packages.rt` and `src/candidate_list.rt`: this file says which
+-- candidates a list of stored words represents.
 use Rattle.std.specs.Prelude.{ℕ, zero, suc, Bool, false, List, [], ◌∷◌, map, Option, Some, None, option_copied, slice_get}
 use Rattle.adb_view.specs.Plain.{null, Plains, none, more}
 use Rattle.candidate_core.specs.Candidates.{Candidate, as_installed, candidate_of}
@@ -9,14 +9,14 @@ use Rattle.candidate_core.specs.declared.packages.Packages.{Packages}
 use Rattle.candidate_core.specs.declared.packages.PackageWord.{PackageWord}
 use Rattle.candidate_core.specs.declared.packages.Source.{Source}
 
--- the candidate with a word in a source, installed or not; without a source, which no list of packages
--- lacks, it has no information
+-- the candidate of the package that a word refers to in a source, installed or not. Without a source, which no list
+-- of packages lacks, it has no information
 abbrev pub candidate_in_source : Option Source → ℕ → Bool → Candidate
 candidate_in_source None word installed = candidate_of null None None installed
 candidate_in_source (Some source) word installed =
     candidate_of (info_in_source source word) source.repo (option_copied source.tag) installed
 
--- the candidates whose information these values are in a source, none of them installed
+-- the candidates of a source, none of them installed; the values are the information of each package
 abbrev pub candidates_of_source : Source → Plains → List Candidate
 candidates_of_source source none = []
 candidates_of_source source (more info infos) =
@@ -28,7 +28,7 @@ abbrev pub candidate_among : List Source → PackageWord → Candidate
 candidate_among sources kept =
     candidate_in_source (slice_get sources kept.source) kept.word kept.installed
 
--- the candidates of a pool, in the order in which they were added
+-- the candidates that these packages are, in the order in which they were added
 abbrev pub candidates_of_packages : Packages → List Candidate
 candidates_of_packages packages = map (candidate_among packages.sources.items) packages.words.items
 

@@ -1,6 +1,6 @@
--- An encoding of plain values: each has a list of steps that build it again. The steps have no meaning
--- in the format. No rule of a document: serves the views of `Candidate` and of a pool, whose proofs
--- need that different values have different codes (`coded`).
+-- An encoding of plain values: each value has a list of steps that builds it again from nothing. The steps have no
+-- meaning in the format. No rule of a document: serves the views of `Candidate` and of a pool, whose proofs need that
+-- different values have different codes (`coded`).
 use Rattle.std.specs.Prelude.{◌≡◌, ℕ, zero, suc, List, [], ◌∷◌}
 use mathlib.Core.Path.{refl, ap, ◌∙◌}
 use Rattle.std.specs.Coded.{Coded, code_by, coded×, coded_list, coded_ℕ}
@@ -15,7 +15,8 @@ with_element_before_entries v (blob b) rest = rest
 with_element_before_entries v (arr vs) rest = arr (more v vs) ∷ rest
 with_element_before_entries v (obj vs) rest = rest
 
--- built values, with the first put before the entries of the second
+-- built values, with the first put before the entries of the second, which is an array; none if there are fewer than
+-- two
 abbrev pub first_put_into_second : List Plain → List Plain
 first_put_into_second [] = []
 first_put_into_second (v ∷ []) = []
@@ -29,13 +30,13 @@ array_as_object (blob b) = null
 array_as_object (arr vs) = obj vs
 array_as_object (obj vs) = null
 
--- built values, with the first, an array, made an object
+-- built values, in which the first, an array, has become an object with the same entries
 abbrev pub first_as_object : List Plain → List Plain
 first_as_object [] = []
 first_as_object (v ∷ rest) = array_as_object v ∷ rest
 
--- a step: its kind, and the number and the bytes that it adds. It operates on the values that the steps
--- after it built
+-- a step: its kind, and the number and the bytes that it adds. A step operates on the values that the steps after it
+-- in the list built
 abbrev pub BuildStep : Type 0
 BuildStep = ℕ × (ℕ × List ℕ)
 
@@ -55,7 +56,7 @@ built [] = []
 built (i ∷ steps) = values_after_step i.0 i.1.0 i.1.1 (built steps)
 
 abbrev mutual
-  -- the steps that build a value, in front of others
+  -- the steps that build a value, placed before other steps
   pub steps_of : Plain → List BuildStep → List BuildStep
   steps_of null steps = (0, (0, [])) ∷ steps
   steps_of (int n) steps = (1, (n, [])) ∷ steps
@@ -63,13 +64,13 @@ abbrev mutual
   steps_of (arr vs) steps = steps_of_all vs steps
   steps_of (obj vs) steps = (5, (0, [])) ∷ steps_of_all vs steps
 
-  -- the steps that build an array of some values, before others
+  -- the steps that build an array of some values, placed before other steps
   pub steps_of_all : Plains → List BuildStep → List BuildStep
   steps_of_all none steps = (3, (0, [])) ∷ steps
   steps_of_all (more v vs) steps = (4, (0, [])) ∷ steps_of v (steps_of_all vs steps)
 
 mutual
-  -- the steps of a value build the value
+  -- a lemma: the steps of a value, placed before other steps, build this value in front of what the other steps build
   pub steps_build_value :
       (v : Plain) (steps : List BuildStep) → built (steps_of v steps) ≡ v ∷ built steps
   steps_build_value null steps = refl
@@ -78,7 +79,8 @@ mutual
   steps_build_value (arr vs) steps = steps_build_array vs steps
   steps_build_value (obj vs) steps = ap first_as_object (steps_build_array vs steps)
 
-  -- the steps of an array's values build the array
+  -- a lemma: the steps of an array, placed before other steps, build this array in front of what the other steps
+  -- build
   pub steps_build_array :
       (vs : Plains) (steps : List BuildStep) →
       built (steps_of_all vs steps) ≡ arr vs ∷ built steps
@@ -93,7 +95,8 @@ abbrev pub first_or_null : List Plain → Plain
 first_or_null [] = null
 first_or_null (v ∷ vs) = v
 
--- plain values are encoded by the steps that build them
+-- the encoding of plain values: a value is encoded as the steps that build it, and decoded as the first value that
+-- the steps build
 abbrev pub plain_code : Coded Plain
 plain_code =
     code_by (List BuildStep) (coded_list (coded× coded_ℕ (coded× coded_ℕ (coded_list coded_ℕ))))

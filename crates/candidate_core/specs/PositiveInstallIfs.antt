@@ -6,14 +6,14 @@ use Rattle.std.specs.List.{list_all}
 use Rattle.dep_core.specs.Dependency.{Dependency}
 use Rattle.candidate_core.specs.Candidates.{Candidate}
 
--- whether a candidate has an install-if that has no conflict
+-- whether a candidate's install-if has an entry, and no conflict
 abbrev pub has_positive_install_if : Candidate → Bool
 has_positive_install_if c =
     not (length c.install_if == 0)
     && list_all (λ (d : Dependency). not d.conflict) c.install_if
 
--- the places of the candidates that have a mark and an install-if without conflict; the first candidate
--- of the list has the place `n`
+-- the places of the candidates whose mark is true, and whose install-if has an entry and no conflict; the first
+-- candidate of the list has the place `n`
 abbrev pub places_marked_with_install_if : ℕ → List Bool → List Candidate → List ℕ
 places_marked_with_install_if n [] cs = []
 places_marked_with_install_if n (m ∷ ms) [] = []

@@ -14,16 +14,19 @@ pub use Rattle.base_core.specs.ByteOrder.{bytes_cmp}
 -- the names that a command upgrades: none (`add`, `del`, `fix`), all (`upgrade` without names), or
 -- those of a list
 pub data UpgradedNames : Type 0 where
+  -- no name
   no_names : UpgradedNames
+  -- every name
   all_names : UpgradedNames
+  -- the names of this list
   listed_names : List (List ℕ) → UpgradedNames
 
--- the candidates that a selection is made of, the world that it is to satisfy, and the names that
--- the command upgrades
+-- what a selection is made from: the candidates, the world that a selection has to satisfy, and the names that the
+-- command upgrades
 pub record SealedPool : Type 0 where
-  -- the packages to choose from
+  -- the packages to choose from, in the order of the list of candidates
   pub candidates : List Candidate
-  -- the dependencies that a selection has to satisfy
+  -- the entries of world, which a selection has to satisfy
   pub world : List Dependency
   -- the names that the command upgrades
   pub upgraded : UpgradedNames
@@ -47,7 +50,7 @@ is_name_pinned_to_tag world name tag =
     list_any
     (λ (d : Dependency). bytes_eq name d.name && option_map_or (bytes_eq tag) d.tag false) world
 
--- key 1: whether a candidate is tagged, and world pins its name to its tag
+-- key 1: whether a candidate has a tag (of its repository), and world pins the candidate's name to this tag
 abbrev pub is_pinned : List Dependency → Candidate → Bool
 is_pinned world c = option_map_or (is_name_pinned_to_tag world c.name) c.tag false
 
@@ -65,15 +68,15 @@ is_kept_installed upgraded c = c.installed && not (is_upgraded upgraded c.name)
 
 -- ---- the order
 
--- a candidate with the quality precedes one without it
+-- an order of candidates: those that pass the test `quality` precede those that do not
 abbrev pub quality_first : (Candidate → Bool) → Candidate → Candidate → Ordering
 quality_first quality = on quality (flip_args bool_cmp)
 
--- the greater of two versions is first, and none last
+-- the greater of two versions is first; an absent version is last
 abbrev pub greater_version_first_cmp : Option (List ℕ) → Option (List ℕ) → Ordering
 greater_version_first_cmp = flip_args (option_cmp version_cmp)
 
--- the repository with the smaller number is first, and none last
+-- the repository with the smaller number is first; an absent repository is last
 abbrev pub earlier_repository_first_cmp : Option ℕ → Option ℕ → Ordering
 earlier_repository_first_cmp = flip_args (option_cmp (flip_args nat_cmp))
 
@@ -108,7 +111,7 @@ candidate_cmp_after_pinning upgraded need =
     then_cmp (tag_name_kept_cmp upgraded need)
     (then_cmp (version_and_priority_cmp need) version_text_and_repository_cmp)
 
--- keys 1 to 10, all but the place: candidates that world pins are first
+-- the order of two candidates by keys 1 to 10, all but the place: candidates that world pins are first
 abbrev pub candidate_cmp : SealedPool → Need → Candidate → Candidate → Ordering
 candidate_cmp pool need =
     then_cmp (quality_first (is_pinned pool.world)) (candidate_cmp_after_pinning pool.upgraded need)
@@ -135,11 +138,11 @@ is_pinned_at pool place = candidate_at_passes pool (is_pinned pool.world) place
 abbrev pub meets_at : SealedPool → ℕ → Need → Bool
 meets_at pool place need = candidate_at_passes pool (meets_need need) place
 
--- the order of two places for a need, by all eleven keys; key 11 is the place, and the earlier one is first
+-- the order of two places for a need, by all eleven keys; key 11 is the place itself, and the earlier place is first
 unfoldable pub rank_cmp : SealedPool → Need → ℕ → ℕ → Ordering
 rank_cmp pool need =
     then_cmp (on (candidate_at pool) (option_cmp (candidate_cmp pool need))) nat_cmp
 
--- whether the candidate at the first place precedes that at the second, for a need
+-- whether the candidate at the first place `a` precedes that at the second place `b`, in rank for a need
 abbrev pub is_better : SealedPool → Need → ℕ → ℕ → Bool
 is_better pool need a b = is_lt (rank_cmp pool need a b)

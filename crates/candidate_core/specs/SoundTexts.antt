@@ -8,13 +8,13 @@ use Rattle.adb_view.specs.FieldIndexes.{INFO_DEPENDS, INFO_INSTALL_IF, INFO_PROV
 use Rattle.adb_view.specs.Values.{count_of, entries_in, entry_in, text_in}
 use Rattle.adb_schema.specs.SoundValues.{IsSoundDependency}
 
--- each entry of a list of dependencies is a dependency
+-- each entry of the list, which is the value of a field, is a dependency
 abbrev pub HasSoundEntries : Plain → Type 0
 HasSoundEntries list = (i : ℕ) → i < count_of (entries_in list)
     → IsSoundDependency (entry_in list i)
 
--- the texts of a package's information obey their rules: the version is one, and each entry of its
--- `depends`, its `provides` and its `install-if` is a dependency
+-- the texts of a package's information obey their rules: the text of the version is a version, and each entry of
+-- `depends`, `provides` and `install-if` is a dependency
 pub record HasSoundTexts (info : Plain) : Type 0 where
   -- the text of the version is a version
   pub version : is_version (text_in (entry_in info INFO_VERSION)) ≡ true

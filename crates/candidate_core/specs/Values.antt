@@ -21,24 +21,24 @@ use Rattle.candidate_core.specs.Rank.{UpgradedNames, no_names, all_names, listed
 abbrev pub candidate_value : Shown → Candidate
 candidate_value c = candidate_of (info_value c.info) c.repo (option_copied c.tag) c.installed
 
--- the need that a value represents which owns its dependency
+-- the need that a `Need` of the program represents, which owns its dependency
 abbrev pub need_of_owned : OwnedNeed → Need
 need_of_owned (Entry dep) = entry (dependency dep)
 need_of_owned (Named name) = named name.now
 
--- the need that a value represents which borrows its dependency
+-- the need that a `NeedRef` of the program represents, which borrows its dependency
 abbrev pub need_of_ref : NeedRef → Need
 need_of_ref (Borrowed.Entry dep) = entry (dependency dep.now)
 need_of_ref (Borrowed.Named name) = named name.now
 
--- the names that a command upgrades
+-- the names that a command upgrades, as the program's type `Upgrade` gives them
 abbrev pub names_upgraded_by : Upgrade → UpgradedNames
 names_upgraded_by Nothing = no_names
 names_upgraded_by All = all_names
 names_upgraded_by (Listed words) = listed_names words.now
 
--- why a list of `total` candidates is refused: `total` exceeds the limit, and the reported count is the
--- first that does; or memory ran out
+-- a fault says rightly why a list of `total` candidates is refused: `total` exceeds the limit, and the reported count
+-- is the limit plus 1; or memory ran out
 abbrev pub IsPoolFault : PoolFault → ℕ → Type 0
 IsPoolFault (TooMany count) total = (MOST_CANDIDATES < total) × (count ≡ MOST_CANDIDATES + 1)
 IsPoolFault Memory total = Unit {0}

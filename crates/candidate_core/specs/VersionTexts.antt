@@ -7,15 +7,15 @@ use Rattle.adb_view.specs.declared.tables.Kind.TheVariants.{Text}
 use Rattle.candidate_core.specs.declared.packages.Source.{Source}
 use Rattle.candidate_core.specs.declared.versions.RankedVersion.{RankedVersion}
 
--- the text with a word in a source; empty if there is no source
+-- the text that a word refers to in a source; empty if there is no source
 abbrev pub text_in_source : Option Source → ℕ → List ℕ
 text_in_source None word = []
 text_in_source (Some source) word = text_in (value_at (payload_of source.adb) Text word)
 
--- the text with a word in the source at an index
+-- the text that a word refers to in the source with the index `place`
 abbrev pub source_text : List Source → ℕ → ℕ → List ℕ
 source_text sources place word = text_in_source (slice_get sources place) word
 
--- the version, if there is one, is the text at its place
+-- the version, if there is one, is the text that the function `text` gives for its source and its word
 abbrev pub HasVersionTextFrom : (ℕ → ℕ → List ℕ) → RankedVersion → Type 0
 HasVersionTextFrom text ranked = IfSome ranked.version (λ version. version ≡ text ranked.source ranked.word)

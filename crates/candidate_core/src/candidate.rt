@@ -34,6 +34,7 @@ impl Model for CandId {
 
     ghost Value = { ℕ };
 
+    // The value is the place.
     ghost view = { λ id. id.place };
 
     // Each number is the view of exactly one id.
@@ -54,8 +55,8 @@ pub struct Candidate<'a> {
     pub installed: bool,
 }
 
-/// The parts of a candidate that the pool and the search compare. Each is read from the package's
-/// information on demand, and all texts are borrowed.
+/// The parts of a candidate that the pool and the search compare. Each part is read from the
+/// package's information on demand, and all texts are borrowed.
 #[derive(Drop)]
 pub struct Details<'a> {
     /// The information of the package in its index, or in the database.
@@ -68,7 +69,7 @@ pub struct Details<'a> {
     /// Whether the package is installed.
     installed: bool,
     /// Whether the version and the lists of dependencies are known to obey their rules, so that
-    /// they are not judged again. They were tested with the index, or when the installed package
+    /// they are not tested again. They were tested with the index, or when the installed package
     /// was added.
     has_sound_texts: bool,
 }
@@ -86,11 +87,11 @@ impl<'a> Model for Details<'a> {
     // Candidates with equal codes are equal (`Coded`).
     ghost coded = { Prim.hlevel (codes, plain_code) };
 
-    // The candidate that the definition makes of the information, the repository, its tag and the
-    // mark.
+    // The value is the candidate with this information, this repository and its tag, and this mark
+    // of whether it is installed.
     ghost view = { λ d. candidate_of (info_value d.info) d.repo (option_copied d.tag) d.installed };
 
-    // If the mark is set, the texts obey their rules.
+    // If `has_sound_texts` is true, the texts obey their rules.
     ghost invariant = { λ d. d.has_sound_texts ≡ true → HasSoundTexts (info_value d.info) };
 }
 
@@ -166,7 +167,8 @@ impl<'a> Details<'a> {
         Deps::of(self.info.provides(), self.has_sound_texts)
     }
 
-    /// The install-if of the package: if each of these is met, the name of the package is needed.
+    /// The install-if of the package: if each of these dependencies is met, the name of the package
+    /// is needed.
     pub fn install_if(&self) -> Deps<'a>
         ensures { result ≡ self.now.install_if }
     {
@@ -312,7 +314,7 @@ pub fn is_same_id(one: &[u8], other: &[u8]) -> bool
     one.starts_with(other) || other.starts_with(one)
 }
 
-// Whether the list is not empty and has no conflict. An install-if with these entries can apply.
+// Whether the list has an entry, and no conflict. An install-if with such entries can apply.
 fn are_some_and_positive(deps: &Deps<'_>) -> bool
     ensures { result ≡ (not (length deps.now == 0)
         && list_all (λ (d : Dependency). not d.conflict) deps.now) }

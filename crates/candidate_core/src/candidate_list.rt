@@ -40,9 +40,10 @@ impl From<AllocError> for PoolFault {
     ghost use Rattle.std.specs.Prelude.{◌≡◌};
     ghost use Rattle.candidate_core.specs.declared.candidate_list.PoolFault.TheVariants.{Memory};
 
+    // A lack of memory becomes the fault `Memory`.
     ghost from_gives = { λ _ fault. fault ≡ Memory };
 
-    // The fault that out of memory is.
+    // A lack of memory, as a fault of the pool.
     fn from(_: AllocError) -> PoolFault {
         PoolFault::Memory
     }
@@ -51,12 +52,12 @@ impl From<AllocError> for PoolFault {
 /// The most candidates of a pool (`docs/selection.md`, "What there is to choose from").
 pub const MOST_CANDIDATES: usize = 65536;
 
-/// The candidates so far, and the table of the names that they offer.
+/// The candidates so far, and a table that leads from each name to the candidates that offer it.
 #[derive(Drop)]
 pub struct CandidateList<'a> {
     /// The packages that the candidates are, in the order of the list.
     pub packages: Packages<'a>,
-    /// The places of the candidates that offer each name.
+    /// For each name, the places of the candidates that offer it.
     pub table: Table<'a>,
 }
 
@@ -72,9 +73,9 @@ impl<'a> CandidateList<'a> {
         }
     }
 
-    // Appends the package of a source. `source_place` is the index of the source in the list. After
-    // an error the list may only be dropped, since the table may then have a place without a
-    // package.
+    // Appends the package with this word in the source, which has the index `source_place` in the
+    // list of sources. After an error the list may only be dropped, since the table may then have a
+    // place without a package.
     fn push(
         &mut self,
         source: &Source<'a>,
@@ -83,6 +84,7 @@ impl<'a> CandidateList<'a> {
         installed: bool,
     ) -> Result<(), PoolFault>
         requires list { IsCandidateList self.old }
+        // The source is the one at this index.
         requires source { slice_get self.old.packages.sources.items source_place ≡ Some source.now }
         requires word { IsPackageWordOf source.now word }
         ensures list { OnOk result (IsCandidateList self.new) }
@@ -91,6 +93,7 @@ impl<'a> CandidateList<'a> {
         ensures pushed { OnOk result (candidates_of_packages self.new.packages
             ≡ candidates_of_packages self.old.packages
             ++ candidate_in_source (Some source.now) word installed ∷ []) }
+        // A refusal for too many candidates is right: one more would exceed the limit.
         ensures fault { IfErr result (λ fault. IsPoolFault fault
             (length (candidates_of_packages self.old.packages) + 1)) }
     {
@@ -109,10 +112,11 @@ impl<'a> CandidateList<'a> {
         Ok(())
     }
 
-    /// Appends the packages of an index; these are their words.
+    /// Appends the packages of an index, the source; `packages` are their words (32-bit values).
     #[tactic(auto, using(adb_fields::proofs::FieldReads::entry_sound))]
     pub fn push_all(&mut self, source: Source<'a>, packages: Arr<'a>) -> Result<(), PoolFault>
         requires list { IsCandidateList self.old }
+        // Each word can be read as the information of a package.
         requires sound { are_all_sound (payload_of source.adb) (Kinds.Obj Tables.PkgInfo)
             (array_entries packages) ≡ true }
         // If the source's texts obey their rules, so do those of each of these packages.
@@ -127,7 +131,8 @@ impl<'a> CandidateList<'a> {
             ≡ candidates_of_packages self.old.packages ++ candidates_of_source source.entry
             (entries_in (array_at (payload_of source.entry.adb) (Kinds.Obj Tables.PkgInfo)
             (array_entries packages.entry)))) }
-        // Too many candidates are refused by the number that the list would have.
+        // A refusal for too many candidates is right for the number of candidates that the list
+        // would have.
         ensures fault { IfErr result (λ fault. IsPoolFault fault
             (length (candidates_of_packages self.old.packages) + count_of (entries_in
             (array_at (payload_of source.entry.adb) (Kinds.Obj Tables.PkgInfo)
@@ -148,11 +153,13 @@ impl<'a> CandidateList<'a> {
     pub fn push_installed(&mut self, alloc: Global, info: PkgInfo<'a>) -> Result<(), PoolFault>
         requires { IsCandidateList self.old }
         ensures list { OnOk result (IsCandidateList self.new) }
-        // The list has the installed package: as a mark, or as a candidate of its own.
+        // The list then has the installed package: the candidates that are the same package are
+        // marked, or the installed package is a candidate of its own.
         ensures pushed { OnOk result (candidates_of_packages self.new.packages ≡ with_installed
             (candidates_of_packages self.old.packages)
             (candidate_of (info_value info.entry) None None true)) }
-        // Too many candidates are refused by the number that the list would have.
+        // A refusal for too many candidates is right for the number of candidates that the list
+        // would have.
         ensures fault { IfErr result (λ fault. IsPoolFault fault (length (with_installed
             (candidates_of_packages self.old.packages)
             (candidate_of (info_value info.entry) None None true)))) }
@@ -170,10 +177,12 @@ impl<'a> CandidateList<'a> {
         self.push(&source, source_place, info.word(), true)
     }
 
-    // Marks the candidates that are an installed package as installed, and returns whether there is
-    // one.
+    // Marks as installed each candidate that is the same package as an installed one, and returns
+    // whether there is such a candidate.
     fn mark_same(&mut self, installed: &Details<'a>) -> bool
         requires { IsCandidateList self.old }
+        // The list is still one of candidates. The result says whether one of them is the installed
+        // package, and each such candidate is marked.
         ensures list { IsCandidateList self.new }
         ensures some { result ≡ list_any (is_same_package installed.now)
             (candidates_of_packages self.old.packages) }
@@ -188,9 +197,10 @@ impl<'a> CandidateList<'a> {
     }
 }
 
-// Of the candidates at these places, marks as installed each one that is the installed package.
-// Returns whether there is one.
+// Of the candidates at the places `ids`, marks as installed each one that is the same package as
+// the installed one. Returns whether there is such a candidate.
 fn mark_among<'a>(packages: &mut Packages<'a>, ids: &[CandId], installed: &Details<'a>) -> bool
+    // The places are those of all candidates that offer the installed package's name.
     requires { ids.now
         ≡ places_offering installed.now.name (candidates_of_packages packages.old) }
     ensures some { result ≡ list_any (is_same_package installed.now)
@@ -205,7 +215,8 @@ fn mark_among<'a>(packages: &mut Packages<'a>, ids: &[CandId], installed: &Detai
     found
 }
 
-// Marks a candidate as installed if it is the installed package, and returns whether it is.
+// Marks the candidate at a place as installed if it is the same package as the installed one.
+// Returns whether the two are the same package.
 fn mark_one<'a>(packages: &mut Packages<'a>, id: CandId, installed: &Details<'a>) -> bool
     requires { id < length (candidates_of_packages packages.old) }
     ensures same { result

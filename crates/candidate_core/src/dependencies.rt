@@ -16,10 +16,11 @@ use dep_core::{Dep, dep_of, dep_of_parts};
 use std::marker::Model;
 
 /// A list of dependencies of a package, in the order of its information. Each is read on demand.
-/// Indexes count from 0, and entries that are no dependency are not counted.
+/// Indexes count from 0. An entry that is no dependency is left out, and has no index.
 #[derive(Drop)]
 pub struct Deps<'a> {
-    /// The array of the package's information, whose entries count from 1.
+    /// The array of the package's information; its entries count from 1, and may be no
+    /// dependencies.
     list: List<'a, DepView<'a>>,
     // Whether each entry is known to be a dependency.
     are_sound: bool,
@@ -34,15 +35,18 @@ impl<'a> Model for Deps<'a> {
 
     ghost Value = { Items Dependency };
 
+    // The value is the list of the dependencies, without the entries that are none.
     ghost view = { λ deps. dependencies_in (list_value deps.list) };
 
+    // If the entries are known to be dependencies, each of them is one.
     ghost invariant = { λ deps. deps.are_sound ≡ true → HasSoundEntries (list_value deps.list) };
 }
 
 impl<'a> Deps<'a> {
-    /// The dependencies of a list of a package's information; an entry that is no dependency is
-    /// skipped.
+    /// The dependencies of a list of a package's information. An entry that is no dependency is
+    /// left out. `are_sound` says whether each entry is known to be a dependency.
     pub fn of(list: List<'a, DepView<'a>>, are_sound: bool) -> Deps<'a>
+        // If the entries are said to be dependencies, each of them is one.
         requires { are_sound ≡ true → HasSoundEntries (list_value list) }
         ensures { result ≡ dependencies_in (list_value list.entry) }
     {
@@ -115,12 +119,14 @@ fn count_sound<'a>(list: &List<'a, DepView<'a>>) -> usize
     count
 }
 
-// The dependency of a list that has `place` others before it; each entry up to it is tested.
+// The dependency that has `place` other dependencies of the list before it; each entry up to it is
+// tested.
 fn read_judged<'a>(list: &List<'a, DepView<'a>>, place: usize) -> Dep<'a>
     requires { place < length (dependencies_in (list_value list.now)) }
     ensures { slice_get (dependencies_in (list_value list.now)) place
         ≡ Some (dependency result) }
 {
+    // The number of dependencies so far.
     let mut passed = 0;
     for i in 0..list.len() {
         if let Some(dep) = read_if_sound(&list.get(i + 1)) {

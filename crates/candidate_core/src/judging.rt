@@ -1,5 +1,5 @@
-//! Whether the texts of a package's information obey their rules. A long one is judged once,
-//! however many places of the package share it. The rules are in `docs/formats.md`, "The texts":
+//! Tests whether the texts of a package's information obey their rules. A long text is tested once,
+//! however many fields of the package share it. The rules are in `docs/formats.md`, "The texts":
 //! fields 101 to 103 for the entries of `depends`, `provides` and `install-if`, and 302 for the
 //! version. Which dependency a good entry denotes is defined in "Dependencies" there.
 ghost use Rattle.std.specs.Prelude.{◌≡◌, true, false, Some, IfOk, IfSome, IfNone};
@@ -50,6 +50,7 @@ const MATCHING: usize = 2;
 pub fn has_sound_texts(alloc: Global, info: PkgInfo<'_>) -> Result<bool, AllocError>
     ensures { IfOk result (λ sound. sound ≡ true → HasSoundTexts (info_value info.entry)) }
 {
+    // The texts that were tested so far, with their results.
     let mut judged = Judged::new(alloc, info.adb());
     let word = info.word();
     let version = text_if_kept(
@@ -68,8 +69,10 @@ pub fn has_sound_texts(alloc: Global, info: PkgInfo<'_>) -> Result<bool, AllocEr
     Ok(depends && provides && install_if)
 }
 
-// Whether each entry of the list in a field of a package's information is a dependency.
+// Whether each entry of the list in a field of a package's information is a dependency. `word` is
+// the word (32-bit value) of the information.
 fn has_sound_entries(judged: &mut Judged<'_>, word: Val, field: usize) -> Result<bool, AllocError>
+    // The word is that of a package's information, and the field is a list of dependencies.
     requires sound { is_sound (payload_of judged.old.adb) (Kinds.Obj Tables.PkgInfo) word ≡ true }
     requires kind { kind_at Tables.PkgInfo field ≡ Some (Kinds.ObjArr Tables.Dep) }
     // If the result is true, each entry of the list in the field is a dependency.
@@ -84,6 +87,7 @@ fn has_sound_entries(judged: &mut Judged<'_>, word: Val, field: usize) -> Result
 // Whether each of these words (32-bit values) refers to a dependency.
 #[tactic(auto, using(adb_fields::proofs::FieldReads::entry_sound))]
 fn are_dependencies<'a>(judged: &mut Judged<'a>, words: Arr<'a>) -> Result<bool, AllocError>
+    // Each word can be read as an object of the kind dependency.
     requires { are_all_sound (payload_of judged.old.adb) (Kinds.Obj Tables.Dep)
         (array_entries words) ≡ true }
     // If the result is true, each entry of the array is a dependency.
@@ -120,7 +124,7 @@ fn read_entry<'a>(judged: &mut Judged<'a>, word: Val) -> Result<Option<Dep<'a>>,
     Ok(dep_of_parts(name, version, matching))
 }
 
-// The text of a field of an object, if the text obeys a rule.
+// The text of a field of an object; None if the text breaks this rule.
 fn text_if_kept<'a>(
     judged: &mut Judged<'a>,
     which: Which,
@@ -128,11 +132,13 @@ fn text_if_kept<'a>(
     field: usize,
     rule: TextRule,
 ) -> Result<Option<&'a [u8]>, AllocError>
+    // The word is that of an object of the kind `which`, whose field at this index is a text.
     requires sound { is_sound (payload_of judged.old.adb) (Kinds.Obj which) object ≡ true }
     requires kind { kind_at which field ≡ Some Kinds.Text }
     // If a text is returned, it is that of the field.
     ensures text { IfOk result (λ found. IfSome found (λ text. text.now ≡ text_in (entry_in
         (value_at (payload_of judged.old.adb) (Kinds.Obj which) object) field))) }
+    // A returned text obeys the rule.
     ensures kept { IfOk result (λ found. IfSome found (λ text.
         keeps_text_rule rule text.now ≡ true)) }
     // If none is returned, the text of the field breaks its rule.

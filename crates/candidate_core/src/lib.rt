@@ -18,6 +18,7 @@ mod packages;
 mod table;
 mod versions;
 
+// Views of packages that users of this crate need, from `adb_schema`.
 pub use adb_schema::{
     DepView, DirInfo, FileInfo, IndexView, List, PackageView, PkgInfo,
     entries_keep_the_rule_of_their_list, objects_field,

@@ -16,21 +16,23 @@ use std::alloc::{AllocError, Global};
 use std::collections::BTreeMap;
 use version_core::Version;
 
-/// The longest version that is compared wherever it occurs. Any number is correct: with a greater
-/// one fewer comparisons are shared, with a smaller one results are remembered that are faster to
-/// compute again.
+/// The greatest length, in bytes, of a version that is always compared anew. Any number is correct:
+/// with a greater one fewer comparisons are shared, with a smaller one results are remembered that
+/// are faster to compute again.
 const SHORT: usize = 64;
 
-/// The remembered results for the long versions that one dependency accepts.
+/// Remembered results: which long versions one dependency accepts.
 #[derive(Drop)]
 pub struct KnownMatches {
-    /// The results, each by the index of the version's source and the word of its text there.
+    /// The results, each under the place of the version's text: the index of its source, and its
+    /// word (32-bit value) there.
     answers: BTreeMap<(u32, u32), bool>,
 }
 
 impl KnownMatches {
     /// No result is remembered yet.
     pub fn new(alloc: Global) -> KnownMatches
+        // Without results, none is wrong, for whatever dependency.
         ensures { (text : ℕ → ℕ → List ℕ) (d : Dependency) → AreRememberedMatchesOf text d result }
     {
         KnownMatches {
@@ -38,8 +40,8 @@ impl KnownMatches {
         }
     }
 
-    /// Whether a dependency accepts a version. The result for a long one is remembered, in memory
-    /// linear in the number of long texts.
+    /// Whether a dependency accepts a version. The result for a long version is remembered, in
+    /// memory linear in the number of long texts.
     ///
     /// # Errors
     ///
@@ -63,7 +65,7 @@ impl KnownMatches {
         }
     }
 
-    /// Whether a dependency accepts a version; a long one is compared only if no result is
+    /// Whether a dependency accepts a version; a long version is compared only if no result is
     /// remembered.
     pub(crate) fn is_wanted_as_known(&self, dep: &Dep<'_>, found: &RankedVersion<'_>) -> bool
         // If the remembered results are right, so is the answer.
@@ -80,16 +82,17 @@ impl KnownMatches {
         }
     }
 
-    // Whether the dependency accepts a version, if that is remembered.
+    // The remembered result for a version; None if there is none.
     fn known_answer(&self, found: &RankedVersion<'_>) -> Option<bool>
         ensures { IfSome result (IsRememberedMatch self.now found.now.source found.now.word) }
     {
         self.answers.get(&(found.source, found.word)).copied()
     }
 
-    // Whether the dependency accepts a version without a remembered result, which is then
-    // remembered.
+    // Compares a version for which no result is remembered, remembers whether the dependency
+    // accepts it, and returns that.
     fn answer(&mut self, dep: &Dep<'_>, found: &RankedVersion<'_>) -> Result<bool, AllocError>
+        // The version is not absent.
         requires { is_some found.now.version ≡ true }
         // The answer is whether the dependency accepts the version, and it is remembered.
         ensures { AnswersAndRemembers (λ text. HasVersionTextFrom text found.now)
@@ -109,7 +112,8 @@ fn is_version_wanted(dep: &Dep<'_>, found: &RankedVersion<'_>) -> bool
     dep.met_by(dep.name, found.version.as_ref())
 }
 
-/// Whether a version is long, so that comparing it may take long; an absent version is not.
+/// Whether a version has more than `SHORT` bytes, so that comparing it may take long. An absent
+/// version is not long.
 pub fn is_long(version: &Option<Version<'_>>) -> bool
     ensures { result ≡ true → is_some version.now ≡ true }
 {

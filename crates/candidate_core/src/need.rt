@@ -11,7 +11,7 @@ use base_core::Words;
 use dep_core::Dep;
 use std::marker::Model;
 
-/// A need: a dependency or a name that must be met. It owns the dependency, whose texts are
+/// A need: a dependency or a name that must be met. This type owns the dependency, whose texts are
 /// borrowed.
 #[derive(Drop)]
 pub enum Need<'a> {
@@ -21,7 +21,7 @@ pub enum Need<'a> {
     Named(&'a [u8]),
 }
 
-/// A need whose dependency is borrowed.
+/// A need, as `Need`, but with a borrowed dependency.
 #[derive(Clone, Copy)]
 pub enum NeedRef<'a> {
     /// An entry of world, or a dependency of a candidate.
@@ -62,7 +62,7 @@ pub enum Upgrade<'a> {
     Listed(&'a Words),
 }
 
-/// The candidates that a need may be met by, best first.
+/// The options of a need: the candidates that may be selected and meet it, best first.
 #[derive(Drop)]
 pub struct Options {
     /// The places of the candidates, the best first.
@@ -74,6 +74,7 @@ impl Model for Options {
 
     ghost Value = { List ℕ };
 
+    // The value is the list of the places, the best first.
     ghost view = { λ options. options.ids.items };
 }
 
@@ -107,7 +108,7 @@ impl Options {
         self.ids[i]
     }
 
-    /// The places of the options, the best first, as a list of the caller's.
+    /// The places of the options, the best first; the caller then owns the list.
     pub fn into_ids(self) -> Vec<CandId>
         ensures { result.items ≡ self }
     {

@@ -1,6 +1,6 @@
 //! Which long versions the dependencies of packages accept, as far as they were compared. Many
-//! packages may share the texts of their versions, and of those in their dependencies. So two long
-//! ones are compared once while the results are remembered. What a dependency accepts is defined in
+//! packages may share the text of a version, and many dependencies too. So two long texts are
+//! compared once while the results are remembered. What a dependency accepts is defined in
 //! `docs/selection.md`, "What there is to choose from". Remembering the results only saves time, as
 //! the README of this crate says.
 ghost use Rattle.std.specs.Prelude.{◌≡◌, ◌<◌, ℕ, List, IfOk, OnOk, Some, length, slice_get};
@@ -25,18 +25,18 @@ use std::collections::BTreeMap;
 pub struct PackageDep<'d> {
     /// The dependency.
     pub dep: &'d Dep<'d>,
-    /// The place of the package that has it, counted from 0.
+    /// The place of the package that has the dependency, counted from 0.
     pub package: usize,
     /// The index of the dependency among those of the package, counted from 0.
     pub index: usize,
 }
 
-/// The remembered results for the long versions that dependencies of packages accept.
+/// Remembered results: which long versions the dependencies of packages accept.
 #[derive(Drop)]
 pub struct PackageMatches<'p> {
     /// The allocator.
     alloc: Global,
-    /// The packages.
+    /// The packages whose dependencies and versions are compared.
     pub packages: &'p Packages<'p>,
     /// The results for each version in a dependency: by the index of the version's source, the word
     /// of its text there, and the match bits of the operator.
@@ -46,6 +46,7 @@ pub struct PackageMatches<'p> {
 impl<'p> PackageMatches<'p> {
     /// No results yet for the dependencies of some packages.
     pub fn new(alloc: Global, packages: &'p Packages<'p>) -> PackageMatches<'p>
+        // Without results, none is wrong.
         ensures { AreMatchesAmong (candidates_of_packages packages.entry.now) result }
     {
         PackageMatches {
@@ -65,7 +66,9 @@ impl<'p> PackageMatches<'p> {
     /// Out of memory.
     pub fn meets(&mut self, place: usize, held: &PackageDep<'_>) -> Result<bool, AllocError>
         requires within { place < length (candidates_of_packages self.old.packages.now) }
+        // The dependency is that of the package at the stored place, with the stored index.
         requires held { IsDepOfPackageAt (candidates_of_packages self.old.packages.now) held.now }
+        // The remembered results are right for these packages, before the call and after it.
         requires matches { AreMatchesAmong (candidates_of_packages self.old.packages.now)
             self.old }
         // The result says whether the candidate at the place meets the dependency.
@@ -85,7 +88,8 @@ impl<'p> PackageMatches<'p> {
         }
     }
 
-    // Whether the package at an index meets a dependency with the version whose text is at a place.
+    // Whether the package at an index meets the dependency `dep`. The text of the dependency's
+    // version is at the place `version`.
     fn meets_as_known(
         &mut self,
         place: usize,
@@ -93,8 +97,10 @@ impl<'p> PackageMatches<'p> {
         version: VersionPlace,
     ) -> Result<bool, AllocError>
         requires within { place < length (candidates_of_packages self.old.packages.now) }
+        // The version of the dependency is the text at this place.
         requires named { (dependency dep.now).version ≡ Some
             (source_text self.old.packages.now.sources.items version.source version.word) }
+        // The remembered results are right, before the call and after it.
         requires matches { AreMatchesByVersion (source_text self.old.packages.now.sources.items)
             self.old.by_version }
         // The result says whether the candidate at the place meets the dependency.
@@ -106,6 +112,7 @@ impl<'p> PackageMatches<'p> {
             (source_text self.old.packages.now.sources.items) self.new.by_version) }
     {
         let packages = self.packages;
+        // Results are stored by the place of the version's text, and by the match bits.
         let key = (version.source, version.word, dep.op.bits());
         let mut known = take_known(self.alloc, &mut self.by_version, key);
         let meets = packages.meets_need(place, &NeedRef::Entry(dep), &mut known)?;
@@ -114,7 +121,8 @@ impl<'p> PackageMatches<'p> {
     }
 }
 
-// The results for the version with a key, taken out of the map; none if the version has no key.
+// The results for the version with a key, taken out of the map; no results if the map does not have
+// the key.
 fn take_known(
     alloc: Global,
     by_version: &mut BTreeMap<(u32, u32, u8), KnownMatches>,
@@ -124,6 +132,7 @@ fn take_known(
     ensures taken { (text : ℕ → ℕ → List ℕ) (d : Dependency)
         → AreMatchesByVersion text by_version.old → d.version ≡ Some (text key.0 key.1)
         → d.bits ≡ key.2 → AreRememberedMatchesOf text d result }
+    // The results that remain in the map are right if all were right before.
     ensures others { (text : ℕ → ℕ → List ℕ)
         → AreMatchesByVersion text by_version.old → AreMatchesByVersion text by_version.new }
 {

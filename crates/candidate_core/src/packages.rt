@@ -17,7 +17,7 @@ use crate::versions::{
 use adb_view::{Adb, Val};
 use std::alloc::{AllocError, Global};
 
-/// A source of packages: an index, or the database, for one package.
+/// A source of packages: an index, or one installed package of the database.
 #[derive(Clone, Copy)]
 pub struct Source<'a> {
     /// The payload that the packages are read from.
@@ -26,7 +26,7 @@ pub struct Source<'a> {
     pub repo: Option<u64>,
     /// The tag of the repository, if it has one.
     pub tag: Option<&'a [u8]>,
-    /// Whether the texts of its packages are known to obey their rules.
+    /// Whether the texts of the source's packages are known to obey their rules.
     pub has_sound_texts: bool,
 }
 
@@ -35,7 +35,7 @@ pub struct Source<'a> {
 pub struct PackageWord {
     /// The word (32-bit value) that refers to the package's information in the source's payload.
     pub word: u32,
-    /// The place of the package's source, counted from 0.
+    /// The index of the package's source in the list of sources, counted from 0.
     pub source: u32,
     /// Whether the package counts as installed.
     pub installed: bool,
@@ -90,12 +90,14 @@ impl<'a> Packages<'a> {
         Details::of(&source, Val::of(package.word), package.installed)
     }
 
-    /// The version of the package at a place, counted from 0.
+    /// The package's own version, for the package at a place, counted from 0.
     pub fn version(&self, place: usize) -> RankedVersion<'a>
         requires { place < length (candidates_of_packages self.now) }
+        // The version is that of the candidate at the place.
         ensures version { (c : Candidate)
             → slice_get (candidates_of_packages self.now) place ≡ Some c
             → result.version ≡ c.version }
+        // The version's text is at the place that is returned with it.
         ensures text { HasVersionTextFrom (source_text self.now.sources.items) result }
     {
         let package = self.words[place];
@@ -104,8 +106,8 @@ impl<'a> Packages<'a> {
     }
 
     /// The version under which the package at an index, counted from 0, meets a need: its own, else
-    /// that of the first entry of its provides that meets it. Remembered results for long versions
-    /// are used.
+    /// that of the first entry of its provides that meets the need. Remembered results for long
+    /// versions are used.
     pub fn version_meeting_need(
         &self,
         place: usize,
@@ -113,12 +115,14 @@ impl<'a> Packages<'a> {
         known: &KnownMatches,
     ) -> RankedVersion<'a>
         requires within { place < length (candidates_of_packages self.now) }
+        // The remembered results are right for this need.
         requires known { AreMatchesFor (source_text self.now.sources.items) (need_of_ref need.now)
             known.now }
-        // It is the version under which the candidate at the place meets the need.
+        // The result is the version under which the candidate at the place meets the need.
         ensures version { (c : Candidate)
             → slice_get (candidates_of_packages self.now) place ≡ Some c
             → result.version ≡ version_meeting_need (need_of_ref need.now) c }
+        // The version's text is at the place that is returned with it.
         ensures text { HasVersionTextFrom (source_text self.now.sources.items) result }
     {
         let package = self.words[place];
@@ -139,6 +143,7 @@ impl<'a> Packages<'a> {
         known: &mut KnownMatches,
     ) -> Result<bool, AllocError>
         requires within { place < length (candidates_of_packages self.now) }
+        // The remembered results are right for this need, before the call and after it.
         requires known { AreMatchesFor (source_text self.now.sources.items) (need_of_ref need.now)
             known.old }
         // The result says whether the candidate at the place meets the need.
@@ -153,8 +158,8 @@ impl<'a> Packages<'a> {
         meets_need(&source, package, need, known)
     }
 
-    /// The place of the text of the version in a package's dependency, if there is one; None if it
-    /// is not known.
+    /// The place of the text of the version in a dependency of a package; None if the place is not
+    /// known. Without a version, the result means nothing.
     pub(crate) fn version_place(&self, held: &PackageDep<'_>) -> Option<VersionPlace>
         requires { IsDepOfPackageAt (candidates_of_packages self.now) held.now }
         // If a place is returned, the text there is the version of the dependency.
@@ -173,6 +178,7 @@ impl<'a> Packages<'a> {
     /// Adds a source, and returns its index, counted from 0. After an error the packages are
     /// unchanged.
     pub(crate) fn add_source(&mut self, source: Source<'a>) -> Result<u32, AllocError>
+        // The source is then at the returned index, and no candidate has changed.
         ensures place { IfOk result (λ place.
             slice_get self.new.sources.items place ≡ Some source.entry) }
         ensures same { candidates_of_packages self.new ≡ candidates_of_packages self.old }
@@ -185,8 +191,8 @@ impl<'a> Packages<'a> {
         Ok(place)
     }
 
-    /// Appends the package with a word in the source at an index. `installed` says whether it
-    /// counts as installed.
+    /// Appends the package with a word in the source at an index, which is counted from 0.
+    /// `installed` says whether the package counts as installed.
     pub fn push(&mut self, source: u32, word: Val, installed: bool) -> Result<(), AllocError>
         requires { IsPackageWordAt self.old.sources.items source word }
         ensures sources { self.new.sources ≡ self.old.sources }
@@ -194,6 +200,7 @@ impl<'a> Packages<'a> {
         ensures pushed { OnOk result (candidates_of_packages self.new
             ≡ candidates_of_packages self.old ++ candidate_in_source
             (slice_get self.old.sources.items source) word installed ∷ []) }
+        // After an error the packages are unchanged.
         ensures same { OnErr result (candidates_of_packages self.new
             ≡ candidates_of_packages self.old) }
     {

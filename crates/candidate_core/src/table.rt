@@ -1,6 +1,6 @@
 //! The table of names: for each name the candidates that have it or provide it, in rising order and
-//! each once. It borrows the names. Most names have one candidate, which needs no memory of its
-//! own. The rule is in `docs/selection.md`, "What there is to choose from": by which names a
+//! each once. The table borrows the names. Most names have one candidate, which needs no memory of
+//! its own. The rule is in `docs/selection.md`, "What there is to choose from": by which names a
 //! candidate meets a dependency. An entry of `provides` without version counts too, and one with a
 //! conflict bit does not.
 ghost use Rattle.std.specs.Prelude.{◌≡◌, ◌&&◌, ℕ, List, [], ◌∷◌, ◌++◌, IfOk, OnOk, None, Some, unwrap_or, not};
@@ -20,14 +20,14 @@ use std::alloc::{AllocError, Global};
 use std::marker::Model;
 use std::slice;
 
-/// The candidates that offer each name.
+/// The table of names: for each name, the places of the candidates that offer it.
 #[derive(Drop)]
 pub struct Table<'a> {
     /// The allocator.
     alloc: Global,
-    // The first candidate of each name.
+    // For each name, the first candidate that offers it.
     singles: IndexMap<&'a [u8], CandId>,
-    // All candidates of each name that has two or more.
+    // For each name that two or more candidates offer, all these candidates.
     lists: IndexMap<&'a [u8], Vec<CandId>>,
 }
 
@@ -36,6 +36,7 @@ impl<'a> Model for Table<'a> {
 
     ghost Value = { Offered };
 
+    // The value has the names with their places, wherever the bytes of the names are.
     ghost view = { λ t. offered_from_maps t.singles.entries t.lists.entries };
 }
 
@@ -72,8 +73,9 @@ impl<'a> Table<'a> {
         }
     }
 
-    /// Adds a candidate to each name that it offers.
+    /// Adds the candidate `id`, which has these details, to each name that it offers.
     pub(crate) fn add_all(&mut self, details: &Details<'a>, id: CandId) -> Result<(), AllocError>
+        // The place is added to the places of each name that the candidate offers.
         ensures { OnOk result (HasPlaceAdded (λ name. offers_name name details.now) id
             self.old self.new) }
     {
@@ -82,10 +84,10 @@ impl<'a> Table<'a> {
         Ok(())
     }
 
-    // Adds a candidate to the name of each entry of its provides.
+    // Adds the candidate `id` to the name of each entry of its provides, unless the entry is a
+    // conflict.
     fn add_provided(&mut self, provides: &Deps<'a>, id: CandId) -> Result<(), AllocError>
-        // The place is added to each name that an entry of these provides, which is no conflict,
-        // has.
+        // The place is added to a name if an entry of `provides` has this name and is no conflict.
         ensures { OnOk result (HasPlaceAdded (λ name. list_any
             (λ (p : Dependency). not p.conflict && bytes_eq name p.name) provides.now) id
             self.old self.new) }
@@ -96,7 +98,8 @@ impl<'a> Table<'a> {
         Ok(())
     }
 
-    // Adds a candidate to the name of an entry of its provides, unless the entry is a conflict.
+    // Adds the candidate `id` to the name of an entry of its provides, unless the entry is a
+    // conflict.
     fn add_entry(&mut self, entry: &Dep<'a>, id: CandId) -> Result<(), AllocError>
         // The place is added to the name of the entry, unless the entry is a conflict.
         ensures { OnOk result (HasPlaceAdded (λ name. not (dependency entry.now).conflict
@@ -109,9 +112,10 @@ impl<'a> Table<'a> {
         Ok(())
     }
 
-    // Adds a candidate to those of a name, unless it is already the last of them: a candidate may
-    // provide a name twice, or its own.
+    // Appends a candidate to those that offer a name, unless this candidate is the last of them
+    // already: a candidate may provide one name twice, or its own name.
     fn add(&mut self, name: &'a [u8], id: CandId) -> Result<(), AllocError>
+        // The place is added to the places of this name, and to those of no other name.
         ensures { OnOk result (HasPlaceAdded (λ other. bytes_eq other name.entry.now) id
             self.old self.new) }
     {
@@ -121,8 +125,9 @@ impl<'a> Table<'a> {
         }
     }
 
-    // Adds a candidate to those of a name that has no list: it has one candidate at most.
+    // Adds a candidate to those of a name that has no list: at most one candidate offers it so far.
     fn add_to_single(&mut self, name: &'a [u8], id: CandId) -> Result<(), AllocError>
+        // The name has no list yet.
         requires { first_entry_under_name self.old.lists name.now ≡ None }
         // The place is added to the places of this name, and to no other name.
         ensures { OnOk result (HasPlaceAdded (λ other. bytes_eq other name.entry.now) id
@@ -136,8 +141,10 @@ impl<'a> Table<'a> {
 
     // Adds a second candidate to the only one of a name, unless they are the same.
     fn add_second(&mut self, name: &'a [u8], first: CandId, id: CandId) -> Result<(), AllocError>
+        // The name has no list yet, and `first` is its only candidate.
         requires list { first_entry_under_name self.old.lists name.now ≡ None }
         requires single { first_entry_under_name self.old.singles name.now ≡ Some (first ∷ []) }
+        // The place is added to the places of this name, and to those of no other name.
         ensures { OnOk result (HasPlaceAdded (λ other. bytes_eq other name.entry.now) id
             self.old self.new) }
     {
@@ -149,12 +156,13 @@ impl<'a> Table<'a> {
     }
 }
 
-// Puts the first candidate of a name into the table.
+// Adds a name with its first candidate to the map `singles`.
 fn insert_single<'a>(
     singles: &mut IndexMap<&'a [u8], CandId>,
     name: &'a [u8],
     id: CandId,
 ) -> Result<(), AllocError>
+    // The map has its old entries, and this name with its candidate.
     ensures { OnOk result (singles.new.entries
         ≡ insert_entry (λ one other. bytes_eq one.now other.now) singles.old.entries name.entry
         id) }
@@ -165,12 +173,13 @@ fn insert_single<'a>(
     }
 }
 
-// Puts the candidates of a name that has two into the table.
+// Adds a name with its two candidates to the map `lists`.
 fn insert_list<'a>(
     lists: &mut IndexMap<&'a [u8], Vec<CandId>>,
     name: &'a [u8],
     ids: Vec<CandId>,
 ) -> Result<(), AllocError>
+    // The map has its old entries, and this name with its candidates.
     ensures { OnOk result (lists.new.entries
         ≡ insert_entry (λ one other. bytes_eq one.now other.now) lists.old.entries name.entry
         ids) }
@@ -189,7 +198,7 @@ fn pair(alloc: Global, first: CandId, second: CandId) -> Result<Vec<CandId>, All
     Ok(ids)
 }
 
-// Appends a candidate, unless it is already the last one.
+// Appends the place of a candidate to a list, unless it is the last place of the list already.
 fn push_once(ids: &mut Vec<CandId>, id: CandId) -> Result<(), AllocError>
     ensures { OnOk result (ids.new.items ≡ with_place_unless_last ids.old.items id) }
 {

@@ -87,6 +87,7 @@ pub(crate) fn version_meeting_need<'a>(
     requires package { IsPackageWordOf source.now kept.word }
     // The remembered results are right for this need.
     requires known { AreMatchesIn source.now kept.source (need_of_ref need.now) known.now }
+    // The result is the version under which the candidate with this word meets the need.
     ensures { IsVersionReadFrom source.now kept.source (version_meeting_need (need_of_ref need.now)
         (candidate_in_source (Some source.now) kept.word kept.installed)) result }
 {
@@ -107,6 +108,7 @@ fn version_meeting<'a>(
     requires package { IsPackageWordOf source.now kept.word }
     // The remembered results are right for this need.
     requires known { AreMatchesIn source.now kept.source (entry (dependency dep.now)) known.now }
+    // The result is the version under which the candidate with this word meets the dependency.
     ensures { IsVersionReadFrom source.now kept.source
         (version_meeting_need (entry (dependency dep.now))
         (candidate_in_source (Some source.now) kept.word kept.installed)) result }
@@ -128,6 +130,7 @@ fn meets_by_own_name_as_known(
     requires package { IsPackageWordOf source.now kept.word }
     // The remembered results are right for this need.
     requires known { AreMatchesIn source.now kept.source (entry (dependency dep.now)) known.now }
+    // The result says whether the candidate meets the dependency by its own name and version.
     ensures { result ≡ meets_by_own_name (dependency dep.now)
         (candidate_in_source (Some source.now) kept.word kept.installed) }
 {
@@ -150,6 +153,7 @@ fn provided_version<'a>(
     requires package { IsPackageWordOf source.now kept.word }
     // The remembered results are right for this need.
     requires known { AreMatchesIn source.now kept.source (entry (dependency dep.now)) known.now }
+    // The result is the version of the first entry of provides that meets the dependency.
     ensures { IsVersionReadFrom source.now kept.source (option_and_then (λ
         (p : Dependency). p.version)
         (find (is_met_by_provides_entry (dependency dep.now))
@@ -174,8 +178,8 @@ fn provided_version<'a>(
     }
 }
 
-// Whether an entry of provides, which is the dependency `found` in the source at an index, meets a
-// dependency.
+// Whether an entry of provides meets the dependency `dep`. The entry has the word `word` in the
+// source at the index `place`, and it is the dependency `found`.
 fn is_met_as_known<'a>(
     source: &Source<'a>,
     place: u32,
@@ -184,6 +188,7 @@ fn is_met_as_known<'a>(
     dep: &Dep<'_>,
     known: &KnownMatches,
 ) -> bool
+    // The word is that of the dependency `found`.
     requires entry { IsDependencyWordOf source.now word (dependency found.now) }
     // The remembered results are right for this need.
     requires known { AreMatchesIn source.now place (entry (dependency dep.now)) known.now }
@@ -198,8 +203,8 @@ fn is_met_as_known<'a>(
     known.is_wanted_as_known(dep, &version_of_entry(source, place, word, found))
 }
 
-// The version of an entry of provides, which is the dependency `found` in the source at an index.
-// If the entry has no version, the word is 0.
+// The version of an entry of provides. The entry has the word `entry` in the source at the index
+// `place`, and it is the dependency `found`. The word of an absent version is 0.
 fn version_of_entry<'a>(
     source: &Source<'a>,
     place: u32,
@@ -232,6 +237,8 @@ pub(crate) fn depends_version_place(
     index: usize,
 ) -> Option<VersionPlace>
     requires { IsPackageWordOf source.now kept.word }
+    // If the package has a dependency `d` at this index, and `d` has a version, the returned place
+    // is that of the text of this version.
     ensures { (text : ℕ → ℕ → List ℕ) (d : Dependency)
         → GivesTextsOfSource source.now kept.source text
         → slice_get (dependencies_in (entry_in (info_in_source source.now kept.word) 14)) index
@@ -248,6 +255,7 @@ pub(crate) fn depends_version_place(
     }
     let entry = entry_word(entries, index);
     let text = field_word(source.adb, Which::Dep, entry, VERSION);
+    // The place of the text of the version in this dependency.
     Some(VersionPlace {
         source: kept.source,
         word: text.word(),
@@ -277,7 +285,8 @@ fn read_entry<'a>(source: &Source<'a>, entry: Val) -> Option<Dep<'a>>
     read_if_sound(&view)
 }
 
-/// Whether a package of a source meets a need. Results for long versions are remembered.
+/// Whether a package of a source meets a need; `kept` has the word (32-bit value) of the package.
+/// Results for long versions are remembered.
 pub(crate) fn meets_need(
     source: &Source<'_>,
     kept: PackageWord,
@@ -285,6 +294,7 @@ pub(crate) fn meets_need(
     known: &mut KnownMatches,
 ) -> Result<bool, AllocError>
     requires { IsPackageWordOf source.now kept.word }
+    // Unless memory runs out, the answer is right, and the remembered results stay right.
     ensures { AnswersAndRemembers (GivesTextsOfSource source.now kept.source) (need_of_ref need.now)
         (meets_need (need_of_ref need.now)
         (candidate_in_source (Some source.now) kept.word kept.installed)) known.old known.new result }
@@ -298,7 +308,7 @@ pub(crate) fn meets_need(
     }
 }
 
-// Whether a package of a source meets a dependency.
+// Whether a package of a source meets a dependency. `kept` has the package's word.
 fn meets(
     source: &Source<'_>,
     kept: PackageWord,
@@ -306,6 +316,7 @@ fn meets(
     known: &mut KnownMatches,
 ) -> Result<bool, AllocError>
     requires { IsPackageWordOf source.now kept.word }
+    // Unless memory runs out, the answer is right, and the remembered results stay right.
     ensures { AnswersAndRemembers (GivesTextsOfSource source.now kept.source)
         (entry (dependency dep.now)) (meets_dependency (dependency dep.now)
         (candidate_in_source (Some source.now) kept.word kept.installed))
@@ -318,7 +329,7 @@ fn meets(
     any_entry_meets(source, kept, dep, known)
 }
 
-// Whether the package meets the dependency by its own name and version.
+// Whether a package of a source meets the dependency by its own name and version.
 fn own_version_meets(
     source: &Source<'_>,
     kept: PackageWord,
@@ -326,6 +337,7 @@ fn own_version_meets(
     known: &mut KnownMatches,
 ) -> Result<bool, AllocError>
     requires { IsPackageWordOf source.now kept.word }
+    // Unless memory runs out, the answer is right, and the remembered results stay right.
     ensures { AnswersAndRemembers (GivesTextsOfSource source.now kept.source)
         (entry (dependency dep.now)) (meets_by_own_name (dependency dep.now)
         (candidate_in_source (Some source.now) kept.word kept.installed))
@@ -338,7 +350,8 @@ fn own_version_meets(
     known.constraint_accepts(dep, &own_version(source, kept))
 }
 
-// Whether an entry of the package's provides meets the dependency.
+// Whether an entry of a package's provides meets the dependency. In the clause, 15 is the index of
+// `provides` (`PROVIDES`).
 fn any_entry_meets(
     source: &Source<'_>,
     kept: PackageWord,
@@ -346,6 +359,7 @@ fn any_entry_meets(
     known: &mut KnownMatches,
 ) -> Result<bool, AllocError>
     requires { IsPackageWordOf source.now kept.word }
+    // Unless memory runs out, the answer is right, and the remembered results stay right.
     ensures { AnswersAndRemembers (GivesTextsOfSource source.now kept.source)
         (entry (dependency dep.now)) (list_any (is_met_by_provides_entry (dependency dep.now))
         (dependencies_in (entry_in (info_in_source source.now kept.word) 15)))
@@ -363,7 +377,8 @@ fn any_entry_meets(
     Ok(false)
 }
 
-// Whether the entry of provides with a word in the source at an index meets the dependency.
+// Whether an entry of provides meets the dependency `dep`. The entry has this word in the source at
+// the index `place`. An entry that is no dependency meets none.
 fn entry_meets<'a>(
     source: &Source<'a>,
     place: u32,
@@ -372,6 +387,7 @@ fn entry_meets<'a>(
     known: &mut KnownMatches,
 ) -> Result<bool, AllocError>
     requires { IsDependencyEntryWordOf source.now word }
+    // Unless memory runs out, the answer is right, and the remembered results stay right.
     ensures { AnswersAndRemembers (GivesTextsOfSource source.now place)
         (entry (dependency dep.now)) (list_any (is_met_by_provides_entry (dependency dep.now))
         (option_to_list (dependency_in (entry_in_source source.now word))))
@@ -383,7 +399,8 @@ fn entry_meets<'a>(
     }
 }
 
-// Whether the entry of provides `found`, which has this word in the source, meets the dependency.
+// Whether an entry of provides meets the dependency `dep`. The entry has this word in the source at
+// the index `place`, and it is the dependency `found`.
 fn found_entry_meets<'a>(
     source: &Source<'a>,
     place: u32,
@@ -393,6 +410,7 @@ fn found_entry_meets<'a>(
     known: &mut KnownMatches,
 ) -> Result<bool, AllocError>
     requires { IsDependencyWordOf source.now word (dependency found) }
+    // Unless memory runs out, the answer is right, and the remembered results stay right.
     ensures { AnswersAndRemembers (GivesTextsOfSource source.now place)
         (entry (dependency dep.now)) (is_met_by_provides_entry (dependency dep.now)
         (dependency found.entry))

@@ -5,7 +5,7 @@ use Rattle.command_core.specs.declared.command.Flags.{Flags}
 use Rattle.installed_info.specs.declared.telling.Form.{Form}
 use Rattle.installed_info.specs.declared.telling.Form.TheVariants.{Contents, Depends, Description, Installed, Owner}
 
--- the form that flags select; without a flag that of descriptions
+-- the form of `info` that the flags select; without a flag, the form that prints descriptions
 abbrev pub info_form_of_flags : Flags → Form
 info_form_of_flags flags =
     if flags.who_owns then Owner else

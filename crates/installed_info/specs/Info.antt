@@ -1,5 +1,5 @@
--- The report of `info` on the installed packages (apk(8)). The rules are in `docs/commands.md`,
--- "`info`": the table of what each form prints, and what is refused.
+-- The report of `info` on the installed packages (apk(8)). The rules are in `docs/commands.md`, "`info`": the table
+-- of what each form prints, and the part "What is refused".
 use Rattle.std.specs.Prelude.{ℕ, List, [], ◌∷◌, map, Option, Some, None, is_some, Result, Ok, Err, if◌then◌else◌}
 use Rattle.std.specs.List.{flat_map}
 use Rattle.std.specs.Option.{option_map_or}
@@ -26,7 +26,7 @@ use Rattle.installed_info.specs.declared.telling.Form.TheVariants.{Contents, Dep
 
 -- ---- of one package
 
--- the section with the description of a package; its line is empty if the package has none
+-- the section with the description of a package; the line of the description is empty if the package has none
 abbrev pub description_section_of : Plain → List ℕ
 description_section_of pkg =
     description_section (package_name pkg) (package_version_text pkg)
@@ -37,7 +37,7 @@ abbrev pub contents_text : Plain → List ℕ
 contents_text pkg =
     contents_section (package_name pkg) (package_version_text pkg) (paths_of_package_files pkg)
 
--- the section with what a package depends on
+-- the section with the dependencies of a package
 abbrev pub depends_text : Plain → List ℕ
 depends_text pkg =
     depends_section (package_name pkg) (package_version_text pkg)
@@ -47,7 +47,8 @@ depends_text pkg =
 abbrev pub owner_line : List ℕ → Plain → List ℕ
 owner_line path pkg = report_line (owner_text path (package_name pkg) (package_version_text pkg))
 
--- the report on the package of an operand
+-- the report of a form on the package that an operand means; the second argument is the operand's text, a name or a
+-- path
 abbrev pub package_info : Form → List ℕ → Plain → List ℕ
 package_info Description name pkg = description_section_of pkg
 package_info Contents name pkg = contents_text pkg
@@ -57,12 +58,12 @@ package_info Owner path pkg = owner_line (without_slash path) pkg
 
 -- ---- of operands
 
--- the report on an operand: nothing if its package is not installed
+-- the report of a form on one operand; empty if its package is not installed
 abbrev pub operand_info : Form → List Plain → Operand → List ℕ
 operand_info form packages o =
     option_map_or (package_info form o.text) (package_meant_by_operand_text form packages o.text) []
 
--- the report on operands, in the order given
+-- the report of a form on all operands, in the order given
 abbrev pub operands_info : Form → List Plain → List Operand → List ℕ
 operands_info form packages operands = flat_map (operand_info form packages) operands
 
@@ -81,7 +82,7 @@ sorted_package_name_lines packages = report_lines (sorted_by bytes_cmp (map pack
 
 -- ---- the result
 
--- the result: a report, followed by a refusal, if there is one
+-- the result: a report, and a refusal that follows it, if there is one
 abbrev pub report_and_refusal : List ℕ → Option Refusal → ReportAndRefusal
 report_and_refusal report following_refusal = record {
   report = report;
@@ -89,13 +90,13 @@ report_and_refusal report following_refusal = record {
       following_refusal;
 }
 
--- the result: the report, unless there is a refusal, which takes its place
+-- the result: the report alone; or, if there is a refusal, the refusal in its place
 abbrev pub info_unless_refused : Option Refusal → List ℕ → Result ReportAndRefusal Refusal
 info_unless_refused None report = Ok (report_and_refusal report None)
 info_unless_refused (Some refusal) report = Err refusal
 
--- the result of a form for packages and operands; `-e` reports the installed packages, followed by a
--- refusal
+-- the result of a form of `info` for the installed packages and the operands. `-e` reports the installed operands,
+-- even if a refusal follows
 abbrev pub form_info : Form → List Plain → List Operand → Result ReportAndRefusal Refusal
 form_info Installed packages operands =
     Ok (report_and_refusal (operands_info Installed packages operands)
@@ -104,6 +105,6 @@ form_info Description packages [] = Ok (report_and_refusal (sorted_package_name_
 form_info form packages operands =
     info_unless_refused (info_refusal form packages operands) (operands_info form packages operands)
 
--- the result of a command for some packages, or why it is refused
+-- the result of a command line `info` for these installed packages
 unfoldable pub info_of : CommandLine → List Plain → Result ReportAndRefusal Refusal
 info_of command packages = form_info (info_form_of_flags command.flags) packages command.operands

@@ -8,16 +8,16 @@ use Rattle.dep_core.specs.LeadingSlash.{without_slash}
 use Rattle.installed_info.specs.declared.telling.Form.{Form}
 use Rattle.installed_info.specs.declared.telling.Form.TheVariants.{Owner}
 
--- the package with a name; no two packages of a database have one name
+-- the package with this name; None if there is none. No two packages of a database have one name
 abbrev pub package_named : List Plain → List ℕ → Option Plain
 package_named packages name = find (is_package_named name) packages
 
--- the package that lists a path; no two packages of a database list one path
+-- the package that lists this path; None if there is none. No two packages of a database list one path
 abbrev pub path_owner : List Plain → List ℕ → Option Plain
 path_owner packages path = find (lists_path path) packages
 
--- the package that an operand means: the operand is a path, with or without one leading `/`, or the
--- name of a package
+-- the package that the text of an operand means. In the form *Owner*, the text is a path, with or without one leading
+-- `/`; in the other forms it is the name of a package
 abbrev pub package_meant_by_operand_text : Form → List Plain → List ℕ → Option Plain
 package_meant_by_operand_text Owner packages path = path_owner packages (without_slash path)
 package_meant_by_operand_text form packages name = package_named packages name

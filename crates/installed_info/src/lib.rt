@@ -1,5 +1,6 @@
-//! The report of `info` on the installed packages (apk(8)): their names, what they are, what they
-//! list, what they depend on, which of some are installed, and which one owns a path.
+//! The report of `info` on the installed packages (apk(8)): their names, their descriptions, the
+//! paths that they list, their dependencies, which of the named packages are installed, and which
+//! package owns a path.
 //!
 //! The contract of `tell` cites `Info` of `specs/` (the report, in each form) and with it `Form`
 //! (the form that a command selects) and `Packages` (the package that an operand means). The rules
@@ -12,6 +13,7 @@ mod package;
 mod paths;
 mod telling;
 
+// A name of `candidate_core` that users of this crate need.
 pub use candidate_core::Upgrade;
 pub use telling::{
     ReportAndRefusal, info_refuses_only_for_an_operand, owners_are_those_that_list_a_path,

@@ -33,7 +33,7 @@ pub(crate) fn report_names(alloc: Global, db: &Db<'_>) -> Result<ReportAndRefusa
     })
 }
 
-// The names of the packages, in the order in which the database has these.
+// The names of the packages, in the order of the packages in the database.
 fn names_of<'a>(alloc: Global, db: &Db<'a>) -> Result<Vec<&'a [u8]>, AllocError>
     ensures { IfOk result (λ names. map (λ n. n.now) names.items
         ≡ map package_name (packages_of db.now)) }
@@ -45,9 +45,9 @@ fn names_of<'a>(alloc: Global, db: &Db<'a>) -> Result<Vec<&'a [u8]>, AllocError>
     Ok(names)
 }
 
-// The name of the package at a place, counted from 0. The mark serves only the borrow checker: it
-// does not know the parts of a view that is made and lent here unless the signature names the view
-// as an argument.
+// The name of the package at a place, counted from 0. The argument `_mark` serves only the borrow
+// checker: it does not know the parts of a view that is made and lent here unless the signature
+// names the view as an argument.
 fn name_at<'a>(db: &Db<'a>, i: usize, _mark: PhantomData<PackageView<'a>>) -> &'a [u8]
     requires { i < length (packages_of db.now) }
     ensures { (pkg : Plain) → slice_get (packages_of db.now) i ≡ Some pkg
@@ -66,7 +66,7 @@ fn sort_names(names: &mut Vec<&[u8]>) -> Result<(), AllocError>
     Ok(())
 }
 
-// Adds a line for each name, in the order given.
+// Appends a line for each name, in the order given.
 fn push_lines(report: &mut Vec<u8>, names: &[&[u8]]) -> Result<(), AllocError>
     ensures { OnOk result (report.new.items
         ≡ report.old.items ++ report_lines (map (λ n. n.now) names.now)) }

@@ -1,5 +1,5 @@
-//! The report on the packages of operands, and the place of an operand's package. The rules are in
-//! `docs/commands.md`, "`info`".
+//! The report of `info` on the packages of its operands, and the place of the package that an
+//! operand means. `telling` calls the reports. The rules are in `docs/commands.md`, "`info`".
 
 ghost use Rattle.file_owners.specs.db_core.Seen.{packages_of};
 ghost use Rattle.installed_info.specs.Info.{report_and_refusal, info_refusal, info_unless_refused, operands_info, package_info};
@@ -20,8 +20,8 @@ use report_core::Refusal;
 use std::alloc::{AllocError, Global};
 use std::marker::PhantomData;
 
-/// The report of a form other than `-e` on each operand. If the package of one is not installed,
-/// the result is only its refusal.
+/// The report of a form other than `-e` on all operands. If the package of an operand is not
+/// installed, the result is only the refusal of the first such operand.
 pub(crate) fn report_operands(
     alloc: Global,
     form: Form,
@@ -74,8 +74,10 @@ pub(crate) fn report_installed(
     })
 }
 
-// The refusal so far, or that of an operand without a report.
+// The refusal so far; if there is none and the operand at this place has no report, the refusal of
+// this operand.
 fn refusal_after(following_refusal: Option<Refusal>, is_told: bool, place: u32) -> Option<Refusal>
+    // `is_told` says whether the operand has a report: its package is installed.
     ensures { result ≡ option_or following_refusal (if is_told then None else Some (NotInstalled
         place)) }
 {
@@ -85,7 +87,8 @@ fn refusal_after(following_refusal: Option<Refusal>, is_told: bool, place: u32) 
     Some(Refusal::NotInstalled { place })
 }
 
-// Adds the report of a form on the package of an operand, and returns whether it is installed.
+// Appends the report of a form on the package of an operand, and returns whether this package is
+// installed. `text` is the operand's text.
 fn push_operand(
     alloc: Global,
     report: &mut Vec<u8>,
@@ -93,6 +96,7 @@ fn push_operand(
     db: &Db<'_>,
     text: &[u8],
 ) -> Result<bool, AllocError>
+    // The result says whether the package that the operand means is installed.
     ensures found { IfOk result
         (λ found. found ≡ is_some (package_meant_by_operand_text form
         (packages_of db.now) text.now)) }
@@ -110,15 +114,18 @@ fn push_operand(
     }
 }
 
-/// The place of the package of an operand, counted from 0. Memory is allocated only for the path.
+/// The place of the package that an operand means, counted from 0; None if no such package is
+/// installed. `text` is the operand's text. Memory is allocated only for a path.
 pub(crate) fn place_asked(
     alloc: Global,
     form: Form,
     db: &Db<'_>,
     text: &[u8],
 ) -> Result<Option<usize>, AllocError>
+    // At a returned place is the package that the operand means; None if it is not installed.
     ensures found { IfOk result (λ place. option_and_then (slice_get (packages_of db.now)) place
         ≡ package_meant_by_operand_text form (packages_of db.now) text.now) }
+    // A place is that of a package of the database.
     ensures within { IfOk result
         (λ place. IfSome place (λ i. i < length (packages_of db.now))) }
 {
@@ -128,8 +135,9 @@ pub(crate) fn place_asked(
     }
 }
 
-// The place of the package with a name, counted from 0.
+// The place of the package with a name, counted from 0; None if no package has the name.
 fn place_of_name(db: &Db<'_>, name: &[u8]) -> Option<usize>
+    // At a returned place is the package with this name; None if there is none.
     ensures found { option_and_then (slice_get (packages_of db.now)) result
         ≡ package_named (packages_of db.now) name.now }
     ensures within { IfSome result (λ i. i < length (packages_of db.now)) }
@@ -137,10 +145,13 @@ fn place_of_name(db: &Db<'_>, name: &[u8]) -> Option<usize>
     db.find(name)
 }
 
-// The place of the package that lists a path, counted from 0. No package lists a path that is no name.
+// The place of the package that lists a path, counted from 0; None if no package lists it, or if
+// the path is no name.
 fn place_of_owner(alloc: Global, db: &Db<'_>, path: &[u8]) -> Result<Option<usize>, AllocError>
+    // At a returned place is the package that lists this path; None if there is none.
     ensures found { IfOk result (λ place. option_and_then (slice_get (packages_of db.now)) place
         ≡ path_owner (packages_of db.now) path.now) }
+    // A returned place is that of a package of the database.
     ensures within { IfOk result
         (λ place. IfSome place (λ i. i < length (packages_of db.now))) }
 {

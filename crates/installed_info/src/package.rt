@@ -1,4 +1,4 @@
-//! The report on a package, and what it depends on, a line each. The rules are in
+//! The report of `info` on one package, and the lines of its dependencies. The rules are in
 //! `docs/commands.md`, "`info`", the table of what each form prints.
 
 ghost use Rattle.candidate_core.specs.adb_fields.Repeated.{package_name};
@@ -22,9 +22,10 @@ use file_owners::Db;
 use std::alloc::{AllocError, Global};
 use std::marker::PhantomData;
 
-/// Adds the report of a form on the package at a place, counted from 0. The mark serves only the
-/// borrow checker: it does not know the parts of a view that is made and lent here unless the
-/// signature names the view as an argument.
+/// Appends the report of a form on the package at a place, counted from 0. `text` is the operand
+/// that means the package. The argument `_mark` serves only the borrow checker: it does not know
+/// the parts of a view that is made and lent here unless the signature names the view as an
+/// argument.
 pub(crate) fn push_package<'a>(
     alloc: Global,
     report: &mut Vec<u8>,
@@ -35,6 +36,7 @@ pub(crate) fn push_package<'a>(
     _mark: PhantomData<PackageView<'a>>,
 ) -> Result<(), AllocError>
     requires { place < length (packages_of db.now) }
+    // The report on the package at this place is appended.
     ensures { OnOk result (report.new.items ≡ report.old.items
         ++ option_map_or (package_info form text.now) (slice_get (packages_of db.now) place) []) }
 {
@@ -42,7 +44,8 @@ pub(crate) fn push_package<'a>(
     push_info(alloc, report, form, &pkg, text)
 }
 
-// Adds what `info` prints of a package in this form.
+// Appends what `info` prints of a package in this form. `text` is the operand that means the
+// package.
 fn push_info(
     alloc: Global,
     report: &mut Vec<u8>,
@@ -62,7 +65,7 @@ fn push_info(
     }
 }
 
-// Adds the section with the description of a package.
+// Appends the section with the description of a package.
 fn push_description(report: &mut Vec<u8>, pkg: &PackageView<'_>) -> Result<(), AllocError>
     ensures { OnOk result (report.new.items
         ≡ report.old.items ++ description_section_of (package_value pkg.now)) }
@@ -73,7 +76,7 @@ fn push_description(report: &mut Vec<u8>, pkg: &PackageView<'_>) -> Result<(), A
     Ok(())
 }
 
-// Adds the section with the paths that a package lists.
+// Appends the section with the paths that a package lists.
 fn push_contents(report: &mut Vec<u8>, pkg: &PackageView<'_>) -> Result<(), AllocError>
     ensures { OnOk result (report.new.items
         ≡ report.old.items ++ contents_text (package_value pkg.now)) }
@@ -84,7 +87,7 @@ fn push_contents(report: &mut Vec<u8>, pkg: &PackageView<'_>) -> Result<(), Allo
     Ok(())
 }
 
-// Adds the section with what a package depends on.
+// Appends the section with the dependencies of a package.
 fn push_depends(
     alloc: Global,
     report: &mut Vec<u8>,
@@ -99,7 +102,7 @@ fn push_depends(
     Ok(())
 }
 
-// Adds the line that says that a package owns a path.
+// Appends the line that says that a package owns a path.
 fn push_owner(report: &mut Vec<u8>, path: &[u8], pkg: &PackageView<'_>) -> Result<(), AllocError>
     ensures { OnOk result (report.new.items
         ≡ report.old.items ++ owner_line path.now (package_value pkg.now)) }
@@ -111,7 +114,7 @@ fn push_owner(report: &mut Vec<u8>, path: &[u8], pkg: &PackageView<'_>) -> Resul
     Ok(())
 }
 
-// Adds the line `NAME-VERSION`, followed by the text `rest`.
+// Appends a line with name, `-` and version of a package, followed by the text `rest`.
 fn push_heading(report: &mut Vec<u8>, pkg: &PackageView<'_>, rest: &[u8]) -> Result<(), AllocError>
     // The line `NAME-VERSION`, followed by `rest`, is appended.
     ensures { OnOk result (report.new.items ≡ report.old.items
@@ -126,7 +129,7 @@ fn push_heading(report: &mut Vec<u8>, pkg: &PackageView<'_>, rest: &[u8]) -> Res
     Ok(())
 }
 
-/// Adds a line for each dependency of a list. The entries of the list count from 1.
+/// Appends a line for each dependency of a list. The entries of the list count from 1.
 pub(crate) fn push_dependencies<'a>(
     alloc: Global,
     report: &mut Vec<u8>,
@@ -141,7 +144,7 @@ pub(crate) fn push_dependencies<'a>(
     Ok(())
 }
 
-// Adds the line of an entry, unless its value breaks the rule of dependencies.
+// Appends the line of an entry of a list of dependencies, unless the entry is no dependency.
 fn push_entry(alloc: Global, report: &mut Vec<u8>, entry: &DepView<'_>) -> Result<(), AllocError>
     // The line of this dependency is appended; none if the entry is no dependency.
     ensures { OnOk result (report.new.items ≡ report.old.items
@@ -154,7 +157,7 @@ fn push_entry(alloc: Global, report: &mut Vec<u8>, entry: &DepView<'_>) -> Resul
     }
 }
 
-// Adds the line of a dependency, as its text is written.
+// Appends the line of a dependency, which has its text (`dep_text`).
 fn push_dependency(alloc: Global, report: &mut Vec<u8>, needed: &Dep<'_>) -> Result<(), AllocError>
     ensures { OnOk result (report.new.items
         ≡ report.old.items ++ report_line (dep_text (dependency needed.now))) }
@@ -163,7 +166,7 @@ fn push_dependency(alloc: Global, report: &mut Vec<u8>, needed: &Dep<'_>) -> Res
     push_line(report, text.as_bytes())
 }
 
-/// Adds a text and a line end.
+/// Appends a text and a line end.
 pub(crate) fn push_line(report: &mut Vec<u8>, text: &[u8]) -> Result<(), AllocError>
     ensures { OnOk result (report.new.items ≡ report.old.items ++ report_line text.now) }
 {

@@ -13,7 +13,7 @@ use crate::package::push_line;
 use candidate_core::{DirInfo, FileInfo, List};
 use std::alloc::AllocError;
 
-/// Adds the paths of the files of a package's folders, in their order.
+/// Appends a line for each file of a package's folders, with the path of the file, in their order.
 pub(crate) fn push_paths<'a>(
     report: &mut Vec<u8>,
     folders: &List<'a, DirInfo<'a>>,
@@ -29,7 +29,7 @@ pub(crate) fn push_paths<'a>(
     Ok(())
 }
 
-// Adds the paths of the files of the folder at a place, counted from 0.
+// Appends the paths of the files in the folder at a place, counted from 0.
 fn push_folder<'a>(
     report: &mut Vec<u8>,
     folders: &List<'a, DirInfo<'a>>,
@@ -39,6 +39,7 @@ fn push_folder<'a>(
     ensures { OnOk result (report.new.items ≡ report.old.items
         ++ report_lines (paths_of_folder_files (entry_in (list_value folders.now) i))) }
 {
+    // There is a folder at the place, by the contract.
     if i >= folders.len() {
         unreachable!();
     }
@@ -46,7 +47,7 @@ fn push_folder<'a>(
     push_files(report, folder.name(), &folder.files())
 }
 
-// Adds the paths of the files of a folder.
+// Appends the paths of the files of a folder, which has this path.
 fn push_files<'a>(
     report: &mut Vec<u8>,
     folder: &[u8],
@@ -63,7 +64,8 @@ fn push_files<'a>(
     Ok(())
 }
 
-// Adds the path of a file of a folder; the root folder has the empty name, and no `/` follows it.
+// Appends the path of a file in a folder. The root folder has the empty path, and no `/` follows
+// it.
 fn push_path(report: &mut Vec<u8>, folder: &[u8], name: &[u8]) -> Result<(), AllocError>
     ensures { OnOk result (report.new.items
         ≡ report.old.items ++ report_line (path_of folder.now name.now)) }

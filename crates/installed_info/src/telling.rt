@@ -1,5 +1,5 @@
-//! The report of `info`, form by form, and what follows of it. The rules are in `docs/commands.md`,
-//! "`info`".
+//! The report of `info`: which form a command selects, the report of each form, and laws about
+//! refusals, owners and names. The rules are in `docs/commands.md`, "`info`".
 
 ghost use Rattle.file_owners.specs.db_core.Seen.{packages_of};
 ghost use Rattle.installed_info.specs.Info.{form_info, info_of};
@@ -25,16 +25,17 @@ use file_owners::Db;
 use report_core::Refusal;
 use std::alloc::{AllocError, Global};
 
-/// The report of `info` on the packages of a database. Without operands it has the names of all, in
-/// byte order; with operands what the flags select of each, in the order given.
+/// The report of `info` on the packages of a database. Without operands, and in the form of
+/// descriptions, it has the names of all packages, in byte order. With operands, it has what the
+/// flags select of each operand's package, in the order given.
 ///
-/// It reads only the requested packages; for the owner of a path it searches all that the database
-/// lists, once.
+/// The function reads only the requested packages. For the owner of a path it searches all paths
+/// that the database lists, once.
 ///
 /// # Errors
 ///
-/// Within the result `NotInstalled` at the first operand whose package is not installed; `info -e`
-/// has it after its report. Otherwise out of memory.
+/// Within the result, `NotInstalled` at the first operand whose package is not installed. `info -e`
+/// returns this refusal after its report. Otherwise out of memory.
 #[tactic(auto, unfolding(crate::specs::Info::info_of))]
 pub fn tell(
     alloc: Global,
@@ -46,7 +47,7 @@ pub fn tell(
     report_form(alloc, Form::of(command.flags()), command.operands(), db)
 }
 
-// The report of one form of `info`, on a database and operands.
+// The report of one form of `info` on the packages of a database, for these operands.
 fn report_form(
     alloc: Global,
     form: Form,
@@ -68,14 +69,14 @@ fn report_form(
     }
 }
 
-/// The form of an `info`.
+/// The form of an `info`: what it prints.
 #[derive(Clone, Copy)]
 pub(crate) enum Form {
     /// The descriptions of packages; without operands, the names of all installed ones.
     Description,
     /// The paths that packages list.
     Contents,
-    /// What packages depend on.
+    /// The dependencies of packages.
     Depends,
     /// Which of the given names are installed.
     Installed,
@@ -84,7 +85,7 @@ pub(crate) enum Form {
 }
 
 impl Form {
-    /// The form that flags select; at most one is given.
+    /// The form that the flags select; at most one of these flags is given.
     pub(crate) fn of(flags: Flags) -> Form
         ensures { result ≡ info_form_of_flags flags }
     {
@@ -113,39 +114,39 @@ pub struct ReportAndRefusal {
     pub following_refusal: Option<Refusal>,
 }
 
-/// The only refusal is that an operand's package is not installed, and only `info -e` has one after
-/// its report.
+/// `info` is refused only because the package of an operand is not installed. Only `info -e` has
+/// this refusal after its report.
 pub fn info_refuses_only_for_an_operand()
-    // A refusal in place of the report.
+    // A refusal in place of the report is that of an operand.
     ensures refused { (c : CommandLine) (packages : List Plain) (refusal : Refusal)
         → info_of c packages ≡ Err refusal → IsNotInstalledRefusalOfOperand c.operands refusal }
-    // A refusal after the report.
+    // A refusal after the report is that of an operand, and the command is `info -e`.
     ensures following_refusal { (c : CommandLine) (packages : List Plain) (done : ReportAndRefusal)
         (refusal : Refusal) → info_of c packages ≡ Ok done → done.following_refusal ≡ Some refusal
         → (c.flags.installed ≡ true) × IsNotInstalledRefusalOfOperand c.operands refusal }
 {}
 
-/// A package that owns a path is installed and lists it; if no path is repeated, as in a database,
-/// each package that lists a path owns it.
+/// A package that owns a path is installed and lists the path. If no path is repeated, as in a
+/// database, each package that lists a path owns it.
 pub fn owners_are_those_that_list_a_path()
-    // Of any packages.
+    // In any list of packages, the owner of a path is in the list, and lists the path.
     ensures owner { (packages : List Plain) (path : List ℕ) (pkg : Plain)
         → path_owner packages path ≡ Some pkg
         → IsIn pkg packages × IsIn path (paths_of_package_files pkg) }
-    // Of the packages of a database.
+    // In a database, each package that lists a path is its owner.
     ensures lister { (database pkg : Plain) (path : List ℕ) → HasNoRepeatedName Idb database
         → IsIn pkg (entries_at IDB_PACKAGES database) → IsIn path (paths_of_package_files pkg)
         → path_owner (entries_at IDB_PACKAGES database) path ≡ Some pkg }
 {}
 
-/// A package that is requested by a name is installed and has it; if no name is repeated, as in a
-/// database, each package is the one of its name.
+/// The package that a name means is installed and has this name. If no name is repeated, as in a
+/// database, each package is the one that its name means.
 pub fn packages_have_the_names_that_ask_for_them()
-    // Of any packages.
+    // In any list of packages, the package that a name means is in the list, and has the name.
     ensures asked { (packages : List Plain) (name : List ℕ) (pkg : Plain)
         → package_named packages name ≡ Some pkg
         → IsIn pkg packages × (package_name pkg ≡ name) }
-    // Of the packages of a database.
+    // In a database, each package is the one that its name means.
     ensures named { (database pkg : Plain) → HasNoRepeatedName Idb database
         → IsIn pkg (entries_at IDB_PACKAGES database)
         → package_named (entries_at IDB_PACKAGES database) (package_name pkg) ≡ Some pkg }

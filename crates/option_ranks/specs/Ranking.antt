@@ -1,8 +1,7 @@
--- The keys of options, read once for each, in their order. Versions are compared by their texts, or by
--- how many of the ranked versions precede them. The rule is in `docs/selection.md`, "Which selection is
--- taken", the table of eleven keys, which *Rank* defines over candidates. This file serves the
--- contracts of `src/rank.rt` and of `src/sealed.rt` of `pool_core`: the order of rankings is that of
--- their candidates.
+-- The keys of options, each read once, in their order. Versions are compared by their texts, or by their ranks: how
+-- many of the ranked versions precede them. The rule is in `docs/selection.md`, "Which selection is taken", the table
+-- of eleven keys, which *Rank* defines over candidates. This file serves the contracts of `src/rank.rt` and of
+-- `src/sealed.rt` of `pool_core`: the order of rankings is that of their candidates.
 use Rattle.std.specs.Prelude.{◌≡◌, ℕ, Bool, List, Option, Some}
 use Rattle.std.specs.Option.{option_cmp}
 use Rattle.std.specs.Ordering.{bool_cmp, flip_args, nat_cmp, on, then_cmp}
@@ -15,20 +14,22 @@ use Rattle.candidate_core.specs.declared.versions.RankedVersion.{RankedVersion}
 use Rattle.candidate_core.specs.declared.versions.VersionKind.{VersionKind}
 use Rattle.candidate_core.specs.declared.versions.VersionKind.TheVariants.{Under, Own}
 
--- the keys of one option: whether world pins its name to its tag, whether it has no tag, whether it has
--- the needed name, whether it is installed and kept; `under` is the version under which it meets the
--- need, `version` its own; `place` counts from 0
+-- the eleven keys by which an option of a need is ranked, in their order. The first key that differs decides which of
+-- two options is preferred
 pub record Ranking : Type 0 where
-  -- keys 1 to 4, each a test that an option passes or not
+  -- key 1: world pins the candidate's name to its tag
   pub pinned : Bool
+  -- key 2: the candidate is from a repository without tag, or from none
   pub untagged : Bool
+  -- key 3: the candidate has the needed name
   pub named : Bool
+  -- key 4: the candidate is installed, and the command does not upgrade its name
   pub kept : Bool
   -- key 5: the version under which the option meets the need
   pub under : RankedVersion
-  -- key 6: the `provider-priority`
+  -- key 6: the option's `provider-priority`
   pub priority : ℕ
-  -- key 7: the name
+  -- key 7: the option's name
   pub name : List ℕ
   -- keys 8 and 9: the option's own version
   pub version : RankedVersion
@@ -37,7 +38,7 @@ pub record Ranking : Type 0 where
   -- key 11: the place in the list of candidates, counted from 0
   pub place : ℕ
 
--- a ranking from its parts
+-- a ranking from its keys, in the order of the fields of *Ranking*
 abbrev pub ranking_from_parts :
     Bool → Bool → Bool → Bool → RankedVersion → ℕ → List ℕ → RankedVersion → Option ℕ → ℕ → Ranking
 ranking_from_parts pinned untagged named kept under priority name version repository place = record {
@@ -53,12 +54,12 @@ ranking_from_parts pinned untagged named kept under priority name version reposi
   place = place;
 }
 
--- a ranked version, with its place and rank, whose text at that place is `version`
+-- the version, with the source, the word and the rank of `ranked`, but with the text `version`
 abbrev pub with_version : RankedVersion → Option (List ℕ) → RankedVersion
 with_version ranked version = record ranked { version = version }
 
--- the ranking of a candidate, by its own keys and versions; of the ranking `r` only the places and the
--- ranks stay
+-- the ranking of the candidate `c` for a need, by the candidate's keys and versions. Of the ranking `r`, only the
+-- places of the two texts, the two ranks, and the place of the candidate are kept
 abbrev pub with_values_of_candidate : SealedPool → Need → Candidate → Ranking → Ranking
 with_values_of_candidate pool need c r =
     ranking_from_parts (is_pinned pool.world c) (is_untagged c) (has_needed_name need c)
@@ -66,50 +67,51 @@ with_values_of_candidate pool need c r =
     (with_version r.under (version_meeting_need need c)) c.priority c.name
     (with_version r.version c.version) c.repository r.place
 
--- there is a candidate at the place of the ranking, and the ranking is that of it
+-- there is a candidate at the place of the ranking, and the ranking has the keys of this candidate for the need
 abbrev pub IsRankingIn : SealedPool → Need → Ranking → Type 0
 IsRankingIn pool need r = (c : Candidate) × ((candidate_at pool r.place ≡ Some c)
     × (r ≡ with_values_of_candidate pool need c r))
 
--- the order of two versions of a kind: the greater is first; equal own versions of candidates are
--- ordered by their texts
+-- the order of two versions of one kind: the greater is first. Of two own versions (`Own`) that are equal, the one
+-- whose text is less in byte order is first
 abbrev pub version_order : VersionKind → Option (List ℕ) → Option (List ℕ) → Ordering
 version_order Under = greater_version_first_cmp
 version_order Own = then_cmp greater_version_first_cmp (option_cmp bytes_cmp)
 
--- the order of two versions of a kind by their ranks, the lesser first, or by the versions themselves
+-- the order of two versions of one kind: by their ranks, the lesser first, or by the versions themselves
 abbrev pub version_key_cmp : VersionKey → VersionKind → RankedVersion → RankedVersion → Ordering
 version_key_cmp ByRank kind = on (λ (v : RankedVersion). v.rank) nat_cmp
 version_key_cmp ByText kind = on (λ (v : RankedVersion). v.version) (version_order kind)
 
--- a ranking whose key is true precedes one whose key is false
+-- an order of rankings: those for which the test `key` is true precede those for which it is false
 abbrev pub truth_first : (Ranking → Bool) → Ranking → Ranking → Ordering
 truth_first key = on key (flip_args bool_cmp)
 
--- keys 2 to 4: untagged first, then by the needed name, then installed and kept
+-- the order of two options by keys 2 to 4: those without tag first, then those with the needed name, then those that
+-- are installed and kept
 abbrev pub quality_ranking_cmp : Ranking → Ranking → Ordering
 quality_ranking_cmp =
     then_cmp (truth_first (λ r. r.untagged))
     (then_cmp (truth_first (λ r. r.named)) (truth_first (λ r. r.kept)))
 
--- keys 7 to 9: the byte-lesser name first, then the greater own version, and of equal ones the
--- byte-lesser text
+-- the order of two options by keys 7 to 9. The name that is less in byte order is first, then the greater own
+-- version. Of equal versions, the text that is less in byte order is first
 abbrev pub name_ranking_cmp : VersionKey → Ranking → Ranking → Ordering
 name_ranking_cmp key =
     then_cmp (on (λ (r : Ranking). r.name) bytes_cmp)
     (on (λ (r : Ranking). r.version) (version_key_cmp key Own))
 
--- keys 6 to 9: the greater provider-priority first
+-- the order of two options by keys 6 to 9: the greater provider-priority first
 abbrev pub priority_ranking_cmp : VersionKey → Ranking → Ranking → Ordering
 priority_ranking_cmp key =
     then_cmp (on (λ (r : Ranking). r.priority) (flip_args nat_cmp)) (name_ranking_cmp key)
 
--- keys 5 to 9: the greater version under which the need is met first
+-- the order of two options by keys 5 to 9: the greater version under which the need is met first
 abbrev pub merit_ranking_cmp : VersionKey → Ranking → Ranking → Ordering
 merit_ranking_cmp key =
     then_cmp (on (λ (r : Ranking). r.under) (version_key_cmp key Under)) (priority_ranking_cmp key)
 
--- key 10: the earlier repository first, and none last
+-- the order of two options by key 10: the earlier repository first, and an absent one last
 abbrev pub repository_ranking_cmp : Ranking → Ranking → Ordering
 repository_ranking_cmp = on (λ (r : Ranking). r.repository) earlier_repository_first_cmp
 
@@ -118,7 +120,7 @@ abbrev pub unpinned_ranking_cmp : VersionKey → Ranking → Ranking → Orderin
 unpinned_ranking_cmp key =
     then_cmp quality_ranking_cmp (then_cmp (merit_ranking_cmp key) repository_ranking_cmp)
 
--- keys 1 to 10, all but the place
+-- the order of two options by keys 1 to 10, all but the place: pinned options first
 abbrev pub candidate_ranking_cmp : VersionKey → Ranking → Ranking → Ordering
 candidate_ranking_cmp key = then_cmp (truth_first (λ r. r.pinned)) (unpinned_ranking_cmp key)
 

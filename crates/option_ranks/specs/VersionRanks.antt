@@ -35,7 +35,7 @@ HasVersionTextsOfSources sources r =
 
 -- ---- ranks
 
--- one of the two versions of an option, as the kind says: the one under which it meets the need, or its own
+-- one of the two versions of an option: the one under which it meets the need (`Under`), or its own (`Own`)
 abbrev pub version_of : VersionKind → Ranking → RankedVersion
 version_of Under r = r.under
 version_of Own r = r.version
@@ -45,12 +45,12 @@ abbrev pub rank_among : VersionKind → List (Option (List ℕ)) → Option (Lis
 rank_among kind versions version =
     length (filter (λ one. is_lt (version_order kind one version)) versions)
 
--- the ranking, with this rank for one of its versions: the one that the kind says
+-- the ranking, in which the version of this kind has the rank `n`
 abbrev pub with_version_rank : VersionKind → ℕ → Ranking → Ranking
 with_version_rank Under n r = record r { under = record r.under { rank = n } }
 with_version_rank Own n r = record r { version = record r.version { rank = n } }
 
--- the ranking, in which one version gets its rank among these: the one that the kind says
+-- the ranking, in which the version of this kind has its rank among these versions
 abbrev pub with_rank_among : VersionKind → List (Option (List ℕ)) → Ranking → Ranking
 with_rank_among kind versions r =
     with_version_rank kind (rank_among kind versions (version_of kind r).version) r
@@ -59,64 +59,68 @@ with_rank_among kind versions r =
 abbrev pub versions_in : List RankedVersion → List (Option (List ℕ))
 versions_in versions = map (λ (v : RankedVersion). v.version) versions
 
--- a version with this rank
+-- the version `v` with the rank `n`
 abbrev pub version_with_rank : ℕ → RankedVersion → RankedVersion
 version_with_rank n v = record v { rank = n }
 
--- a version with its rank among these
+-- the version `v` with its rank among these versions, in the order of the kind
 abbrev pub version_with_rank_among :
     VersionKind → List (Option (List ℕ)) → RankedVersion → RankedVersion
 version_with_rank_among kind versions v = version_with_rank (rank_among kind versions v.version) v
 
--- a version has its rank among these
+-- the rank that is stored with a version is its rank among these versions, in the order of the kind
 abbrev pub HasRankAmong : VersionKind → List (Option (List ℕ)) → RankedVersion → Type 0
 HasRankAmong kind versions v = v.rank ≡ rank_among kind versions v.version
 
--- one of the versions is at the place of another, and has this rank
+-- a version of the list has its text at the same place as `other`, and has this rank
 abbrev pub IsRankAt : List RankedVersion → RankedVersion → ℕ → Type 0
 IsRankAt versions other rank = (v : RankedVersion)
     × (IsIn v versions × (HaveSamePlace v other × (v.rank ≡ rank)))
 
--- the version of the ranking that the kind says is in the list
+-- the list has the version of this kind of the ranking
 abbrev pub IsVersionAmong : VersionKind → List (Option (List ℕ)) → Ranking → Type 0
 IsVersionAmong kind versions r = IsIn (version_of kind r).version versions
 
--- the versions of one kind of all these rankings are read from the same texts
+-- the versions of this kind of all these rankings are read by one function from places to texts, so that versions
+-- with one place are equal
 abbrev pub HaveVersionsFromSameTexts : VersionKind → List Ranking → Type 0
 HaveVersionsFromSameTexts kind rankings = (text : ℕ → ℕ → List ℕ)
     × All (λ r. HasVersionTextFrom text (version_of kind r)) rankings
 
--- these versions and one more are read from the same texts
+-- these versions and one more are read by one function from places to texts, so that versions with one place are
+-- equal
 abbrev pub IsReadTogether : List RankedVersion → RankedVersion → Type 0
 IsReadTogether versions v = (text : ℕ → ℕ → List ℕ)
     × (HasVersionTextFrom text v × All (HasVersionTextFrom text) versions)
 
--- these versions, and the versions of one kind of all these rankings, are read from the same texts
+-- these versions, and those of this kind of all these rankings, are read by one function from places to texts, so
+-- that versions with one place are equal
 abbrev pub AreReadTogether : VersionKind → List RankedVersion → List Ranking → Type 0
 AreReadTogether kind versions rankings = (text : ℕ → ℕ → List ℕ)
     × (All (HasVersionTextFrom text) versions
     × All (λ r. HasVersionTextFrom text (version_of kind r)) rankings)
 
--- the rankings `after` are those `before` in some order, each with the rank of its version among some
--- that include the versions of all
+-- the rankings `after` are those `before` in some order. In each, the version of this kind has its rank among a list
+-- that includes the versions of all the rankings
 pub record AreRankedFrom (kind : VersionKind) (before after : List Ranking) : Type 0 where
-  -- the versions among which those of the options are ranked
+  -- the list of versions among which those of the rankings are ranked
   pub versions : List (Option (List ℕ))
-  -- the options in the order after the call, with the ranks before it
+  -- the rankings in the order after the call, with the ranks from before it
   pub moved : List Ranking
-  -- they are the options before the call, in some order
+  -- these are the rankings before the call, in some order
   pub permutation : IsPermutation before moved
-  -- the version of each option is among the ranked ones
+  -- the version of each of them is in the list
   pub listed : All (IsVersionAmong kind versions) moved
-  -- each option then gets the rank of its version
+  -- after the call, each of them has the rank of its version
   pub ranked : after ≡ map (with_rank_among kind versions) moved
 
 -- the rankings `after` are those `before` in some order, each with the ranks of both its versions
 pub record AreRankedTwice (before after : List Ranking) : Type 0 where
-  -- the options after the first ranking, by the versions under which the need is met
+  -- the rankings after their versions of the kind `Under` were ranked
   pub between : List Ranking
+  -- the first ranking is by the versions under which the need is met
   pub under : AreRankedFrom Under before between
-  -- the second ranking is by the options' own versions
+  -- then their versions of the kind `Own` were ranked
   pub own : AreRankedFrom Own between after
 
 -- the rankings `after` are those `before`, and may be compared by a key: both versions of each are

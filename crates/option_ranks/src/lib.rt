@@ -10,6 +10,7 @@
 mod rank;
 mod version_ranks;
 
+// Names of `candidate_core` that users of this crate need.
 pub use candidate_core::{
     CandId, Candidate, CandidateList, Deps, Details, IndexView, KnownMatches, MOST_CANDIDATES,
     Need, NeedRef, Options, PackageDep, PackageMatches, Packages, PkgInfo, PoolFault,

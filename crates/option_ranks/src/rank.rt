@@ -15,16 +15,16 @@ use std::cmp::Ordering;
 use std::marker::Model;
 use version_core::Version;
 
-/// How the versions of two options are compared.
+/// By what the versions of two options are compared.
 #[derive(Clone, Copy)]
 pub enum VersionKey {
-    /// The ranks of the versions; both versions of each option are ranked.
+    /// By their ranks; both versions of each option have been ranked.
     ByRank,
-    /// The versions themselves, as they are read.
+    /// By the versions themselves, as they were read.
     ByText,
 }
 
-/// The keys of an option, in their order.
+/// The keys by which an option is ranked, in their order (*Ranking*).
 #[derive(Drop)]
 pub struct RankedOption<'a> {
     /// Key 1: whether world pins the candidate's name to its tag.
@@ -60,7 +60,7 @@ impl<'a> Model for RankedOption<'a> {
 }
 
 impl<'a> RankedOption<'a> {
-    /// One of the two versions of the option: the one that the kind says.
+    /// One of the two versions of the option: the one that `kind` names.
     pub(crate) fn version_of(&self, kind: VersionKind) -> &RankedVersion<'a>
         ensures { result.now ≡ version_of kind self.now }
     {
@@ -70,7 +70,7 @@ impl<'a> RankedOption<'a> {
         }
     }
 
-    /// Sets the rank of one of the two versions of the option: of the one that the kind says.
+    /// Sets the rank of one of the two versions of the option: of the one that `kind` names.
     pub(crate) fn set_rank(&mut self, kind: VersionKind, rank: usize)
         ensures { self.new ≡ with_version_rank kind rank self.old }
     {
@@ -125,7 +125,8 @@ impl<'a> RankedOption<'a> {
         untagged.then(named.then(kept))
     }
 
-    // The order of two options by keys 5 to 10: the version, and so on to the repository.
+    // The order of two options by keys 5 to 10, from the version under which the need is met to the
+    // repository.
     fn by_merit_and_repo(&self, other: &RankedOption<'_>, key: VersionKey) -> Ordering
         ensures { result
             ≡ then_cmp (merit_ranking_cmp key) repository_ranking_cmp self.now other.now }
@@ -184,7 +185,7 @@ fn truth_first(one: bool, other: bool) -> Ordering
     other.cmp(&one)
 }
 
-// The order of two versions of one kind: by their ranks, or by the versions themselves, as the key
+// The order of two versions of one kind: by their ranks, or by the versions themselves, as `key`
 // says.
 fn by_version_key(
     key: VersionKey,
@@ -228,7 +229,7 @@ fn by_version_and_text(one: &Option<Version<'_>>, other: &Option<Version<'_>>) -
     }
 }
 
-// The order of two versions: the greater is first, and none last.
+// The order of two versions: the greater is first, and an absent one last.
 fn by_version(one: &Option<Version<'_>>, other: &Option<Version<'_>>) -> Ordering
     ensures { result ≡ greater_version_first_cmp one.now other.now }
 {
@@ -240,7 +241,7 @@ fn by_version(one: &Option<Version<'_>>, other: &Option<Version<'_>>) -> Orderin
     }
 }
 
-// The order of two versions by the bytes of their texts, none first.
+// The order of two versions by the bytes of their texts; an absent one is first.
 fn by_version_text(one: &Option<Version<'_>>, other: &Option<Version<'_>>) -> Ordering
     ensures { result ≡ option_cmp bytes_cmp one.now other.now }
 {
@@ -252,7 +253,7 @@ fn by_version_text(one: &Option<Version<'_>>, other: &Option<Version<'_>>) -> Or
     }
 }
 
-// The order of two repositories: the smaller number is first, and none last.
+// The order of two repositories: the smaller number is first, and an absent repository last.
 fn by_repo(one: Option<u64>, other: Option<u64>) -> Ordering
     ensures { result ≡ earlier_repository_first_cmp one other }
 {

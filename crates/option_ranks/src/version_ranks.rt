@@ -18,10 +18,10 @@ use std::alloc::{AllocError, Global};
 use std::cmp::Ordering;
 use version_core::{Version, order_is_total};
 
-/// Ranks the versions of options if one of them is long, and returns how they are to be compared.
-/// It may reorder the options. For k options with n different texts it takes time linear in k log
-/// k, and n log n comparisons of texts, or some 2n if they are in order. Short texts are compared
-/// faster than ranked.
+/// Ranks the versions of all options if one of these versions is long, and returns how they are to
+/// be compared. The call may reorder the options. For k options with n different texts it takes
+/// time linear in k log k, and n log n comparisons of texts, or some 2n if they are in order. Short
+/// texts are compared faster than ranked.
 ///
 /// # Errors
 ///
@@ -30,12 +30,12 @@ pub fn rank_long_versions<'a>(
     alloc: Global,
     options: &mut Vec<RankedOption<'a>>,
 ) -> Result<VersionKey, AllocError>
-    // Versions under which a need is met, and that refer to the same text, are equal.
+    // The versions under which options meet the need are equal if they refer to the same text.
     requires under { HaveVersionsFromSameTexts Kinds.Under options.old.items }
-    // Own versions of candidates that refer to the same text are equal.
+    // The own versions of candidates are equal if they refer to the same text.
     requires own { HaveVersionsFromSameTexts Kinds.Own options.old.items }
-    // Comparing the options after the call by this key gives the same order as comparing the
-    // options before it by their texts.
+    // To compare the options after the call by this key gives the same order as to compare the
+    // options before the call by their texts.
     ensures { IfOk result (λ key. AreComparableByKey key options.old.items options.new.items) }
 {
     if !has_long_version(options) {
@@ -46,7 +46,7 @@ pub fn rank_long_versions<'a>(
     Ok(VersionKey::ByRank)
 }
 
-// Whether a version of an option is long. The result only affects time.
+// Whether one of the two versions of some option is long. The result only affects time.
 fn has_long_version(options: &[RankedOption<'_>]) -> bool {
     for option in options {
         if is_long(&option.under.version) || is_long(&option.version.version) {
@@ -56,13 +56,14 @@ fn has_long_version(options: &[RankedOption<'_>]) -> bool {
     false
 }
 
-// Ranks one of the two versions of each option, the one that the kind says, among those of all
-// options. It may reorder the options.
+// Ranks one of the two versions of each option, the one that `kind` names, among these versions of
+// all options. The call may reorder the options.
 fn rank_versions<'a>(
     alloc: Global,
     options: &mut Vec<RankedOption<'a>>,
     kind: VersionKind,
 ) -> Result<(), AllocError>
+    // Versions that refer to the same text are equal.
     requires { HaveVersionsFromSameTexts kind options.old.items }
     ensures { OnOk result (AreRankedFrom kind options.old.items options.new.items) }
 {
@@ -81,15 +82,16 @@ fn rank_versions<'a>(
     Ok(())
 }
 
-// The order of two versions by the places of their texts. Any order suffices that makes those of
-// one place adjacent, so the contract has no clause for it.
+// The order of two versions by the places of their texts. Any order that makes versions of one
+// place adjacent would do, so the contract has no clause for it.
 fn by_place(one: &RankedVersion<'_>, other: &RankedVersion<'_>) -> Ordering {
     one.source
         .cmp(&other.source)
         .then(one.word.cmp(&other.word))
 }
 
-// The versions of options, each once if options that refer to the same text are adjacent.
+// The versions of one kind of these options. If options that refer to the same text are adjacent,
+// each version is in the list once.
 fn distinct_versions<'a>(
     alloc: Global,
     options: &[RankedOption<'a>],
@@ -113,9 +115,9 @@ fn distinct_versions<'a>(
     Ok(versions)
 }
 
-// A copy of one version of an option: of the one that the kind says. Its rank is set to that of the
-// version under which the option meets the need, which is mostly the same version; it is 0 before
-// these are ranked. The rank affects only the time of the sort.
+// A copy of one version of an option: of the one that `kind` names. Its rank is set to that of the
+// version under which the option meets the need, which is mostly the same version; this rank is 0
+// before these versions are ranked. The rank affects only the time of the sort.
 fn version_to_rank<'a>(option: &RankedOption<'a>, kind: VersionKind) -> RankedVersion<'a>
     ensures { result
         ≡ version_with_rank option.entry.now.under.rank (version_of kind option.entry.now) }
@@ -129,10 +131,11 @@ fn version_to_rank<'a>(option: &RankedOption<'a>, kind: VersionKind) -> RankedVe
     }
 }
 
-// Whether the version of an option is read from the same text as that of the option before it.
+// Whether the version of an option, of the kind `kind`, is read from the same text as that of the
+// option before it.
 fn reads_the_text_before(options: &[RankedOption<'_>], i: usize, kind: VersionKind) -> bool
     requires { i < length options.now }
-    // The first of the list has none before it.
+    // The first option of the list has none before it.
     ensures first { result ≡ true → 0 < i }
     // If the result is true, both versions refer to the same text.
     ensures same { result ≡ true → (one other : Ranking) → slice_get options.now (i - 1) ≡ Some one
@@ -145,7 +148,8 @@ fn reads_the_text_before(options: &[RankedOption<'_>], i: usize, kind: VersionKi
     is_same_place(options[i - 1].version_of(kind), options[i].version_of(kind))
 }
 
-// Whether two versions are read from one text, by the source and the word, and not by the bytes.
+// Whether two versions are read from one text: from the same word of the same source. The bytes are
+// not compared.
 fn is_same_place(one: &RankedVersion<'_>, other: &RankedVersion<'_>) -> bool
     ensures { result ≡ true → HaveSamePlace one.now other.now }
 {
@@ -154,11 +158,13 @@ fn is_same_place(one: &RankedVersion<'_>, other: &RankedVersion<'_>) -> bool
         && one.word == other.word
 }
 
-// Gives each version of a sorted list its rank: how many versions of the list are less. Each
+// Gives each version of a sorted list its rank: how many versions of the list precede it. Each
 // version is compared only with the one before it.
 fn rank_sorted(versions: &mut Vec<RankedVersion<'_>>, kind: VersionKind)
+    // The versions are sorted in the order of their kind.
     requires { IsSorted (on (λ (v : RankedVersion). v.version) (version_order kind))
         versions.old.items }
+    // Each version gets its rank among all versions of the list.
     ensures { versions.new.items
         ≡ map (version_with_rank_among kind (versions_in versions.old.items)) versions.old.items }
 {
@@ -174,10 +180,10 @@ fn rank_sorted(versions: &mut Vec<RankedVersion<'_>>, kind: VersionKind)
     }
 }
 
-// Whether a version is equal to the one before it.
+// Whether a version is equal to the one before it, in the order of their kind.
 fn equals_the_one_before(versions: &[RankedVersion<'_>], i: usize, kind: VersionKind) -> bool
     requires { i < length versions.now }
-    // The first of the list has none before it.
+    // The first version of the list has none before it.
     ensures first { result ≡ true → 0 < i }
     // The result says whether the version and the one before it are equal in the order of their
     // kind.
@@ -198,16 +204,18 @@ fn set_own_rank(version: &mut RankedVersion<'_>, rank: usize)
     version.rank = rank;
 }
 
-// Gives each option the rank of its version among versions that have ranks.
+// Gives one version of each option, of the kind `kind`, its rank among the versions of a list that
+// have ranks.
 fn set_ranks<'a>(
     options: &mut Vec<RankedOption<'a>>,
     kind: VersionKind,
     versions: &[RankedVersion<'_>],
 )
-    // Each version of the list has its rank among them.
+    // Each version of the list has its rank among the versions of the list.
     requires ranked { All (HasRankAmong kind (versions_in versions.now)) versions.now }
     // The versions of options and those of the list that refer to the same text are equal.
     requires alike { AreReadTogether kind versions.now options.old.items }
+    // Each option gets, for its version of this kind, the rank of this version in the list.
     ensures { options.new.items
         ≡ map (with_rank_among kind (versions_in versions.now)) options.old.items }
 {
@@ -217,10 +225,10 @@ fn set_ranks<'a>(
     }
 }
 
-// The rank of a version among versions that have ranks. If none of these refers to its text, the
-// lesser ones are counted, which never happens here.
+// The rank of a version among versions that have ranks. If none of these refers to its text, which
+// never happens here, the versions that precede it are counted.
 fn rank_of(version: &RankedVersion<'_>, versions: &[RankedVersion<'_>], kind: VersionKind) -> usize
-    // Each version of the list has its rank among them.
+    // Each version of the list has its rank among the versions of the list.
     requires ranked { All (HasRankAmong kind (versions_in versions.now)) versions.now }
     // The version equals each version of the list that refers to the same text.
     requires alike { IsReadTogether versions.now version.now }
@@ -232,8 +240,9 @@ fn rank_of(version: &RankedVersion<'_>, versions: &[RankedVersion<'_>], kind: Ve
     }
 }
 
-// The rank of the version at the place of another, found by bisection if versions are sorted by
-// their places.
+// The rank of a version of the list that refers to the same text as `version`; None if no version
+// is found. The search is by bisection, and finds such a version if the list is sorted by the
+// places of texts.
 fn rank_at_place(version: &RankedVersion<'_>, versions: &[RankedVersion<'_>]) -> Option<usize>
     ensures { IfSome result (IsRankAt versions.now version.now) }
 {
@@ -247,8 +256,8 @@ fn rank_at_place(version: &RankedVersion<'_>, versions: &[RankedVersion<'_>]) ->
     None
 }
 
-// How many versions of the list are before this version in the order of the kind. Each is compared
-// with it.
+// How many versions of the list precede this version in the order of the kind. Each of them is
+// compared with this version.
 fn rank_among(
     kind: VersionKind,
     versions: &[RankedVersion<'_>],

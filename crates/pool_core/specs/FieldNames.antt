@@ -9,14 +9,14 @@ use Rattle.adb_view.specs.Values.{entries_in}
 use Rattle.adb_view.specs.declared.tables.Kind.{Kind}
 use Rattle.adb_view.specs.declared.tables.Which.TheVariants.{PkgInfo}
 
--- the value of the field with a name, among values in the order of a table's fields; Null if there is
--- none
+-- the value of the field with a name: `fields` has the name of each field of a table, in its order, and `values` has
+-- their values. Null if no field has the name
 abbrev pub value_under_name : List ℕ → List (List ℕ × Kind) → Plains → Plain
 value_under_name name [] values = null
 value_under_name name (f ∷ fields) none = null
 value_under_name name (f ∷ fields) (more v values) =
     if bytes_eq f.0 name then v else value_under_name name fields values
 
--- the value of the field of a package's information that has a name
+-- the value of that field of a package's information which has this name, such as `depends`
 abbrev pub info_under_name : List ℕ → Plain → Plain
 info_under_name name info = value_under_name name (format_table PkgInfo).1 (entries_in info)

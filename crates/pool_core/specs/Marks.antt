@@ -11,8 +11,8 @@ use Rattle.pool_core.specs.declared.marks.Effect.{Effect}
 use Rattle.pool_core.specs.declared.marks.Effect.TheVariants.{Bar, Pin}
 use Rattle.option_ranks.specs.candidate_core.Candidates.{Candidate, meets_dependency}
 
--- whether an entry of world has an effect on a candidate: a conflict bars the candidates that meet it;
--- an entry with a tag pins the candidates of its name with that tag
+-- whether an entry of world has this effect on a candidate. A conflict bars the candidates that meet it. An entry
+-- with a tag pins the candidates that have its name and its tag
 abbrev pub affects : Effect → Dependency → Candidate → Bool
 affects Bar d c = d.conflict && meets_dependency d c
 affects Pin d c =
@@ -23,14 +23,15 @@ affects Pin d c =
 abbrev pub is_affected : Effect → List Dependency → Candidate → Bool
 is_affected effect entries c = list_any (λ (d : Dependency). affects effect d c) entries
 
--- the marks, with those of the candidates that pass a test set too; there is one mark for each
--- candidate
+-- the marks, one for each candidate, after those of the candidates that pass the test were set. A mark that was set
+-- stays set
 abbrev pub with_marks_set : (Candidate → Bool) → List Bool → List Candidate → List Bool
 with_marks_set test [] cs = []
 with_marks_set test (m ∷ ms) [] = m ∷ ms
 with_marks_set test (m ∷ ms) (c ∷ cs) = (m || test c) ∷ with_marks_set test ms cs
 
--- the marks, with that of the candidate at a place set too if it passes a test
+-- the marks, one for each candidate, after that of the candidate at a place was set if the candidate passes the test.
+-- A mark that was set stays set
 abbrev pub with_mark_set_at : (Candidate → Bool) → ℕ → List Bool → List Candidate → List Bool
 with_mark_set_at test place [] cs = []
 with_mark_set_at test place (m ∷ ms) [] = m ∷ ms

@@ -11,7 +11,7 @@ use Rattle.option_ranks.specs.candidate_core.VersionTexts.{source_text}
 use Rattle.option_ranks.specs.candidate_core.declared.matches.KnownMatches.{KnownMatches}
 use Rattle.option_ranks.specs.candidate_core.declared.packages.Packages.{Packages}
 
--- the places of the candidates that may be selected and meet a need, in rising order
+-- the places of the candidates that may be selected and meet the need, in rising order
 abbrev pub places_fitting : SealedPool → Need → List ℕ
 places_fitting pool need = places_passing_from 0 (is_eligible_for_need pool need) pool.candidates
 

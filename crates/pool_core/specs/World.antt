@@ -7,7 +7,7 @@ use Rattle.dep_core.specs.Dependency.{Dependency}
 use Rattle.pool_core.specs.declared.world_marks.EntryKind.{EntryKind}
 use Rattle.pool_core.specs.declared.world_marks.EntryKind.TheVariants.{Conflict, Tagged}
 
--- whether an entry of world is of a kind: it is a conflict, or it has a tag
+-- whether an entry of world is of this kind: a conflict (`Conflict`), or an entry with a tag (`Tagged`)
 abbrev pub is_entry_of_kind : EntryKind → Dependency → Bool
 is_entry_of_kind Conflict d = d.conflict
 is_entry_of_kind Tagged d = is_some d.tag

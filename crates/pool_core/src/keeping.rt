@@ -1,6 +1,7 @@
-//! Which candidates are preferred in rank because they are installed and kept: those whose names
-//! the command does not upgrade. The names that it upgrades are sorted once, and each candidate is
-//! marked. The rule is in `docs/selection.md`, "Which selection is taken", key 4 of the table.
+//! For each candidate a mark: whether it is preferred in rank because it is installed and the
+//! command does not upgrade its name. The names that the command upgrades are sorted once, so that
+//! they are found fast. The rule is in `docs/selection.md`, "Which selection is taken", key 4 of
+//! the table.
 ghost use Rattle.std.specs.Prelude.{◌≡◌, ◌&&◌, map, not, IfOk};
 ghost use Rattle.option_ranks.specs.candidate_core.Packages.{candidates_of_packages};
 ghost use Rattle.option_ranks.specs.candidate_core.Rank.{is_kept_installed, listed_names};
@@ -28,7 +29,8 @@ pub(crate) fn kept_marks(
     }
 }
 
-// The marks if the command upgrades every name (`is_upgraded`), or none.
+// The marks of all candidates if the command upgrades every name (`is_upgraded` is true), or no
+// name.
 fn marks_with_all(
     alloc: Global,
     packages: &Packages<'_>,
@@ -44,7 +46,8 @@ fn marks_with_all(
     Ok(marks)
 }
 
-// The marks if the command upgrades the names of a list, in any order.
+// The marks of all candidates if the command upgrades the names of this list, which may be in any
+// order.
 fn marks_with_listed(
     alloc: Global,
     packages: &Packages<'_>,
@@ -58,8 +61,8 @@ fn marks_with_listed(
     Ok(marks)
 }
 
-// The marks if the upgraded names are in byte order, so that the name of each candidate is found by
-// bisection.
+// The marks of all candidates if the command upgrades these names, which are in byte order, so that
+// the name of each candidate is found by bisection.
 fn marks_with_sorted(
     alloc: Global,
     packages: &Packages<'_>,
@@ -75,14 +78,14 @@ fn marks_with_sorted(
     Ok(marks)
 }
 
-// Whether a candidate is installed, and its name is not upgraded.
+// Whether a candidate is installed, and its name is not one of these upgraded names.
 fn is_kept_beside(one: &Details<'_>, names: &SortedWords<'_>) -> bool
     ensures { result ≡ is_kept_installed (listed_names names.now) one.now }
 {
     is_kept(one, names.has(one.name()))
 }
 
-// Whether a candidate is installed, and its name is not upgraded.
+// Whether a candidate is installed, and the command does not upgrade its name (`is_upgraded`).
 fn is_kept(one: &Details<'_>, is_upgraded: bool) -> bool
     ensures { result ≡ (one.now.installed && not is_upgraded) }
 {

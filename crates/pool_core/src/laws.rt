@@ -19,6 +19,7 @@ use version_core::order_is_total;
 /// places have the same rank.
 pub fn rank_is_total()
     ensures total { (pool : SealedPool) (need : Need) → IsTotalOrder (rank_cmp pool need) }
+    // Two places with the same rank are the same place.
     ensures strict { (pool : SealedPool) (need : Need) (a b : ℕ) →
         rank_cmp pool need a b ≡ Equal → a ≡ b }
 {
@@ -35,6 +36,7 @@ pub fn options_are_the_best_first()
     // Each candidate that may be selected and meets the need is an option.
     ensures each { (pool : SealedPool) (need : Need) (c : ℕ) → is_eligible_at pool c ≡ true →
         meets_at pool c need ≡ true → IsIn c (options_for pool need) }
+    // Each option is better than those after it.
     ensures best_first { (pool : SealedPool) (need : Need) →
         IsSortedBestFirst (is_better pool need) (options_for pool need) }
 {
@@ -52,6 +54,7 @@ pub fn offers_are_the_places()
     ensures each { (pool : SealedPool) (name : List ℕ) (c : ℕ) →
         candidate_at_passes pool (offers_name name) c ≡ true
         → IsIn c (places_offering name pool.candidates) }
+    // The places are in rising order.
     ensures rising { (pool : SealedPool) (name : List ℕ) →
         AreStrictlyIncreasing (places_offering name pool.candidates) }
 {}
@@ -97,9 +100,9 @@ pub fn an_installed_package_is_known_by_text_and_id()
     ensures front { (id rest : List ℕ) → 0 < length id → is_same_id id (id ++ rest) ≡ true }
 {}
 
-/// An installed package adds a candidate only if no index has it: then it is the last one, and else
-/// the length of the list is unchanged. Each place keeps its candidate, which is marked as
-/// installed if it is the installed package.
+/// An installed package becomes a candidate of its own only if no index has it: then this candidate
+/// is the last one. Otherwise the length of the list is unchanged. Each candidate stays at its
+/// place, and is marked as installed if it is the installed package.
 pub fn installed_candidates_count_once()
     // If a candidate is the installed package, none is added.
     ensures once { (candidates : List Candidate) (installed : Candidate) →

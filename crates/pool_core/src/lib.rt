@@ -19,6 +19,7 @@ pub use laws::{
     installed_candidates_count_once, offers_are_the_places, offers_hold_what_meets,
     options_are_the_best_first, rank_is_total,
 };
+// Names of `option_ranks` and `candidate_core` that users of this crate need.
 pub use option_ranks::{
     CandId, Candidate, Deps, Details, MOST_CANDIDATES, Need, NeedRef, Options, PackageDep,
     PackageMatches, Packages, PoolFault, RankedOption, RankedVersion, Upgrade, VersionKey, is_long,

@@ -22,7 +22,7 @@ use dep_core::Dep;
 use option_ranks::{CandId, Details, KnownMatches, NeedRef, Packages, Table, is_long};
 use std::alloc::{AllocError, Global};
 
-/// The effect of an entry of world on a candidate.
+/// The effect that an entry of world may have on a candidate.
 #[derive(Clone, Copy)]
 pub(crate) enum Effect {
     /// The entry bars the candidate: no selection has it.
@@ -59,8 +59,8 @@ pub(crate) fn eligible_marks(
     opposite_marks(alloc, &ineligible)
 }
 
-/// For each candidate, whether world pins its name to its tag. `tagged` are the entries of world
-/// that have a tag.
+/// For each candidate, whether world pins the candidate's name to the candidate's tag. `tagged` are
+/// the entries of world that have a tag.
 pub(crate) fn pinned_marks(
     alloc: Global,
     packages: &Packages<'_>,
@@ -68,6 +68,7 @@ pub(crate) fn pinned_marks(
     tagged: &[Dep<'_>],
 ) -> Result<Vec<bool>, AllocError>
     requires { HasPlacesOfEachName table.now (candidates_of_packages packages.now) }
+    // A candidate's mark is true if world pins the candidate's name to its tag.
     ensures { IfOk result (λ marks. marks.items
         ≡ map (λ one. is_pinned (map dependency tagged.now) one)
         (candidates_of_packages packages.now)) }
@@ -77,13 +78,14 @@ pub(crate) fn pinned_marks(
     Ok(marks)
 }
 
-// For each candidate, whether it is not allowed: it is not installed, and from a repository whose
-// tag world does not use.
+// For each candidate, whether it is not allowed: it is not installed, and is from a repository with
+// a tag that no entry of world uses.
 fn disallowed_marks(
     alloc: Global,
     packages: &Packages<'_>,
     tagged: &[Dep<'_>],
 ) -> Result<Vec<bool>, AllocError>
+    // A candidate's mark is true if the candidate is not allowed.
     ensures { IfOk result (λ marks. marks.items
         ≡ map (λ one. not (is_allowed_by_tags_of_world (map dependency tagged.now) one))
         (candidates_of_packages packages.now)) }
@@ -95,7 +97,7 @@ fn disallowed_marks(
     Ok(marks)
 }
 
-// A mark for each candidate, none of them set.
+// A list with one mark for each candidate, none of them set.
 fn no_marks(alloc: Global, packages: &Packages<'_>) -> Result<Vec<bool>, AllocError>
     ensures { IfOk result (λ marks. marks.items
         ≡ map (λ one. false) (candidates_of_packages packages.now)) }
@@ -114,8 +116,8 @@ fn opposite_marks(alloc: Global, marks: &[bool]) -> Result<Vec<bool>, AllocError
     marks.iter().map(|mark| !*mark).collect(alloc)
 }
 
-// Sets the mark of each candidate on which an entry of the list, which is of world, has the effect.
-// Other marks are unchanged.
+// Sets the mark of each candidate on which one of the entries of world in `entries` has this
+// effect. Other marks are unchanged.
 fn mark_affected(
     alloc: Global,
     marks: &mut Vec<bool>,
@@ -139,9 +141,9 @@ fn mark_affected(
     Ok(())
 }
 
-// Sets the mark of each candidate on which an entry of world has an effect. `ids` are the places of
-// those that offer the entry's name: it has no effect on the others. A long version that many
-// candidates share is compared once with the entry's.
+// Sets the mark of each candidate on which this entry of world has the effect. `ids` are the places
+// of the candidates that offer the entry's name: the entry has no effect on others. A long version
+// that many candidates share is compared once with the entry's.
 fn mark_among(
     alloc: Global,
     marks: &mut Vec<bool>,
@@ -150,6 +152,7 @@ fn mark_among(
     entry: &Dep<'_>,
     effect: Effect,
 ) -> Result<(), AllocError>
+    // The places are those of all candidates that offer the entry's name.
     requires offers { ids.now
         ≡ places_offering (dependency entry.now).name (candidates_of_packages packages.now) }
     // There is one mark for each candidate.
@@ -165,8 +168,8 @@ fn mark_among(
     Ok(())
 }
 
-// Sets the mark of the candidate at a place if the entry has this effect on it. Results for long
-// versions are remembered.
+// Sets the mark of the candidate at a place if the entry has this effect on the candidate. Results
+// for long versions are remembered.
 fn mark_one(
     marks: &mut Vec<bool>,
     packages: &Packages<'_>,
@@ -199,7 +202,7 @@ fn mark_one(
     Ok(())
 }
 
-// Whether an entry of world has this effect on a candidate, which is at a place.
+// Whether an entry of world has this effect on the candidate `one`, which is at the place `place`.
 fn affects(
     effect: Effect,
     entry: &Dep<'_>,
@@ -210,6 +213,7 @@ fn affects(
 ) -> Result<bool, AllocError>
     // `one` is the candidate at the place, and the remembered results are right for the entry.
     requires { IsCandidateWithMatches packages.now place one.now (dependency entry.now) known.old }
+    // The answer is whether the entry has this effect on the candidate.
     ensures affects { IfOk result (λ answer. answer
         ≡ affects effect (dependency entry.now) one.now) }
     // The results that are remembered after the call are right for the entry.
@@ -222,8 +226,8 @@ fn affects(
     }
 }
 
-// Whether an entry of world bars the candidate at a place: the entry is a conflict, and the
-// candidate meets it.
+// Whether an entry of world bars the candidate `one` at the place `place`: the entry is a conflict,
+// and the candidate meets it.
 fn bars(
     entry: &Dep<'_>,
     one: &Details<'_>,
@@ -233,6 +237,7 @@ fn bars(
 ) -> Result<bool, AllocError>
     // `one` is the candidate at the place, and the remembered results are right for the entry.
     requires { IsCandidateWithMatches packages.now place one.now (dependency entry.now) known.old }
+    // The answer is whether the entry is a conflict, and the candidate meets it.
     ensures bars { IfOk result (λ answer. answer ≡ ((dependency entry.now).conflict
         && meets_dependency (dependency entry.now) one.now)) }
     // The results that are remembered after the call are right for the entry.
@@ -248,8 +253,8 @@ fn bars(
     packages.meets_need(place, &NeedRef::Entry(entry), known)
 }
 
-// Whether an entry of world pins a candidate's name to its tag: the entry has this name and this
-// tag. It may be a conflict.
+// Whether an entry of world pins the candidate's name to the candidate's tag: the entry has this
+// name and this tag. The entry may be a conflict.
 fn pins(entry: &Dep<'_>, one: &Details<'_>) -> bool
     // The candidate has a tag, and the entry has the candidate's name and this tag.
     ensures { result ≡ option_map_or (λ tag. bytes_eq one.now.name (dependency entry.now).name
@@ -261,7 +266,7 @@ fn pins(entry: &Dep<'_>, one: &Details<'_>) -> bool
     }
 }
 
-// Whether an entry of world has this tag.
+// Whether an entry of world has the tag `tag`.
 fn has_tag(dep: &Dep<'_>, tag: &[u8]) -> bool
     ensures { result ≡ option_map_or (bytes_eq tag.now) (dependency dep.now).tag false }
 {
@@ -271,8 +276,8 @@ fn has_tag(dep: &Dep<'_>, tag: &[u8]) -> bool
     }
 }
 
-// Whether a candidate is allowed: installed, or from a repository without tag, or from one whose
-// tag one of the tagged entries of world has.
+// Whether a candidate is allowed: it is installed, from no repository, from a repository without
+// tag, or from one whose tag is that of an entry of world. `tagged` has all entries with a tag.
 fn is_allowed_by_tags_of_world(one: &Details<'_>, tagged: &[Dep<'_>]) -> bool
     ensures { result ≡ is_allowed_by_tags_of_world (map dependency tagged.now) one.now }
 {
@@ -288,7 +293,7 @@ fn is_allowed_by_tags_of_world(one: &Details<'_>, tagged: &[Dep<'_>]) -> bool
     }
 }
 
-// Whether an entry of the list, which is of world, has this tag.
+// Whether one of these entries of world has the tag `tag`.
 #[tactic(auto, using(candidate_core::proofs::Anyone::any_map))]
 fn is_tag_used_in_world(tagged: &[Dep<'_>], tag: &[u8]) -> bool
     ensures { result ≡ is_tag_used_in_world (map dependency tagged.now) tag.now }
@@ -296,8 +301,8 @@ fn is_tag_used_in_world(tagged: &[Dep<'_>], tag: &[u8]) -> bool
     any_has_tag(tagged, tag)
 }
 
-// Whether an entry of the list has this tag. The clause is about the entries as values of the
-// program.
+// Whether one of these entries has the tag `tag`. In the clause, the entries are values of the
+// program, not of the definitions.
 fn any_has_tag(tagged: &[Dep<'_>], tag: &[u8]) -> bool
     ensures { result ≡ list_any
         (λ dep. option_map_or (bytes_eq tag.now) (dependency dep).tag false) tagged.now }

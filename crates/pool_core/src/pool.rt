@@ -39,12 +39,17 @@ impl<'a> Model for Pool<'a> {
     ghost use Rattle.option_ranks.specs.candidate_core.Candidates.{Candidate};
     ghost use Rattle.option_ranks.specs.candidate_core.CandidateList.{IsCandidateList, candidates_in};
 
+    // The value is the list of candidates: their places are its indexes, counted from 0.
     ghost Value = { Items Candidate };
 
+    // Pools with equal codes are equal (`Coded`).
     ghost coded = { Prim.hlevel (codes, plain_code) };
 
+    // The candidates of the list; none without a list.
     ghost view = { λ pool. candidates_in pool.list };
 
+    // If there is a list, its table leads to the offers of each name, and the list is within the
+    // limit.
     ghost invariant = { λ pool. ForSome pool.list (λ list. IsCandidateList list) };
 }
 
@@ -56,7 +61,7 @@ impl<'a> Pool<'a> {
         Pool { alloc, list: None }
     }
 
-    // The candidates so far, taken out of the pool.
+    // Takes the candidates so far out of the pool, which is then empty.
     fn take_list(&mut self) -> CandidateList<'a>
         ensures list { IsCandidateList result }
         ensures taken { candidates_of_packages result.packages ≡ self.old }
@@ -68,7 +73,8 @@ impl<'a> Pool<'a> {
         }
     }
 
-    // Puts the candidates back if `added` succeeded, and else drops them; returns `added`.
+    // Puts the candidates `list` back into the pool if `added` is Ok, and else drops them. Returns
+    // `added`.
     fn keep(
         &mut self,
         list: CandidateList<'a>,
@@ -89,10 +95,11 @@ impl<'a> Pool<'a> {
         }
     }
 
-    /// Appends the packages of a repository's index; repositories count from 1. TooMany is returned
-    /// only if the list would exceed its limit, and Ok only if it would not; out of memory is
-    /// possible in both cases. In the clauses, 1 is the index of `packages` among the fields of an
-    /// index, counted from 0 (2 in table 8 of `docs/formats.md`, "Schemas").
+    /// Appends the packages of a repository's index; `repo` is the number of the repository,
+    /// counted from 1. TooMany is returned only if the list would exceed its limit, and Ok only if
+    /// it would not; out of memory is possible in both cases. In the clauses, 1 is the index of
+    /// `packages` among the fields of an index, counted from 0 (2 in table 8 of `docs/formats.md`,
+    /// "Schemas").
     pub fn add_index(
         &mut self,
         index: IndexView<'a>,
@@ -104,7 +111,10 @@ impl<'a> Pool<'a> {
         ensures ok { OnOk result (self.new ≡ self.old
             ++ candidates_of_index repo (option_copied tag.entry)
             (entries_in (entry_in (index_value index.entry) 1))) }
+        // The list has at most as many candidates as its limit allows.
         ensures fits { OnOk result (length self.new ≤ MOST_CANDIDATES) }
+        // A refusal for too many candidates is right for the number of candidates that the list
+        // would have.
         ensures fault { IfErr result (λ fault. IsPoolFault fault
             (length self.old + count_of (entries_in (entry_in (index_value index.entry) 1)))) }
         ensures err { OnErr result (self.new ≡ []) }
@@ -112,25 +122,32 @@ impl<'a> Pool<'a> {
         let mut list = self.take_list();
         // The field with index 1, counted from 0, has the packages.
         let packages = objects_field(index.adb(), Which::Index, index.word(), 1, Which::PkgInfo);
+        // Laws that the proof needs; they have no effect at run time.
         index.values_keep_their_rules();
         entries_keep_the_rule_of_their_list();
         let source = Source {
             adb: index.adb(),
             repo: Some(repo),
             tag,
+            // The texts were tested with the index.
             has_sound_texts: true,
         };
         let added = list.push_all(source, packages);
         self.keep(list, added)
     }
 
-    /// Adds an installed package, or marks the candidates that are the same package as installed.
-    /// It is from no repository and has no tag. TooMany is returned only if the list would exceed
-    /// its limit, and Ok only if it would not; out of memory is possible in both cases.
+    /// Adds an installed package, or marks the candidates that are the same package as installed. A
+    /// package that is added is from no repository and has no tag. TooMany is returned only if the
+    /// list would exceed its limit, and Ok only if it would not; out of memory is possible in both
+    /// cases.
     pub fn add_installed(&mut self, info: PkgInfo<'a>) -> Result<(), PoolFault>
+        // The list then has the installed package: the candidates that are the same package are
+        // marked, or the installed package is a candidate of its own.
         ensures ok { OnOk result (self.new
             ≡ with_installed self.old (candidate_of (info_value info.entry) None None true)) }
         ensures fits { OnOk result (length self.new ≤ MOST_CANDIDATES) }
+        // A refusal for too many candidates is right for the number of candidates that the list
+        // would have.
         ensures fault { IfErr result (λ fault. IsPoolFault fault
             (length (with_installed self.old
             (candidate_of (info_value info.entry) None None true)))) }

@@ -27,23 +27,23 @@ use std::alloc::{AllocError, Global};
 use std::marker::Model;
 use version_core::order_is_total;
 
-/// The candidates with a world. Properties of candidates that are needed often are computed once,
-/// as marks. A list of marks has one for each candidate, in the order of the list.
+/// The candidates with a world. What is often needed of candidates is computed once, as marks. Each
+/// list of marks has one mark for each candidate, in the order of the list of candidates.
 #[derive(Drop)]
 pub struct Sealed<'a> {
     /// The packages that the candidates are.
     packages: Packages<'a>,
-    /// The places of the candidates that offer each name.
+    /// For each name, the places of the candidates that offer it.
     table: Table<'a>,
     /// The world that a selection is to satisfy.
     world: &'a World,
     /// The names that the command upgrades.
     upgrade: Upgrade<'a>,
-    /// Whether each candidate may be selected.
+    /// For each candidate, whether it may be selected.
     eligible: Vec<bool>,
-    /// Whether world pins each candidate's name to its tag.
+    /// For each candidate, whether world pins the candidate's name to the candidate's tag.
     pinned: Vec<bool>,
-    /// Whether each candidate is installed and the command does not upgrade its name.
+    /// For each candidate, whether it is installed and the command does not upgrade its name.
     kept: Vec<bool>,
     /// The places of the candidates whose install-if can apply, in rising order.
     install_ifs: Vec<CandId>,
@@ -65,12 +65,14 @@ impl<'a> Model for Sealed<'a> {
     // Pools with equal codes are equal (`Coded`).
     ghost coded = { Prim.hlevel (codes, plain_code) };
 
-    // The candidates, world, and the names to upgrade; all else follows from these.
+    // The value has the candidates, world, and the names to upgrade; all other fields follow from
+    // these.
     ghost view = { λ s.
         sealed_pool_from_parts (candidates_of_packages s.packages) s.world.now
         (names_upgraded_by s.upgrade) };
 
-    // The table and the marks are those of the candidates under this world.
+    // The table, the marks and the list of install-ifs are those of the candidates under this
+    // world.
     ghost invariant = { λ s. HasPlacesOfEachName s.table (candidates_of_packages s.packages)
         × (s.eligible.items ≡ map (is_eligible s.world.now) (candidates_of_packages s.packages))
         × (s.pinned.items ≡ map (is_pinned s.world.now) (candidates_of_packages s.packages))
@@ -165,7 +167,7 @@ impl<'a> Sealed<'a> {
         self.options_among(alloc, need, &self.packages)
     }
 
-    // The options of a need. `packages` are those of the pool. They are an argument of their own
+    // The options of a need. `packages` are those of the pool; they are an argument of their own
     // because the proof needs that the texts of all versions are read from one value.
     fn options_among(
         &self,
@@ -185,8 +187,9 @@ impl<'a> Sealed<'a> {
         self.ranked(alloc, need, &ids, packages, &known)
     }
 
-    // The options of a need at these places, best first. The keys of each are read once, and a long
-    // text of a version is compared once for all options that share it.
+    // The options of a need, best first; `ids` are the places of these options in any order. The
+    // keys of each option are read once, and a long text of a version is compared once for all
+    // options that share it.
     fn ranked(
         &self,
         alloc: Global,
@@ -211,7 +214,8 @@ impl<'a> Sealed<'a> {
         Ok(Options::of(ids))
     }
 
-    // The keys by which options are ranked, of the candidates at these places.
+    // The keys by which the candidates at the places `ids` are ranked, in the order of these
+    // places.
     fn rankings(
         &self,
         alloc: Global,
@@ -224,13 +228,15 @@ impl<'a> Sealed<'a> {
         requires those { ids.now ≡ places_fitting self.now (need_of_ref need.now) }
         // The remembered results are right for this need and these packages.
         requires matches { AreMatchesInPool self.now (need_of_ref need.now) packages.now known.now }
+        // Each ranking has the keys of the candidate at its place, for this need.
         ensures each { IfOk result (λ rankings.
             All (IsRankingIn self.now (need_of_ref need.now)) rankings.items) }
         ensures places { IfOk result (λ rankings. map (λ r. r.place) rankings.items ≡ ids.now) }
-        // Versions that meet the need and refer to the same text are equal.
+        // The versions under which candidates meet the need are equal if they refer to the same
+        // text.
         ensures under { IfOk result
             (λ rankings. HaveVersionsFromSameTexts Kinds.Under rankings.items) }
-        // Own versions of candidates that refer to the same text are equal.
+        // The own versions of candidates are equal if they refer to the same text.
         ensures version { IfOk result
             (λ rankings. HaveVersionsFromSameTexts Kinds.Own rankings.items) }
     {
@@ -241,8 +247,8 @@ impl<'a> Sealed<'a> {
         Ok(rankings)
     }
 
-    // The keys by which the candidate at a place is ranked. Its two versions get rank 0 here, until
-    // all are ranked.
+    // The keys by which the candidate at a place is ranked for a need. The candidate's two versions
+    // get the rank 0 here, until the versions of all options are ranked.
     fn ranking(
         &self,
         need: &NeedRef<'_>,
@@ -255,6 +261,7 @@ impl<'a> Sealed<'a> {
         requires matches { AreMatchesInPool self.now (need_of_ref need.now) packages.now known.now }
         ensures place { result.place ≡ id }
         ensures ranking { IsRankingIn self.now (need_of_ref need.now) result }
+        // Both versions are the texts at the places that are stored with them.
         ensures texts { HasVersionTextsOfSources packages.now.sources.items result }
     {
         let place = id.place as usize;
@@ -282,7 +289,9 @@ impl<'a> Sealed<'a> {
         packages: &Packages<'a>,
         known: &mut KnownMatches,
     ) -> Result<Vec<CandId>, AllocError>
+        // The remembered results are right for this need and these packages.
         requires { AreMatchesInPool self.now (need_of_ref need.now) packages.now known.old }
+        // The result has the places of all candidates that may be selected and meet the need.
         ensures places { IfOk result (λ ids. ids.items
             ≡ places_fitting self.now (need_of_ref need.now)) }
         // The results that are remembered after the call are right for this need.
@@ -294,7 +303,8 @@ impl<'a> Sealed<'a> {
         Ok(ids)
     }
 
-    // Of these places, those whose candidates may be selected and meet the need, in the same order.
+    // Those of the places `places` whose candidates may be selected and meet the need, in the same
+    // order.
     fn fitting_among(
         &self,
         alloc: Global,
@@ -303,6 +313,7 @@ impl<'a> Sealed<'a> {
         packages: &Packages<'a>,
         known: &mut KnownMatches,
     ) -> Result<Vec<CandId>, AllocError>
+        // The remembered results are right for this need and these packages.
         requires { AreMatchesInPool self.now (need_of_ref need.now) packages.now known.old }
         // The result has the places in `places` whose candidates may be selected and meet the need.
         ensures places { IfOk result (λ ids. ids.items
@@ -329,7 +340,9 @@ impl<'a> Sealed<'a> {
         packages: &Packages<'a>,
         known: &mut KnownMatches,
     ) -> Result<bool, AllocError>
+        // The remembered results are right for this need and these packages.
         requires { AreMatchesInPool self.now (need_of_ref need.now) packages.now known.old }
+        // The answer is whether the candidate may be selected and meets the need.
         ensures fits { IfOk result (λ fits. fits
             ≡ candidate_at_passes self.now (is_eligible_for_need self.now
             (need_of_ref need.now)) id) }
@@ -373,7 +386,7 @@ impl<'a> Sealed<'a> {
     }
 }
 
-// Adds the place `id` to the list if `fits` is true.
+// Appends the place `id` to the list if `fits` is true.
 fn push_if_fitting(ids: &mut Vec<CandId>, id: CandId, fits: bool) -> Result<(), AllocError>
     ensures { OnOk result
         (ids.new.items ≡ ids.old.items ++ (if fits then id ∷ [] else [])) }
@@ -384,14 +397,14 @@ fn push_if_fitting(ids: &mut Vec<CandId>, id: CandId, fits: bool) -> Result<(), 
     Ok(())
 }
 
-// The places of these ranked options, in the same order.
+// The places in the list of candidates of these ranked options, in the same order.
 fn places_of(alloc: Global, rankings: &[RankedOption<'_>]) -> Result<Vec<CandId>, AllocError>
     ensures { IfOk result (λ ids. ids.items ≡ map (λ r. r.place) rankings.now) }
 {
     rankings.iter().map(|ranking| ranking.id).collect(alloc)
 }
 
-/// Joins a list of candidates to a world.
+/// Joins a list of candidates to a world and to the names that the command upgrades.
 pub(crate) fn seal_list<'a>(
     alloc: Global,
     list: CandidateList<'a>,

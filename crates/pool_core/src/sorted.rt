@@ -24,14 +24,16 @@ impl<'a> Model for SortedWords<'a> {
 
     ghost Value = { List (List ℕ) };
 
+    // The value is the list of the words, in this order.
     ghost view = { λ sorted. map (λ word. word.now) sorted.words.items };
 
+    // The words are in byte order.
     ghost invariant = { λ sorted. IsSorted (λ one other. bytes_cmp one.now other.now)
         sorted.words.items };
 }
 
 impl<'a> SortedWords<'a> {
-    /// The words of a list, in byte order, in time in proportion to n log n for n words.
+    /// The words of a list, in byte order. For n words, the time is linear in n log n.
     pub fn of(alloc: Global, words: &'a Words) -> Result<SortedWords<'a>, AllocError>
         ensures { IfOk result (λ sorted. IsPermutation words.entry.now sorted) }
     {

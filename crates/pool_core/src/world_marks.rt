@@ -17,21 +17,22 @@ use dep_core::{Dep, World};
 use option_ranks::{CandId, CandidateList, Details, Packages};
 use std::alloc::{AllocError, Global};
 
-/// The kinds of entries of world that affect candidates. An entry can be of both kinds.
+/// The kinds of entries of world that affect candidates. An entry can be of both kinds, or of none.
 #[derive(Clone, Copy)]
 enum EntryKind {
     /// The entry is a conflict: it bars the candidates that meet it.
     Conflict,
-    /// The entry has a tag: it allows the candidates of that tag, and pins its name to it.
+    /// The entry has a tag: it allows the candidates whose repository has this tag, and pins its
+    /// name to the tag.
     Tagged,
 }
 
 /// The effect of world on each candidate of a list.
 #[derive(Drop)]
 pub(crate) struct WorldMarks {
-    /// Whether each candidate may be selected: it is allowed, and not barred.
+    /// For each candidate, whether it may be selected: it is allowed, and not barred.
     pub eligible: Vec<bool>,
-    /// Whether world pins each candidate's name to its tag.
+    /// For each candidate, whether world pins the candidate's name to the candidate's tag.
     pub pinned: Vec<bool>,
     /// The places of the candidates whose install-if can apply, in rising order.
     pub install_ifs: Vec<CandId>,
@@ -44,8 +45,10 @@ pub(crate) fn marks_by_world(
     world: &World,
 ) -> Result<WorldMarks, AllocError>
     requires { IsCandidateList list.now }
+    // A candidate's mark is true if the candidate may be selected.
     ensures eligible { IfOk result (λ marks. marks.eligible.items
         ≡ map (is_eligible world.now) (candidates_of_packages list.now.packages)) }
+    // A candidate's mark is true if world pins the candidate's name to its tag.
     ensures pinned { IfOk result (λ marks. marks.pinned.items
         ≡ map (is_pinned world.now) (candidates_of_packages list.now.packages)) }
     // The places of the candidates whose install-if can apply, in rising order.
@@ -81,7 +84,7 @@ fn entries_of_kind<'a>(
     Ok(deps)
 }
 
-// Adds an entry of world to a list if the entry is of a kind.
+// Appends an entry of world to a list if the entry is of this kind.
 fn push_if<'a>(deps: &mut Vec<Dep<'a>>, dep: Dep<'a>, kind: EntryKind) -> Result<(), AllocError>
     // The entry is appended if it is of this kind.
     ensures { OnOk result (map dependency deps.new.items ≡ map dependency deps.old.items
@@ -104,15 +107,18 @@ fn is_entry_of_kind(kind: EntryKind, dep: &Dep<'_>) -> bool
     }
 }
 
-// The places, rising, of the candidates that may be selected, by their marks in `eligible`, and
-// have an install-if that is not empty and has no conflict.
+// The places, in rising order, of the candidates that may be selected (their marks in `eligible`
+// are true), and have an install-if that is not empty and has no conflict.
 fn install_ifs_among(
     alloc: Global,
     packages: &Packages<'_>,
     eligible: &[bool],
 ) -> Result<Vec<CandId>, AllocError>
+    // Each place is a number of 32 bits, and there is one mark for each candidate.
     requires few { length (candidates_of_packages packages.now) < 2 ^ 32 }
     requires marked { length eligible.now ≡ length (candidates_of_packages packages.now) }
+    // The result has the places of the candidates whose mark is true, and whose install-if has an
+    // entry and no conflict.
     ensures { IfOk result (λ ids. ids.items
         ≡ places_marked_with_install_if 0 eligible.now
         (candidates_of_packages packages.now)) }
@@ -124,8 +130,8 @@ fn install_ifs_among(
     Ok(ids)
 }
 
-// Adds the place of a candidate that is marked as eligible, and has an install-if that is positive:
-// the install-if has entries, and none of them is a conflict.
+// Appends the place of a candidate if `is_marked` is true (it may be selected), and its install-if
+// has entries and no conflict.
 fn push_if_marked(
     ids: &mut Vec<CandId>,
     place: usize,
@@ -133,6 +139,7 @@ fn push_if_marked(
     one: &Details<'_>,
 ) -> Result<(), AllocError>
     requires { place < 2 ^ 32 }
+    // The place is appended if the mark is true, and the install-if has an entry and no conflict.
     ensures { OnOk result (ids.new.items ≡ ids.old.items
         ++ (if is_marked && has_positive_install_if one.now then place ∷ [] else [])) }
 {

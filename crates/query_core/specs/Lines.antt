@@ -10,7 +10,8 @@ use Rattle.query_core.specs.Order.{printed_version}
 use Rattle.query_core.specs.declared.candidates.LineForm.{LineForm}
 use Rattle.query_core.specs.declared.candidates.LineForm.TheVariants.{Full, Short}
 
--- what follows name and version in a line of `list`
+-- what follows name and version in a line of `list`: architecture, origin, license, and the mark of an installed
+-- package; an empty text is left out
 abbrev pub description_part : Candidate → List ℕ
 description_part c =
     text_between_unless_empty (codes " ") (text_in (entry_in c.info INFO_ARCH)) []
@@ -18,7 +19,7 @@ description_part c =
     ++ text_between_unless_empty (codes " (") (text_in (entry_in c.info INFO_LICENSE)) (codes ")")
     ++ installed_mark c.installed
 
--- the line of a candidate in a form
+-- the line of a candidate: that of `list` (`Full`), or that of `search` (`Short`)
 abbrev pub line_in_form : LineForm → Candidate → List ℕ
 line_in_form Full c = candidate_line c
 line_in_form Short c = search_line c.name (printed_version c.version)

@@ -1,4 +1,4 @@
--- The candidates that a query selects, in its order. The rule is in `docs/commands.md`, "Queries".
+-- The candidates that a query prints, in the order of queries. The rule is in `docs/commands.md`, "Queries".
 use Rattle.std.specs.Prelude.{ℕ, Bool, List, [], Option, unwrap_or, slice_get}
 use Rattle.std.specs.List.{filter_map}
 use Rattle.std.specs.Option.{option_cmp}
@@ -14,16 +14,16 @@ use Rattle.base_core.specs.Sorted.{sorted_by}
 abbrev pub printed_version : Option (List ℕ) → List ℕ
 printed_version version = unwrap_or version []
 
--- the order of two candidates: the byte-lesser name comes first, then the greater version, and of
--- equal versions the byte-lesser text
+-- the order of two candidates. The name that is less in byte order comes first, then the greater version. Of equal
+-- versions, the text that is less in byte order comes first
 abbrev pub name_and_version_cmp : Candidate → Candidate → Ordering
 name_and_version_cmp =
     then_cmp (on (λ (c : Candidate). c.name) bytes_cmp)
     (then_cmp (on (λ (c : Candidate). c.version) greater_version_first_cmp)
     (on (λ (c : Candidate). c.version) (option_cmp bytes_cmp)))
 
--- the order of two places in a list of candidates: by the candidates there, and else the earlier
--- place comes first
+-- the order of two places in a list of candidates: by the candidates at these places; if these are equal in order,
+-- the earlier place comes first
 abbrev pub candidate_places_cmp : List Candidate → ℕ → ℕ → Ordering
 candidate_places_cmp candidates =
     then_cmp (on (slice_get candidates) (option_cmp name_and_version_cmp)) nat_cmp

@@ -15,14 +15,14 @@ use Rattle.query_core.specs.Order.{printed_version, sorted_candidates_passing}
 abbrev pub has_own_name : List ℕ → Candidate → Bool
 has_own_name name c = bytes_eq name c.name
 
--- versions, of which those with one text are left once
+-- the versions, with each text only once: of versions with the same text, the last one is left
 abbrev pub versions_without_repeats : List (Option (List ℕ)) → List (Option (List ℕ))
 versions_without_repeats [] = []
 versions_without_repeats (version ∷ versions) =
     if list_any (is_same_version version) versions then versions_without_repeats versions
     else version ∷ versions_without_repeats versions
 
--- the versions of the candidates with a name, in the order of queries, each text once
+-- the versions of the candidates that have this name of their own, in the order of queries, each text once
 abbrev pub versions_of_name : List Candidate → List ℕ → List (Option (List ℕ))
 versions_of_name candidates name =
     versions_without_repeats
@@ -35,18 +35,20 @@ abbrev pub has_name_and_version : List ℕ → Option (List ℕ) → Candidate �
 has_name_and_version name version c =
     has_own_name name c && is_same_version version c.version
 
--- whether a candidate is of the repository with this number, counted from 1
+-- whether a candidate is from the repository with this number, counted from 1
 abbrev pub is_of_repository : ℕ → Candidate → Bool
 is_of_repository number c = option_map_or (λ repository. repository == number) c.repository false
 
--- the lines of repositories, the first of which has a number, that have one of these candidates
+-- the lines of those repositories that have one of these candidates; the first repository of the list has the number
+-- `number`
 abbrev pub lines_of_repositories_of_candidates : List Candidate → ℕ → List Repository → List ℕ
 lines_of_repositories_of_candidates candidates number [] = []
 lines_of_repositories_of_candidates candidates number (r ∷ repositories) =
     (if list_any (is_of_repository number) candidates then repository_line r.tag r.path else [])
     ++ lines_of_repositories_of_candidates candidates (number + 1) repositories
 
--- the lines on where these candidates are, which have one name and version
+-- the lines that say where these candidates are, which have one name and version. There is a line for the database if
+-- one of them is installed, and a line for each repository that has one
 abbrev pub policy_origin_lines : List Repository → List Candidate → List ℕ
 policy_origin_lines repositories candidates =
     (if list_any (λ (c : Candidate). c.installed) candidates then policy_database_line else [])
@@ -54,20 +56,20 @@ policy_origin_lines repositories candidates =
 
 -- ---- the report
 
--- what is printed of a version of a name
+-- what `policy` prints of one version of a name: its heading, and the lines that say where it is
 abbrev pub version_policy :
     List Candidate → List Repository → List ℕ → Option (List ℕ) → List ℕ
 version_policy candidates repositories name version =
     version_heading (printed_version version)
     ++ policy_origin_lines repositories (filter (has_name_and_version name version) candidates)
 
--- what is printed of a name
+-- what `policy` prints of a name: its heading, and each version of the candidates of this name
 abbrev pub name_policy : List Candidate → List Repository → List ℕ → List ℕ
 name_policy candidates repositories name =
     policy_heading name
     ++ flat_map (version_policy candidates repositories name) (versions_of_name candidates name)
 
--- what `policy` prints of candidates, by the names that are asked for, in the order given
+-- what `policy` prints for the names that are asked for, in the order given
 abbrev pub policy_report : List Candidate → List Repository → List Operand → List ℕ
 policy_report candidates repositories names =
     flat_map (λ (o : Operand). name_policy candidates repositories o.text) names

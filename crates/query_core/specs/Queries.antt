@@ -10,8 +10,8 @@ use Rattle.query_core.specs.List.{list_report}
 use Rattle.query_core.specs.Policy.{policy_report}
 use Rattle.query_core.specs.Search.{search_report}
 
--- what an applet prints of a pool and repositories, by its command; an applet that is no query
--- prints nothing
+-- what a query prints of a pool and of repositories, by its applet (`list`, `search` or `policy`); an applet that is
+-- no query prints nothing
 abbrev pub applet_query : Applet → CommandLine → SealedPool → List Repository → List ℕ
 applet_query ListApplet command pool repositories =
     list_report pool.candidates command.operands command.flags.installed
@@ -20,6 +20,6 @@ applet_query Policy command pool repositories =
     policy_report pool.candidates repositories command.operands
 applet_query applet command pool repositories = []
 
--- what a query prints of a pool and repositories
+-- what the query of a command line prints of a pool and of repositories
 unfoldable pub text_of_query : CommandLine → SealedPool → List Repository → List ℕ
 text_of_query command pool repositories = applet_query command.applet command pool repositories

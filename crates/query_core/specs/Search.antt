@@ -8,7 +8,7 @@ use Rattle.report_core.specs.QueryReports.{search_line}
 use Rattle.star_patterns.specs.Patterns.{matches_some_part}
 use Rattle.query_core.specs.Order.{printed_version, sorted_candidates_passing}
 
--- the names that a list of provides provides: those of its entries that are no conflicts
+-- the names that the entries of a list of provides give, without the entries that are conflicts
 abbrev pub provided_names : List Dependency → List (List ℕ)
 provided_names provides =
     map (λ (p : Dependency). p.name) (filter (λ (p : Dependency). not p.conflict) provides)
@@ -21,12 +21,12 @@ own_and_provided_names c = c.name ∷ provided_names c.provides
 abbrev pub is_part_of_name_matched : List Operand → List ℕ → Bool
 is_part_of_name_matched patterns name = list_any (λ (o : Operand). matches_some_part o.text name) patterns
 
--- whether `search` prints a candidate: it is of a repository, and one of its names is found
+-- whether `search` prints a candidate: it is from a repository, and a pattern matches some part of one of its names
 abbrev pub is_search_candidate : List Operand → Candidate → Bool
 is_search_candidate patterns c =
     is_some c.repository && list_any (is_part_of_name_matched patterns) (own_and_provided_names c)
 
--- what `search` prints of candidates, by its patterns
+-- what `search` prints: the lines of the candidates that the patterns find, in the order of queries
 abbrev pub search_report : List Candidate → List Operand → List ℕ
 search_report candidates patterns =
     flat_map (λ (c : Candidate). search_line c.name (printed_version c.version))

@@ -1,5 +1,5 @@
--- Where a version of a name is, gathered before it is printed.
--- No rule of a document: serves the contracts of `src/version_places.rt` and `src/policy_query.rt`.
+-- Where a version of a name is: computed before it is printed. No rule of a document: serves the contracts of
+-- `src/version_places.rt` and `src/policy_query.rt`.
 use Rattle.std.specs.Prelude.{◌≡◌, ◌≤◌, ◌-◌, ℕ, Bool, true, nat_lt, if◌then◌else◌, List, [], ◌∷◌, ◌++◌, Option, slice_get}
 use Rattle.std.specs.List.{filter, list_any}
 use Rattle.std.specs.Option.{option_map_or}
@@ -13,14 +13,15 @@ use Rattle.query_core.specs.Policy.{has_name_and_version, is_of_repository}
 -- A version of a name: whether a candidate with it is installed, and the numbers of the repositories that
 -- have such a candidate. No number is less than one before it.
 pub record VersionPlaces : Type 0 where
-  -- the text of the version, if it is one
+  -- the text of the version; None if there is no version
   pub version : Option (List ℕ)
   -- whether a candidate with this version is installed
   pub is_installed : Bool
-  -- the numbers of the repositories that have it, counted from 1, in rising order
+  -- the numbers of the repositories that have such a candidate, counted from 1; they are in rising order, and a
+  -- number may be repeated
   pub repositories : List ℕ
 
--- the places of a version by its parts
+-- a value of *VersionPlaces* from its parts
 abbrev pub version_places_from_parts : Option (List ℕ) → Bool → List ℕ → VersionPlaces
 version_places_from_parts version is_installed repositories =
     record { version = version; is_installed = is_installed; repositories = repositories }
@@ -36,8 +37,8 @@ repository_line_numbered repositories number =
     option_map_or (λ (r : Repository). repository_line r.tag r.path)
     (slice_get repositories (number - 1)) []
 
--- the lines of the repositories with these numbers. A number is skipped if it is not greater than
--- `last`, the greatest one before it
+-- the lines of the repositories with these numbers, which are in rising order. A number is skipped if it is not
+-- greater than `last`, the greatest number before it
 abbrev pub distinct_repository_lines : List Repository → ℕ → List ℕ → List ℕ
 distinct_repository_lines repositories last [] = []
 distinct_repository_lines repositories last (n ∷ numbers) =
@@ -45,16 +46,17 @@ distinct_repository_lines repositories last (n ∷ numbers) =
     ++ distinct_repository_lines repositories n numbers
     else distinct_repository_lines repositories last numbers
 
--- what is printed of a version
+-- what is printed of a version: its heading, a line for the database if it is installed, and a line for each of its
+-- repositories
 abbrev pub version_lines : List Repository → VersionPlaces → List ℕ
 version_lines repositories places =
     version_heading (printed_version places.version)
     ++ (if places.is_installed then policy_database_line else [])
     ++ distinct_repository_lines repositories 0 places.repositories
 
--- what is gathered of a version says where these candidates are
+-- `places` says rightly where these candidates, which have one version, are
 pub record ListsPlacesOf (candidates : List Candidate) (places : VersionPlaces) : Type 0 where
-  -- the mark says whether one of the candidates is installed
+  -- the field `is_installed` says whether one of the candidates is installed
   pub installed : list_any (λ (c : Candidate). c.installed) candidates ≡ places.is_installed
   -- no number of a repository is less than one before it
   pub order : AreNonDecreasing places.repositories
@@ -65,7 +67,7 @@ pub record ListsPlacesOf (candidates : List Candidate) (places : VersionPlaces) 
   pub all : (number : ℕ) → list_any (is_of_repository number) candidates ≡ true
       → IsIn number places.repositories
 
--- what is gathered of a version says where the candidates of a name with that version are
+-- `places` says rightly where the candidates with this name of their own and with its version are
 abbrev pub ListsPlacesOfVersion : List Candidate → List ℕ → VersionPlaces → Type 0
 ListsPlacesOfVersion candidates name places =
     ListsPlacesOf (filter (has_name_and_version name places.version) candidates) places

@@ -1,5 +1,6 @@
-//! The lines of candidates, one after another: what `list` and `search` print.
-//! The rules are in `docs/commands.md`, "`list`" and "`search`".
+//! The lines of candidates, one after another: what `list` and `search` print. `search_query` and
+//! `list_query` choose the candidates. The rules are in `docs/commands.md`, "`list`" and
+//! "`search`".
 ghost use Rattle.query_core.specs.Appends.{Appends};
 ghost use Rattle.query_core.specs.Lines.{description_part, line_in_form};
 ghost use Rattle.query_core.specs.Order.{printed_version, candidate_places_cmp};
@@ -16,10 +17,10 @@ use pool_core::{CandId, Details, RankedOption, Sealed};
 use std::alloc::{AllocError, Global};
 use version_core::Version;
 
-/// What is printed of a candidate.
+/// The form of the line of a candidate.
 #[derive(Clone, Copy)]
 pub(crate) enum LineForm {
-    /// The line of `list`.
+    /// The line of `list`, with architecture, origin, license and the mark of an installed package.
     Full,
     /// The line of `search`: name and version.
     Short,
@@ -36,7 +37,7 @@ pub(crate) fn place_of(number: usize) -> Result<CandId, AllocError>
     }
 }
 
-/// Adds a place if its candidate is selected.
+/// Appends a place to the list if `is_selected` is true: the query prints its candidate.
 pub(crate) fn push_if(
     places: &mut Vec<CandId>,
     place: CandId,
@@ -52,15 +53,16 @@ pub(crate) fn push_if(
 }
 
 /// The lines of the candidates at these places, in the order in which queries print candidates. The
-/// length of the report is counted before memory for it is asked for.
+/// length of the report is counted first, so that memory is asked for once.
 pub(crate) fn report(
     alloc: Global,
     pool: &Sealed<'_>,
     places: &[CandId],
     form: LineForm,
 ) -> Result<Text, AllocError>
+    // Each place is that of a candidate of the pool.
     requires { All (λ place. place < length pool.now.candidates) places.now }
-    // The lines of the candidates at these places, in the order of queries.
+    // The report has the lines of the candidates at these places, in the order of queries.
     ensures { IfOk result (λ report. report ≡ flat_map (line_in_form form)
         (filter_map (slice_get pool.now.candidates)
         (sorted_by (candidate_places_cmp pool.now.candidates) places.now))) }
@@ -76,14 +78,15 @@ pub(crate) fn report(
     Ok(Text::from_vec(report))
 }
 
-// Puts a line for the candidate of each ranking, in the order of the rankings. A ranking has the
-// keys by which a candidate is ordered, and the id of the candidate, whose number is its place.
+// Writes a line for the candidate of each ranking, in the order of the rankings. A ranking has the
+// keys by which a candidate is ordered, and the candidate's place.
 fn put_lines<O: ReportOut>(
     out: &mut O,
     pool: &Sealed<'_>,
     rankings: &[RankedOption<'_>],
     form: LineForm,
 ) -> Result<(), AllocError>
+    // Each ranking has the place of a candidate of the pool.
     requires { All (λ r. r.place < length pool.now.candidates) rankings.now }
     // The lines of the ranked candidates are appended to the output, in this order.
     ensures { OnOk result (Appends O.holds out.old out.new (flat_map (line_in_form form)
@@ -111,7 +114,7 @@ fn put_line<O: ReportOut>(
     out.put(b"\n")
 }
 
-// Writes name and version of a candidate to the output.
+// Writes name, `-` and version of a candidate to the output.
 fn put_name_version<O: ReportOut>(out: &mut O, details: &Details<'_>) -> Result<(), AllocError>
     ensures { OnOk result (Appends O.holds out.old out.new
         (name_dash_version details.now.name (printed_version details.now.version))) }
@@ -121,7 +124,7 @@ fn put_name_version<O: ReportOut>(out: &mut O, details: &Details<'_>) -> Result<
     out.put(printed_version(&details.version()))
 }
 
-/// The text of a version, as it is printed.
+/// The text of a version, as it is printed; empty if there is no version.
 pub(crate) fn printed_version<'a>(version: &Option<Version<'a>>) -> &'a [u8]
     ensures { result.now ≡ printed_version version.now }
 {
@@ -131,7 +134,8 @@ pub(crate) fn printed_version<'a>(version: &Option<Version<'a>>) -> &'a [u8]
     }
 }
 
-// Puts what follows name and version in a line of `list`.
+// Writes what follows name and version in a line of `list`: architecture, origin, license and the
+// mark of an installed package.
 fn put_description<O: ReportOut>(out: &mut O, details: &Details<'_>) -> Result<(), AllocError>
     ensures { OnOk result (Appends O.holds out.old out.new (description_part details.now)) }
 {
@@ -142,7 +146,7 @@ fn put_description<O: ReportOut>(out: &mut O, details: &Details<'_>) -> Result<(
     put_installed_mark(out, details.is_installed())
 }
 
-// Puts the mark of a package that is installed.
+// Writes the mark of an installed package, if the package is installed.
 fn put_installed_mark<O: ReportOut>(out: &mut O, is_installed: bool) -> Result<(), AllocError>
     ensures { OnOk result (Appends O.holds out.old out.new (installed_mark is_installed)) }
 {
@@ -152,7 +156,7 @@ fn put_installed_mark<O: ReportOut>(out: &mut O, is_installed: bool) -> Result<(
     out.put(b" [installed]")
 }
 
-// Puts a text between two others, and nothing if it is empty.
+// Writes a text between two others; writes nothing if the text is empty.
 fn put_between<O: ReportOut>(
     out: &mut O,
     before: &[u8],

@@ -1,5 +1,5 @@
-//! What the definitions of queries keep, each as the contract of a function that does nothing.
-//! The rules are in `docs/commands.md`, "`list`", "`search`" and "`policy`".
+//! Theorems about the definitions of queries, each proved as the contract of an empty function. The
+//! rules are in `docs/commands.md`, "`list`", "`search`" and "`policy`".
 ghost use Rattle.pool_core.specs.candidate_core.Candidates.{Candidate};
 ghost use Rattle.pool_core.specs.candidate_core.Options.{IsIn};
 ghost use Rattle.pool_core.specs.candidate_core.Rank.{UpgradedNames, bytes_cmp, greater_version_first_cmp, sealed_pool_from_parts};
@@ -28,22 +28,25 @@ use version_core::order_is_total;
 /// then the greater version, then the text of the version, then the place.
 pub fn the_order_of_queries_is_total()
     ensures total { (cs : List Candidate) → IsTotalOrder (candidate_places_cmp cs) }
+    // Two places that are equal in this order are the same place.
     ensures strict { (cs : List Candidate) (a b : ℕ) → candidate_places_cmp cs a b ≡ Equal → a ≡ b }
-    // The byte-lesser name comes first.
+    // The name that is less in byte order comes first.
     ensures name { (cs : List Candidate) (a b : ℕ) (x y : Candidate)
         → slice_get cs a ≡ Some x → slice_get cs b ≡ Some y
         → bytes_cmp x.name y.name ≡ Less → candidate_places_cmp cs a b ≡ Less }
-    // Of one name the greater version comes first.
+    // Of candidates with one name, the one with the greater version comes first.
     ensures version { (cs : List Candidate) (a b : ℕ) (x y : Candidate) (v w : List ℕ)
         → slice_get cs a ≡ Some x → slice_get cs b ≡ Some y → x.name ≡ y.name
         → x.version ≡ Some v → y.version ≡ Some w → version_cmp v w ≡ Greater
         → candidate_places_cmp cs a b ≡ Less }
-    // Of versions that are equal in order the byte-lesser text comes first.
+    // Of versions that are equal in the order of versions, the text that is less in byte order
+    // comes first.
     ensures text { (cs : List Candidate) (a b : ℕ) (x y : Candidate) (v w : List ℕ)
         → slice_get cs a ≡ Some x → slice_get cs b ≡ Some y → x.name ≡ y.name
         → x.version ≡ Some v → y.version ≡ Some w → version_cmp v w ≡ Equal
         → bytes_cmp v w ≡ Less → candidate_places_cmp cs a b ≡ Less }
-    // Of one name and version the earlier place comes first.
+    // Of candidates with one name and one text of a version, the one at the earlier place comes
+    // first.
     ensures place { (cs : List Candidate) (a b : ℕ) (x y : Candidate)
         → slice_get cs a ≡ Some x → slice_get cs b ≡ Some y → x.name ≡ y.name
         → x.version ≡ y.version → a < b → candidate_places_cmp cs a b ≡ Less }
@@ -52,7 +55,7 @@ pub fn the_order_of_queries_is_total()
     order_is_total();
 }
 
-/// A query selects just the candidates that pass its test, each once and in the order of queries.
+/// A query prints exactly the candidates that pass its test, each once and in the order of queries.
 pub fn a_query_selects_what_passes_its_test()
     // Each candidate that is printed passes the test.
     ensures those { (test : Candidate → Bool) (cs : List Candidate) (place : ℕ)
@@ -62,6 +65,7 @@ pub fn a_query_selects_what_passes_its_test()
     ensures each { (test : Candidate → Bool) (cs : List Candidate) (place : ℕ)
         → option_map_or test (slice_get cs place) false ≡ true →
         IsIn place (sorted_places_passing test cs) }
+    // The places are in the order of queries, and no place occurs twice.
     ensures order { (test : Candidate → Bool) (cs : List Candidate)
         → AreStrictlyInOrderBy (candidate_places_cmp cs) (sorted_places_passing test cs) }
 {
@@ -69,8 +73,9 @@ pub fn a_query_selects_what_passes_its_test()
     order_is_total();
 }
 
-/// `list` prints a candidate if no pattern is given, or the stars of one can be replaced by bytes
-/// so that it reads as the candidate's name; and, with `--installed`, if it is installed too.
+/// `list` prints a candidate if two conditions hold. No pattern is given, or the stars of a pattern
+/// can be replaced by bytes so that it reads as the candidate's name. With `--installed`, the
+/// candidate is installed.
 pub fn list_prints_what_is_asked_for()
     ensures { (patterns : List Operand) (installed_only : Bool) (c : Candidate)
         → (is_list_candidate patterns installed_only c ≡ true)
@@ -81,8 +86,9 @@ pub fn list_prints_what_is_asked_for()
     a_pattern_matches_what_its_stars_are_filled_to();
 }
 
-/// `search` prints a candidate if it is of a repository, and the stars of a pattern can be replaced
-/// by bytes so that it reads as a part of the candidate's name, or of a name that it provides.
+/// `search` prints a candidate if two conditions hold. The candidate is from a repository. The
+/// stars of a pattern can be replaced by bytes so that the pattern reads as a part of the
+/// candidate's name, or of a name that the candidate provides.
 pub fn search_prints_what_is_asked_for()
     ensures { (patterns : List Operand) (c : Candidate)
         → (is_search_candidate patterns c ≡ true)
@@ -94,8 +100,8 @@ pub fn search_prints_what_is_asked_for()
     a_pattern_matches_what_its_stars_are_filled_to();
 }
 
-/// `policy` prints just the versions of the candidates that have the name for their own, each once
-/// and in order, and of a name that none has its first line alone.
+/// `policy` prints exactly the versions of the candidates whose own name is the given one, each
+/// once and in order. If no candidate has the name, only the heading of the name is printed.
 pub fn policy_prints_each_version_once()
     // Each version that is printed is that of a candidate of this name.
     ensures those { (cs : List Candidate) (name : List ℕ) (version : Option (List ℕ))
@@ -103,7 +109,8 @@ pub fn policy_prints_each_version_once()
     // The version of each candidate of this name is printed.
     ensures each { (cs : List Candidate) (name : List ℕ) (version : Option (List ℕ))
         → IsVersionOfName cs name version → IsIn version (versions_of_name cs name) }
-    // The greater version comes first, and of equal ones the byte-lesser text.
+    // The greater version comes first, and of equal versions the one whose text is less in byte
+    // order.
     ensures order { (cs : List Candidate) (name : List ℕ)
         → AreStrictlyInOrderBy (then_cmp greater_version_first_cmp (option_cmp bytes_cmp))
         (versions_of_name cs name) }
@@ -116,8 +123,8 @@ pub fn policy_prints_each_version_once()
     order_is_total();
 }
 
-/// What a query prints does not depend on world, nor on what is upgraded: it speaks of all
-/// candidates, also of those that may not be selected.
+/// What a query prints does not depend on world, nor on the names to upgrade: a query is about all
+/// candidates, also about those that may not be selected.
 pub fn world_changes_no_query()
     ensures { (command : CommandLine) (cs : List Candidate) (repositories : List Repository)
         (one other : List Dependency) (upgraded others : UpgradedNames) →

@@ -1,8 +1,10 @@
-//! What the commands that ask of packages print: `list`, `search` and `policy` (apk(8)).
+//! What the commands that report on packages of the repositories and the database print: `list`,
+//! `search` and `policy` (apk(8)).
 //!
-//! They speak of all candidates of a pool, also of those that may not be selected, and print those
-//! that they select in one order. The contracts cite `Order`, `List`, `Search` and `Policy` of
-//! `specs/`. The rules are in `docs/commands.md`, "`list`", "`search`" and "`policy`".
+//! A query is about all candidates of a pool, also about those that may not be selected. Each query
+//! prints the candidates that pass its test, in one order, the order of queries. The contracts cite
+//! `Order`, `List`, `Search` and `Policy` of `specs/`. The rules are in `docs/commands.md`,
+//! "`list`", "`search`" and "`policy`".
 #![tactic(auto)]
 
 mod candidates;

@@ -9,8 +9,9 @@ use command_core::Operands;
 use pool_core::{CandId, Details, Sealed};
 use std::alloc::{AllocError, Global};
 
-/// What `list` prints: a line for each candidate whose name a pattern matches, of all candidates if
-/// no pattern is given, and of the installed ones alone if only these are asked for.
+/// What `list` prints: a line for each candidate whose name a pattern matches, or for all
+/// candidates if no pattern is given. With `installed_only`, candidates that are not installed have
+/// no line.
 ///
 /// # Errors
 ///
@@ -52,7 +53,8 @@ fn listed_places(
     Ok(places)
 }
 
-// Whether `list` prints a candidate.
+// Whether `list` prints a candidate: a pattern matches its name, or there is no pattern; and the
+// candidate is installed, or `installed_only` is false.
 fn is_list_candidate(details: &Details<'_>, patterns: &Operands, installed_only: bool) -> bool
     ensures { result ≡ is_list_candidate patterns.now installed_only details.now }
 {
@@ -65,7 +67,7 @@ fn is_list_candidate(details: &Details<'_>, patterns: &Operands, installed_only:
     is_name_matched(patterns, details.name())
 }
 
-// Whether one of the patterns matches a name.
+// Whether one of the patterns matches the whole name.
 fn is_name_matched(patterns: &Operands, name: &[u8]) -> bool
     ensures { result ≡ is_name_matched patterns.now name.now }
 {

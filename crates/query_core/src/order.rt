@@ -1,6 +1,6 @@
-//! The order in which a query prints what it selects: by name, then the greater version, then the
-//! text of the version, then the place in the list of candidates.
-//! The rule is in `docs/commands.md`, "Queries".
+//! The order in which a query prints candidates: by name, then the greater version, then the text
+//! of the version, then the place in the list of candidates. The rule is in `docs/commands.md`,
+//! "Queries".
 ghost use Rattle.pool_core.specs.candidate_core.declared.versions.VersionKind.TheVariants as Kinds;
 ghost use Rattle.pool_core.specs.candidate_core.Packages.{candidates_of_packages};
 ghost use Rattle.base_core.specs.Sorted.{sorted_by};
@@ -15,25 +15,27 @@ use pool_core::{
 use std::alloc::{AllocError, Global};
 use version_core::order_is_total;
 
-/// What candidates are ordered by, in the order of queries.
+/// Candidates in the order of queries, as the keys by which they were ordered.
 #[derive(Drop)]
 pub(crate) struct Ordered<'a> {
-    /// What each candidate is ordered by.
+    /// The keys of each candidate, with its place, in the order of queries.
     pub(crate) rankings: Vec<RankedOption<'a>>,
-    /// What their versions are compared by.
+    /// How the versions of these candidates are compared: by rank or by text.
     pub(crate) key: VersionKey,
 }
 
-/// Puts the candidates at some places into the order of queries. A long version that many
+/// Puts the candidates at these places into the order of queries. A long version that many
 /// candidates share is compared once.
 pub(crate) fn in_order<'a>(
     alloc: Global,
     pool: &Sealed<'a>,
     places: &[CandId],
 ) -> Result<Ordered<'a>, AllocError>
+    // Each place is that of a candidate of the pool.
     requires { All (λ place. place < length pool.now.candidates) places.now }
     ensures places { IfOk result (λ ordered. map (λ r. r.place) ordered.rankings.items
         ≡ sorted_by (candidate_places_cmp pool.now.candidates) places.now) }
+    // By this key, two candidates have one version exactly if their versions have the same text.
     ensures versions { IfOk result (λ ordered.
         AreInQueryOrder pool.now.candidates ordered.key ordered.rankings.items) }
 {
@@ -46,7 +48,7 @@ pub(crate) fn in_order<'a>(
     Ok(Ordered { rankings, key })
 }
 
-// What the candidates at some places are ordered by.
+// The keys of the candidates at these places, in the order of the places.
 fn rankings<'a>(
     alloc: Global,
     pool: &Sealed<'a>,
@@ -54,10 +56,13 @@ fn rankings<'a>(
     places: &[CandId],
 ) -> Result<Vec<RankedOption<'a>>, AllocError>
     requires within { All (λ place. place < length pool.now.candidates) places.now }
+    // The packages are those of the pool.
     requires own { candidates_of_packages packages.now ≡ pool.now.candidates }
+    // Each ranking has the keys of the candidate at its place.
     ensures each { IfOk result (λ rankings.
         All (IsQueryRanking pool.now.candidates) rankings.items) }
     ensures places { IfOk result (λ rankings. map (λ r. r.place) rankings.items ≡ places.now) }
+    // Versions that refer to the same text are equal.
     ensures under { IfOk result (λ rankings. HaveVersionsFromSameTexts Kinds.Under rankings.items) }
     ensures version { IfOk result (λ rankings. HaveVersionsFromSameTexts Kinds.Own rankings.items) }
 {
@@ -68,13 +73,15 @@ fn rankings<'a>(
     Ok(rankings)
 }
 
-// What the candidate at a place is ordered by: of the keys of options its name and its version
-// alone, and its place.
+// The keys of the candidate at a place. Queries order by name, version and place alone: so in all
+// other keys of options, all candidates have the same value.
 fn ranking<'a>(pool: &Sealed<'a>, packages: &Packages<'a>, id: CandId) -> RankedOption<'a>
     requires within { id < length pool.now.candidates }
+    // The packages are those of the pool.
     requires own { candidates_of_packages packages.now ≡ pool.now.candidates }
     ensures place { result.place ≡ id }
     ensures ranking { IsQueryRanking pool.now.candidates result }
+    // Both versions are the texts at the places that are stored with them.
     ensures texts { HasVersionTextsOfSources packages.now.sources.items result }
 {
     RankedOption {
@@ -91,7 +98,7 @@ fn ranking<'a>(pool: &Sealed<'a>, packages: &Packages<'a>, id: CandId) -> Ranked
     }
 }
 
-// A missing version, for a key in which all candidates are equal.
+// An absent version, for the key in which all candidates are equal in the order of queries.
 fn no_version<'a>() -> RankedVersion<'a>
     ensures { result.version ≡ None }
 {

@@ -15,8 +15,9 @@ use dep_core::Repos;
 use pool_core::Sealed;
 use std::alloc::{AllocError, Global};
 
-/// What `policy` prints: for each name the versions that candidates of that name have, the greater
-/// first, and under each whether one of them is installed, and which repositories have one.
+/// What `policy` prints. For each name it prints the versions of the candidates of this name, the
+/// greatest first. Under each version it prints whether a candidate with this version is installed,
+/// and which repositories have one.
 ///
 /// # Errors
 ///
@@ -38,7 +39,8 @@ pub fn policy(
     Ok(Text::from_vec(report))
 }
 
-// Adds what is printed of a name. Its length is counted before memory for it is asked for.
+// Appends what is printed of a name to the report. The length of this text is counted first, so
+// that memory for it is asked for once.
 fn add_name(
     alloc: Global,
     report: &mut Vec<u8>,
@@ -74,7 +76,8 @@ fn put_name<O: ReportOut>(
     Ok(())
 }
 
-// Writes what is printed of a version: its line, and a line for each place that has it.
+// Writes what is printed of a version: its heading, a line for the database if the version is
+// installed, and a line for each repository that has it.
 fn put_version<O: ReportOut>(
     out: &mut O,
     repositories: &Repos,
@@ -99,7 +102,7 @@ fn put_database<O: ReportOut>(out: &mut O, is_installed: bool) -> Result<(), All
     put_place(out, b"lib/apk/db/installed")
 }
 
-// Writes the line of a version, which is below the heading of the name.
+// Writes the heading of a version, which is printed below the heading of the name.
 fn put_version_heading<O: ReportOut>(out: &mut O, version: &[u8]) -> Result<(), AllocError>
     ensures { OnOk result (Appends O.holds out.old out.new (version_heading version.now)) }
 {
@@ -108,8 +111,8 @@ fn put_version_heading<O: ReportOut>(out: &mut O, version: &[u8]) -> Result<(), 
     out.put(b":\n")
 }
 
-// Writes a line for each of these repositories, by their numbers, and none twice. Equal numbers are
-// side by side, and only the first of them has a line.
+// Writes one line for each of these repositories, which are given by their numbers. Equal numbers
+// are adjacent, and only the first of them has a line.
 fn put_repositories<O: ReportOut>(
     out: &mut O,
     repositories: &Repos,
@@ -118,6 +121,7 @@ fn put_repositories<O: ReportOut>(
     ensures { OnOk result (Appends O.holds out.old out.new
         (distinct_repository_lines repositories.now 0 numbers.now)) }
 {
+    // The greatest number so far; 0 is the number of no repository.
     let mut last = 0;
     for i in 0..numbers.len() {
         last = put_greater(out, repositories, last, numbers[i])?;
@@ -125,8 +129,8 @@ fn put_repositories<O: ReportOut>(
     Ok(())
 }
 
-// Writes the line of the repository with a number, if the number is greater than the last one that
-// was written. Returns the greater of the two.
+// Writes the line of the repository `number` if this number is greater than `last`, the greatest
+// number before it. Returns the greater of the two numbers.
 fn put_greater<O: ReportOut>(
     out: &mut O,
     repositories: &Repos,
@@ -134,6 +138,7 @@ fn put_greater<O: ReportOut>(
     number: u64,
 ) -> Result<u64, AllocError>
     ensures last { IfOk result (λ now. now ≡ (if nat_lt last number then number else last)) }
+    // The line is written if the number is greater than `last`.
     ensures put { OnOk result (Appends O.holds out.old out.new
         (if nat_lt last number then repository_line_numbered repositories.now number else [])) }
 {
@@ -144,7 +149,8 @@ fn put_greater<O: ReportOut>(
     Ok(last)
 }
 
-// Writes the line of the repository with a number, counted from 1, if the list has it.
+// Writes the line of the repository with a number, counted from 1; nothing if there is no such
+// repository.
 fn put_numbered<O: ReportOut>(
     out: &mut O,
     repositories: &Repos,
@@ -165,7 +171,7 @@ fn put_numbered<O: ReportOut>(
     )
 }
 
-// Puts the line of a repository.
+// Writes the line of a repository: its tag, if it has one, and its path.
 fn put_repository<O: ReportOut>(
     out: &mut O,
     tag: Option<&[u8]>,
@@ -192,7 +198,8 @@ fn put_tagged<O: ReportOut>(out: &mut O, tag: &[u8], path: &[u8]) -> Result<(), 
     out.put(b"\n")
 }
 
-// Writes a line that says where a version is.
+// Writes an indented line that says where a version is: in the database, or in a repository without
+// tag.
 fn put_place<O: ReportOut>(out: &mut O, text: &[u8]) -> Result<(), AllocError>
     ensures { OnOk result (Appends O.holds out.old out.new
         (indented_policy_line text.now)) }

@@ -13,8 +13,8 @@ use dep_core::Dep;
 use pool_core::{CandId, Deps, Details, Sealed};
 use std::alloc::{AllocError, Global};
 
-/// What `search` prints: a line for each candidate of a repository of which a pattern matches some
-/// part of its name, or of a name that it provides.
+/// What `search` prints: a line for each candidate that is from a repository, if a pattern matches
+/// some part of its own name, or of a name that it provides.
 ///
 /// # Errors
 ///
@@ -45,7 +45,8 @@ fn found_places(
     Ok(places)
 }
 
-// Whether `search` prints a candidate.
+// Whether `search` prints a candidate: it is from a repository, and a pattern matches some part of
+// one of its names.
 fn is_search_candidate(details: &Details<'_>, patterns: &Operands) -> bool
     ensures { result ≡ is_search_candidate patterns.now details.now }
 {
@@ -58,7 +59,7 @@ fn is_search_candidate(details: &Details<'_>, patterns: &Operands) -> bool
     is_provided_name_found(patterns, &details.provides())
 }
 
-// Whether one of the patterns matches some part of a name that is provided.
+// Whether one of the patterns matches some part of a name that these entries of provides have.
 fn is_provided_name_found(patterns: &Operands, provides: &Deps<'_>) -> bool
     ensures { result ≡ list_any (is_part_of_name_matched patterns.now)
         (provided_names provides.now) }

@@ -1,6 +1,6 @@
-//! The versions of the candidates of a name, and where each of them is: whether it is installed,
-//! and which repositories have it.
-//! The rule is in `docs/commands.md`, "`policy`".
+//! The versions of the candidates of a name, and where each version is: whether it is installed,
+//! and which repositories have it. `policy_query` prints them. The rule is in `docs/commands.md`,
+//! "`policy`".
 ghost use Rattle.pool_core.specs.candidate_core.Candidates.{Candidate, is_same_version};
 ghost use Rattle.pool_core.specs.candidate_core.Options.{places_passing_from};
 ghost use Rattle.pool_core.specs.candidate_core.Rank.{candidate_at_passes};
@@ -19,15 +19,15 @@ use std::alloc::{AllocError, Global};
 use std::marker::Model;
 use version_core::{Version, order_is_total};
 
-/// A version of a name, and where it is.
+/// A version of the candidates of a name, and where such candidates are.
 #[derive(Drop)]
 pub(crate) struct PlacedVersion<'a> {
-    /// The version.
+    /// The version; None if its text is no version, which no tested container has.
     pub(crate) version: Option<Version<'a>>,
     /// Whether a candidate with this version is installed.
     pub(crate) is_installed: bool,
-    /// The numbers of the repositories with such a candidate, counted from 1. No number is less
-    /// than one before it.
+    /// The numbers of the repositories that have a candidate with this version, counted from 1.
+    /// They are in rising order, and a number may be repeated.
     pub(crate) repositories: Vec<u64>,
 }
 
@@ -36,19 +36,22 @@ impl<'a> Model for PlacedVersion<'a> {
 
     ghost Value = { VersionPlaces };
 
+    // The value has the version and where it is.
     ghost view = { λ v. version_places_from_parts v.version v.is_installed v.repositories.items };
 }
 
-/// The versions of the candidates with a name, the greatest first and each text once; and for each
-/// whether it is installed, and which repositories have it. The order is that of
-/// `docs/commands.md`, "Queries".
+/// The versions of the candidates of a name, the greatest first and each text once, with whether it
+/// is installed and which repositories have it. The order is that of `docs/commands.md`, "Queries".
 pub(crate) fn placed_versions<'a>(
     alloc: Global,
     pool: &Sealed<'a>,
     name: &[u8],
 ) -> Result<Vec<PlacedVersion<'a>>, AllocError>
+    // The versions are those of the candidates of this name, in the order of queries, each text
+    // once.
     ensures versions { IfOk result (λ versions. map (λ v. v.version) versions.items
         ≡ versions_of_name pool.now.candidates name.now) }
+    // Each says rightly where the candidates of this name with its version are.
     ensures places { IfOk result (λ versions.
         All (ListsPlacesOfVersion pool.now.candidates name.now) versions.items) }
 {
@@ -67,7 +70,7 @@ fn named_places(alloc: Global, pool: &Sealed<'_>, name: &[u8]) -> Result<Vec<Can
     Ok(places)
 }
 
-// Of these places, those whose candidates have the name as their own.
+// Those of the places `offers` whose candidates have the name as their own.
 fn named_among(
     alloc: Global,
     pool: &Sealed<'_>,
@@ -95,20 +98,26 @@ fn is_named_at(pool: &Sealed<'_>, place: CandId, name: &[u8]) -> bool
     }
 }
 
-// The versions of candidates in the order of queries, each once, and where each of them is. Those
-// with one version are side by side.
+// The versions of these candidates, which are in the order of queries, each once and with where it
+// is. Candidates with one version are adjacent.
 fn grouped<'a>(
     alloc: Global,
     pool: &Sealed<'a>,
     name: &[u8],
     ordered: &Ordered<'a>,
 ) -> Result<Vec<PlacedVersion<'a>>, AllocError>
+    // The rankings are those of all candidates with this name of their own, in the order of
+    // queries.
     requires places { map (λ r. r.place) ordered.now.rankings.items
         ≡ sorted_places_passing (has_own_name name.now) pool.now.candidates }
+    // By the key, two candidates have one version exactly if their versions have the same text.
     requires versions { AreInQueryOrder pool.now.candidates ordered.now.key
         ordered.now.rankings.items }
+    // The versions are those of the candidates of this name, in the order of queries, each text
+    // once.
     ensures versions { IfOk result (λ versions. map (λ v. v.version) versions.items
         ≡ versions_of_name pool.now.candidates name.now) }
+    // Each says rightly where the candidates of this name with its version are.
     ensures places { IfOk result (λ versions.
         All (ListsPlacesOfVersion pool.now.candidates name.now) versions.items) }
 {
@@ -116,6 +125,7 @@ fn grouped<'a>(
     order_is_total();
     let rankings = ordered.rankings.as_slice();
     let mut versions = Vec::new(alloc);
+    // The candidates from `start` to `end` have one version.
     let mut start = 0;
     while start < rankings.len() {
         let end = end_of_version(rankings, ordered.key, start);
@@ -125,8 +135,8 @@ fn grouped<'a>(
     Ok(versions)
 }
 
-// The first index after `start` at which the version is not that at `start`; the length of the list
-// if there is none.
+// The first index after `start` at which the version is not equal to that at `start`; the length of
+// the list if there is no such index.
 fn end_of_version(rankings: &[RankedOption<'_>], key: VersionKey, start: usize) -> usize
     requires { start < length rankings.now }
     ensures after { start < result }
@@ -135,6 +145,7 @@ fn end_of_version(rankings: &[RankedOption<'_>], key: VersionKey, start: usize) 
     ensures one { (i : ℕ) (a b : Ranking) → start ≤ i → i < result
         → slice_get rankings.now start ≡ Some a → slice_get rankings.now i ≡ Some b
         → have_same_version key a b ≡ true }
+    // At the result, if the list does not end there, the version is another one.
     ensures other { (a b : Ranking) → slice_get rankings.now start ≡ Some a
         → slice_get rankings.now result ≡ Some b → have_same_version key a b ≡ false }
 {
@@ -146,7 +157,7 @@ fn end_of_version(rankings: &[RankedOption<'_>], key: VersionKey, start: usize) 
     rankings.len()
 }
 
-// Whether two candidates have the same version.
+// Whether two candidates have the same version, by rank or by text as `key` says.
 fn have_same_version(one: &RankedOption<'_>, other: &RankedOption<'_>, key: VersionKey) -> bool
     ensures { result ≡ have_same_version key one.now other.now }
 {
@@ -168,19 +179,21 @@ fn is_same_version(one: &Option<Version<'_>>, other: &Option<Version<'_>>) -> bo
     }
 }
 
-// The version that all these candidates have, and the places at which they are: the database and
-// repositories.
+// The version that all these candidates have, and where they are: whether one is installed, and
+// which repositories have one.
 fn placed_version<'a>(
     alloc: Global,
     pool: &Sealed<'a>,
     rankings: &[RankedOption<'a>],
 ) -> Result<PlacedVersion<'a>, AllocError>
+    // There is a candidate, and each ranking has the place of a candidate of the pool.
     requires some { 0 < length rankings.now }
     requires within { All (λ r. r.place < length pool.now.candidates) rankings.now }
     // The version is that of the first of these candidates.
     ensures version { IfOk result (λ placed. (c : Candidate)
         → slice_get (filter_map (λ r. slice_get pool.now.candidates r.place) rankings.now) 0
         ≡ Some c → placed.version ≡ c.version) }
+    // The result says rightly where these candidates are.
     ensures places { IfOk result (λ placed. ListsPlacesOf
         (filter_map (λ r. slice_get pool.now.candidates r.place) rankings.now) placed) }
 {
@@ -201,7 +214,7 @@ fn placed_version<'a>(
     })
 }
 
-// Adds the number of a repository, if there is one.
+// Appends the number of a repository, if there is one.
 fn push_repository(repositories: &mut Vec<u64>, repository: Option<u64>) -> Result<(), AllocError>
     ensures { OnOk result
         (repositories.new.items ≡ repositories.old.items ++ option_to_list repository) }

@@ -12,7 +12,7 @@ use Rattle.search_tables.specs.declared.queue.Checkpoint.{Checkpoint}
 use Rattle.search_tables.specs.Reasons.{FrameValue, AreCompatible, AreTurnsFrom, choices_of_turns}
 use Rattle.search_choices.specs.declared.choices.Choices.{Choices}
 
--- the pool in which some choices are made
+-- the pool of whose candidates some choices are made
 abbrev pub pool_of : Choices → SealedPool
 pool_of chosen = chosen.pool.now
 
@@ -24,8 +24,8 @@ choices_of chosen = chosen.choices
 abbrev pub install_ifs_of : Choices → List ℕ
 install_ifs_of chosen = chosen.install_ifs.by_name.items
 
--- after the choices `u`: the checkpoints have the state of the queue and the cursors before each
--- further choice
+-- further choices `cs` were made after the choices `u`. For each of them, in order, the list has a checkpoint: the
+-- length of the queue, and the two cursors, before that choice
 abbrev pub AreCheckpointsOfLaterChoices : SealedPool → List ℕ → List ℕ → List ℕ → List Checkpoint → Type 0
 AreCheckpointsOfLaterChoices pool install_ifs u [] [] = Unit {0}
 AreCheckpointsOfLaterChoices pool install_ifs u [] (b ∷ bs) = ⊥
@@ -35,11 +35,11 @@ AreCheckpointsOfLaterChoices pool install_ifs u (c ∷ cs) (b ∷ bs) =
     × AreNoneTriggeredBelow pool u install_ifs b.asking_cursor
     × AreCheckpointsOfLaterChoices pool install_ifs (u ++ c ∷ []) cs bs
 
--- the queue is that of the choices. Every dependency before its cursor is met, and no candidate before
--- the cursor of the install-ifs is triggered. The conflicts of the choices are listed, each at its index,
--- and each choice can be taken back to its checkpoint
+-- the queue is that of the choices. Every dependency before its cursor is met, and no candidate before the cursor of
+-- the install-ifs is triggered. The table has the conflicts of the choices, each with its index. For each choice
+-- there is a checkpoint, to which `pop` can return
 pub record IsConsistent (chosen : Choices) : Type 0 where
-  -- each choice is a place in the list of candidates
+  -- each choice is a place in the pool's list of candidates
   pub within : (c : ℕ) → IsIn c (choices_of chosen) → c < length (pool_of chosen).candidates
   -- the queue has the dependencies that world and the choices raise, in order
   pub queue : chosen.queue.items ≡ queue_of (pool_of chosen) (choices_of chosen)
@@ -56,14 +56,15 @@ pub record IsConsistent (chosen : Choices) : Type 0 where
   pub listed : IsConflictTable (pool_of chosen) (choices_of chosen) chosen.conflicts
   -- each entry of the table is a conflict of a candidate of the pool
   pub conflicts : AreConflictsOf (pool_of chosen).candidates chosen.conflicts.by_name
-  -- each checkpoint has the state before its choice
+  -- each choice has a checkpoint with the state before this choice
   pub checkpoints :
       AreCheckpointsOfLaterChoices (pool_of chosen) (install_ifs_of chosen) [] (choices_of chosen)
       chosen.checkpoints.items
 
--- the choices are compatible, and the turns are theirs: each was taken from the frame of its need
+-- the choices are compatible, and each was made at one of the turns: it was taken from the frame of the need that was
+-- next
 pub record IsSearch (chosen : Choices) (turns : List (FrameValue × ℕ)) : Type 0 where
-  -- the state of the choices is right
+  -- the queue, the cursors and the tables are those of the choices
   pub consistent : IsConsistent chosen
   -- each choice belongs to one turn, in the same order
   pub choices : choices_of chosen ≡ choices_of_turns turns

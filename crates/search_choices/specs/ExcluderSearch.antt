@@ -19,15 +19,15 @@ pub record HasConflictsOfChoices (chosen : Choices) : Type 0 where
   -- each entry of the table is a conflict of a candidate of the pool
   pub conflicts : AreConflictsOf (pool_of chosen).candidates chosen.conflicts.by_name
 
--- the pool has this candidate at the place, and it is no choice
+-- the pool has the candidate `details` at the place `id`, and this place is that of no choice
 pub record IsUnchosenCandidate (chosen : Choices) (id : ℕ) (details : Candidate) : Type 0 where
   -- the pool has this candidate at the place
   pub here : candidate_at (pool_of chosen) id ≡ Some details
   -- the place is that of no choice
   pub once : IsIn id (choices_of chosen) → ⊥
 
--- Unless memory runs out, a choice is found that excludes the candidate at the place, or none is and
--- `IfNone` holds. The remembered results are right afterwards.
+-- Unless memory runs out, the call finds a choice that excludes the candidate at the place `id`, or it finds none and
+-- *IfNone* holds. The results `remembered` after the call are right.
 pub record FindsExcluder (chosen : Choices) (id : ℕ) (IfNone : Type 0) (remembered : PackageMatches)
     (result : Result (Option ℕ) AllocError) : Type 0 where
   -- the call finds a choice that excludes the candidate, or it finds none and `IfNone` holds

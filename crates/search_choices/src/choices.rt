@@ -1,6 +1,6 @@
-//! The choices so far, the needs that they raise, and the first need that none of them meets. The
+//! The choices so far, the needs that they raise, and the first need that no choice meets. The
 //! rules are in `docs/selection.md`: "Which selection is taken" (the order in which needs are met),
-//! and "What satisfies world", 4 (install-if).
+//! and "What satisfies world", 4 (install-if). `solve_core` makes the choices and takes them back.
 ghost use Rattle.std.specs.Prelude.{◌≡◌, ◌≤◌, ℕ, List, [], ◌∷◌, ◌++◌, ◌<◌, ◌^◌, length, IfSome, false, true, IfOk, OnOk, MatchOption, MatchBool, None, Some, ◌+◌, option_copied, slice_get, option_to_list};
 ghost use Rattle.std.specs.List.{find};
 ghost use Rattle.dep_core.specs.Dependency.{Dependency};
@@ -33,30 +33,31 @@ use std::marker::Model;
 /// The state of the choices:
 ///
 /// - the choices so far;
-/// - the queue of the dependencies that they and world raise, and a cursor; every dependency before
-///   it is met;
-/// - the install-ifs in byte order of names, and a cursor; none before it triggers its candidate;
+/// - the queue of the dependencies that world and the choices raise, and a cursor: every dependency
+///   before this cursor is met;
+/// - the install-ifs in byte order of names, and a cursor: no install-if before this cursor triggers
+///   its candidate;
 /// - the conflicts of the choices;
-/// - for each choice, the state of the queue and the cursors before it.
+/// - for each choice, the state of the queue and of the two cursors before this choice.
 #[derive(Drop)]
 pub struct Choices<'p> {
     /// The allocator.
     alloc: Global,
-    /// The candidates, under their world.
+    /// The pool: the candidates, and the world that they were sealed with.
     pool: &'p Sealed<'p>,
     /// The choices, in the order chosen.
     choices: CandidateSet,
     /// The dependencies that world and the choices raise, in the order in which they are to be met.
     queue: Vec<RaisedDep<'p>>,
-    /// How many dependencies at the start of the queue are known to be met.
+    /// The cursor of the queue: how many dependencies at its start are known to be met.
     cursor: usize,
     /// The candidates whose install-if can apply, in byte order of their names.
     install_ifs: InstallIfs<'p>,
     /// How many install-ifs at the start of the list are known not to trigger their candidates.
     asking_cursor: usize,
-    /// The conflicts of the choices, by their names.
+    /// The conflicts of the choices, under their names.
     conflicts: Conflicts<'p>,
-    /// The state of the queue and the cursors before each choice.
+    /// For each choice, the state of the queue and of the two cursors before it.
     checkpoints: Vec<Checkpoint>,
 }
 
@@ -75,6 +76,7 @@ impl<'p> Choices<'p> {
         let mut queue = Vec::new(alloc);
         queue_world(&mut queue, world)?;
         let install_ifs = InstallIfs::new(alloc, pool)?;
+        // Without choices, nothing is known to be met: both cursors are at the start.
         Ok(Choices {
             alloc,
             pool,
@@ -97,7 +99,7 @@ impl<'p> Choices<'p> {
         self.choices.has(id)
     }
 
-    /// Makes a choice. After an error the choices may only be dropped.
+    /// Makes a candidate the latest choice. After an error the choices may only be dropped.
     pub fn push(&mut self, id: CandId) -> Result<(), AllocError>
         requires consistent { IsConsistent self.old }
         requires within { id < length (pool_of self.old).candidates }
@@ -107,6 +109,7 @@ impl<'p> Choices<'p> {
         ensures pool { pool_of self.new ≡ pool_of self.old }
         ensures choices { OnOk result (choices_of self.new ≡ choices_of self.old ++ id ∷ []) }
     {
+        // To this state `pop` returns.
         let before = Checkpoint {
             queue_len: self.queue.len(),
             cursor: self.cursor,
@@ -118,8 +121,8 @@ impl<'p> Choices<'p> {
         self.conflicts.add(&depends, id)?;
         self.checkpoints.push(before)?;
         self.choices.push(id)?;
-        // Only the install-if of a candidate that waits for a name of the new choice may begin to
-        // apply.
+        // The new choice can trigger only an install-if that has an entry of a name that this
+        // choice offers.
         self.asking_cursor = self.least_rank_asking(&details);
         Ok(())
     }
@@ -129,6 +132,7 @@ impl<'p> Choices<'p> {
         requires { IsConsistent self.old }
         ensures consistent { IsConsistent self.new }
         ensures pool { pool_of self.new ≡ pool_of self.old }
+        // The latest choice is removed; the others stay in their order.
         ensures choices { (rest : List ℕ) (last : ℕ) → choices_of self.old ≡ rest ++ last ∷ [] →
             choices_of self.new ≡ rest }
     {
@@ -143,15 +147,15 @@ impl<'p> Choices<'p> {
         }
     }
 
-    // Takes the conflicts of the latest choice out of the list of conflicts.
+    // Removes the conflicts of the latest choice from the table of conflicts.
     fn take_conflicts_away(&mut self)
         requires { IsConflictTable (pool_of self.old) (choices_of self.old) self.old.conflicts }
-        // Only the field `conflicts` changes.
+        // Only the table, the field `conflicts`, changes.
         ensures others { self.new ≡ record self.old { conflicts = self.new.conflicts } }
-        // The field then lists the conflicts of the choices except the latest one.
+        // The table then has the conflicts of the choices except the latest one.
         ensures listed { (rest : List ℕ) (last : ℕ) → choices_of self.old ≡ rest ++ last ∷ [] →
             IsConflictTable (pool_of self.old) rest self.new.conflicts }
-        // If each entry of the field was a conflict of these candidates, it still is.
+        // If each entry of the table was a conflict of one of these candidates, it still is.
         ensures conflicts { (candidates : List Candidate)
             → AreConflictsOf candidates self.old.conflicts.by_name
             → AreConflictsOf candidates self.new.conflicts.by_name }
@@ -163,8 +167,8 @@ impl<'p> Choices<'p> {
         }
     }
 
-    /// The frame of the first need that no choice meets; None if each need is met. The call only
-    /// moves the cursors. Results for long versions are remembered.
+    /// The frame of the first need that no choice meets; None if each need is met. Of the state of
+    /// the choices, only the cursors change. Results for long versions are remembered.
     pub fn next_frame(
         &mut self,
         matches: &mut PackageMatches<'_>,
@@ -174,8 +178,8 @@ impl<'p> Choices<'p> {
         ensures consistent { IsConsistent self.new }
         ensures pool { pool_of self.new ≡ pool_of self.old }
         ensures choices { choices_of self.new ≡ choices_of self.old }
-        // The options that are left are fewer than the base of the measure's digits (*base* of
-        // `Measure`).
+        // The frame has fewer than 2^64 options left, so that their number is a digit of the
+        // measure of the search (*base* of `Measure` in `solve_core`).
         ensures few { IfOk result (λ found. IfSome found (λ frame. length frame.1 < 2 ^ 64)) }
         // None: no need is left. Otherwise: the frame of the next need.
         ensures frame { IfOk result (λ found. MatchOption found (next_need (pool_of self.old)
@@ -184,6 +188,7 @@ impl<'p> Choices<'p> {
         ensures matches { OnOk result (AreMatchesAmong (pool_of self.old).candidates matches.new) }
     {
         self.skip_met(matches)?;
+        // Dependencies come first; names by install-if only if each dependency is met.
         match self.front() {
             Some(raised) => {
                 let frame = frame_of(self.alloc, self.pool, raised)?;
@@ -204,8 +209,8 @@ impl<'p> Choices<'p> {
         ensures consistent { IsConsistent self.new }
         ensures pool { pool_of self.new ≡ pool_of self.old }
         ensures choices { choices_of self.new ≡ choices_of self.old }
-        // The entry of the queue at the cursor is then the first dependency in it that no choice
-        // meets.
+        // At the cursor of the queue there is then the first dependency that no choice meets, if
+        // there is one.
         ensures front { OnOk result (slice_get self.new.queue.items self.new.cursor
             ≡ find (is_unmet_dep (pool_of self.old) (choices_of self.old)) (queue_of
             (pool_of self.old) (choices_of self.old))) }
@@ -237,17 +242,19 @@ impl<'p> Choices<'p> {
         }
     }
 
-    // Whether a choice meets a raised dependency. Comparisons with a long version are remembered,
-    // unless the dependency is an entry of world.
+    // Whether a choice meets a raised dependency. Results for long versions are remembered, unless
+    // the dependency is an entry of world.
     fn is_raised_met(
         &self,
         raised: &RaisedDep<'p>,
         matches: &mut PackageMatches<'_>,
     ) -> Result<bool, AllocError>
-        // If a choice raised it, it is the entry of this choice's `depends` at the stored index.
+        // If a choice raised the dependency, it is the entry of this choice's `depends` at the
+        // stored index.
         requires raised { (c : ℕ) → raised.now.1 ≡ Some c →
             slice_get (depends_at (pool_of self.now) c) raised.now.2 ≡ Some raised.now.0 }
         requires matches { AreMatchesAmong (pool_of self.now).candidates matches.old }
+        // The answer is whether a choice meets the dependency.
         ensures met { IfOk result (λ met. met
             ≡ is_met (pool_of self.now) (choices_of self.now) (entry raised.now.0)) }
         ensures matches { OnOk result (AreMatchesAmong (pool_of self.now).candidates matches.new) }
@@ -276,16 +283,17 @@ impl<'p> Choices<'p> {
         self.queue.get(self.cursor)
     }
 
-    // The frame of a name whose install-if applies and that no choice has: the first such name in
-    // byte order. The call requires that each raised dependency is met.
+    // The frame of the least name, in byte order, whose install-if applies and that no choice has;
+    // None if there is no such name. Each raised dependency must be met before the call.
     fn frame_asked(&mut self) -> Result<Option<Frame>, AllocError>
         requires consistent { IsConsistent self.old }
+        // Each raised dependency is met.
         requires met { find (is_unmet_dep (pool_of self.old) (choices_of self.old)) (queue_of
             (pool_of self.old) (choices_of self.old)) ≡ None }
         ensures consistent { IsConsistent self.new }
         ensures pool { pool_of self.new ≡ pool_of self.old }
         ensures choices { choices_of self.new ≡ choices_of self.old }
-        // As in `next_frame`: fewer options are left than the base of the measure's digits.
+        // As in `next_frame`: the number of options that are left is a digit of the measure.
         ensures few { IfOk result (λ found. IfSome found (λ frame. length frame.1 < 2 ^ 64)) }
         // None: no need is left. Otherwise: the frame of the next need.
         ensures frame { IfOk result (λ found. MatchOption found (next_need (pool_of self.old)
@@ -302,14 +310,14 @@ impl<'p> Choices<'p> {
         }
     }
 
-    // Moves the cursor of the install-ifs to the first triggered candidate, or to the end.
+    // Moves the cursor of the install-ifs to the first candidate that is triggered, or to the end.
     fn skip_unasked(&mut self)
         requires { IsConsistent self.old }
         ensures consistent { IsConsistent self.new }
         ensures pool { pool_of self.new ≡ pool_of self.old }
         ensures choices { choices_of self.new ≡ choices_of self.old }
-        // At the cursor there is then the first candidate that is triggered. If the list ends
-        // there, none is.
+        // At the cursor there is then the first candidate that is triggered, which has the least
+        // name. If the list ends there, no candidate is triggered.
         ensures first { MatchOption (slice_get (install_ifs_of self.new) self.new.asking_cursor)
             (IsNoInstallIfTriggered (pool_of self.old) (choices_of self.old))
             (λ id. IsLeastTriggeredInstallIf (pool_of self.old) (choices_of self.old) id) }
@@ -338,15 +346,17 @@ impl<'p> Choices<'p> {
         }
     }
 
-    // The frame of the name of a triggered candidate, which is the byte-least such name. The call
-    // requires that each raised dependency is met. The choices that meet the entries of the
-    // install-if raise the need.
+    // The frame of the name of the candidate `id`, which is triggered and has the least name of all
+    // triggered candidates. Each raised dependency must be met. The choices that meet the entries
+    // of the install-if raise the need.
     fn frame_named(&self, id: CandId) -> Result<Frame, AllocError>
+        // Each raised dependency is met.
         requires met { find (is_unmet_dep (pool_of self.now) (choices_of self.now)) (queue_of
             (pool_of self.now) (choices_of self.now)) ≡ None }
         requires least { IsLeastTriggeredInstallIf (pool_of self.now) (choices_of self.now) id }
-        // As in `next_frame`: fewer options are left than the base of the measure's digits.
+        // As in `next_frame`: the number of options that are left is a digit of the measure.
         ensures few { IfOk result (λ frame. length frame.1 < 2 ^ 64) }
+        // The frame is that of the next need.
         ensures frame { IfOk result (λ frame. IsFrameOf (pool_of self.now)
             (choices_of self.now) frame) }
     {
@@ -358,8 +368,8 @@ impl<'p> Choices<'p> {
         Ok(Frame::new(self.alloc, options.into_ids(), by))
     }
 
-    // Whether the install-if at an index (its rank) in the list of install-ifs triggers its
-    // candidate; false if the list has no such index.
+    // Whether the candidate with a rank, which is its index in the list of install-ifs, is
+    // triggered by its install-if; false if the list has no such index.
     fn is_install_if_triggered_at_rank(&self, rank: usize) -> bool
         ensures { result ≡ is_install_if_triggered_at_rank (pool_of self.now) (choices_of self.now)
             (install_ifs_of self.now) rank }
@@ -370,12 +380,14 @@ impl<'p> Choices<'p> {
         }
     }
 
-    // The cursor of the install-ifs after the candidate is chosen. It is unchanged, or the least
-    // index before it whose install-if is now triggered and waits for a name that the candidate
-    // offers. A new choice can trigger only install-ifs that wait for one of its names.
+    // The cursor of the install-ifs after the candidate with these details is chosen. It is
+    // unchanged, or the least rank before it whose install-if has an entry of a name that the
+    // candidate offers, and now triggers its candidate. A new choice can trigger no other
+    // install-if.
     fn least_rank_asking(&self, details: &Details<'_>) -> usize
         ensures less { result ≤ self.now.asking_cursor }
-        // No install-if before the result that waits for a name of the candidate is triggered.
+        // No install-if with a rank below the result, and with an entry of a name that the
+        // candidate offers, triggers its candidate.
         ensures unasked { (name : List ℕ) (rank : ℕ) → offers_name name details.now ≡ true →
             IsIn rank (items_under_name self.now.install_ifs.waiting name) → rank < result →
             is_install_if_triggered_at_rank (pool_of self.now) (choices_of self.now)
@@ -386,11 +398,12 @@ impl<'p> Choices<'p> {
         self.least_rank_provided(&details.provides(), own)
     }
 
-    // The cursor, or the least index before it whose install-if is triggered, and waits for the
-    // name of one of these entries of provides.
+    // The cursor; or, if less, the least rank whose install-if has an entry of the name of one of
+    // these entries of provides, and triggers its candidate.
     fn least_rank_provided(&self, provides: &Deps<'_>, cursor: usize) -> usize
         ensures less { result ≤ cursor }
-        // No install-if before the result that waits for a name of these entries is triggered.
+        // No install-if with a rank below the result, and with an entry of one of these names,
+        // triggers its candidate.
         ensures unasked { (d : Dependency) (rank : ℕ) → IsIn d provides.now →
             IsIn rank (items_under_name self.now.install_ifs.waiting d.name) → rank < result →
             is_install_if_triggered_at_rank (pool_of self.now) (choices_of self.now)
@@ -404,11 +417,12 @@ impl<'p> Choices<'p> {
         least
     }
 
-    // The cursor, or the least index before it whose install-if is triggered, and waits for this
-    // name.
+    // The cursor; or, if less, the least rank whose install-if has an entry of this name, and
+    // triggers its candidate.
     fn least_rank_waiting(&self, name: &[u8], cursor: usize) -> usize
         ensures less { result ≤ cursor }
-        // No install-if before the result that waits for this name is triggered.
+        // No install-if with a rank below the result, and with an entry of this name, triggers its
+        // candidate.
         ensures unasked { (rank : ℕ) →
             IsIn rank (items_under_name self.now.install_ifs.waiting name.now) → rank < result →
             is_install_if_triggered_at_rank (pool_of self.now) (choices_of self.now)
@@ -422,11 +436,11 @@ impl<'p> Choices<'p> {
         least
     }
 
-    // The lesser of two indexes of install-ifs. The first counts only if its install-if is
-    // triggered.
+    // The lesser of two ranks of install-ifs: of `least`, and of `rank`, which counts only if its
+    // install-if triggers its candidate.
     fn lesser_rank(&self, rank: usize, least: usize) -> usize
         ensures less { result ≤ least }
-        // If the first index is below the result, its install-if is not triggered.
+        // If `rank` is below the result, its install-if triggers no candidate.
         ensures unasked { rank < result
             → is_install_if_triggered_at_rank (pool_of self.now) (choices_of self.now)
             (install_ifs_of self.now) rank ≡ false }
@@ -445,8 +459,8 @@ impl<'p> Choices<'p> {
     }
 }
 
-// The frame of a raised dependency: all its options are left, and the choice that has the
-// dependency raised it; no choice raises an entry of world.
+// The frame of a raised dependency. All its options are left. The choice that has the dependency
+// raised it; an entry of world is raised by no choice.
 fn frame_of(alloc: Global, pool: &Sealed<'_>, raised: &RaisedDep<'_>) -> Result<Frame, AllocError>
     ensures few { IfOk result (λ frame. length frame.1 < 2 ^ 64) }
     // No option is ruled out, all options are left, and at most one choice raised the need.

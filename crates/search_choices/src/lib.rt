@@ -1,5 +1,5 @@
-//! The choices of a search: the needs that they raise, the first need that none of them meets, and
-//! the choice that excludes a further candidate.
+//! The choices of a search: the needs that they raise, the first need that no choice meets, and the
+//! choice that excludes a further candidate.
 //!
 //! The rules are in `docs/selection.md`, "What satisfies world", and "How the search works".
 //!
@@ -10,6 +10,7 @@ mod choices;
 mod trace;
 
 pub use choices::Choices;
+// Names of `search_tables` and the crates below it that users of this crate need.
 pub use search_tables::{
     CandId, Candidate, CandidateSet, Details, Frame, PackageMatches, RuledOutOption, Sealed,
     SortedWords, is_same_id, options_are_the_best_first, rank_is_total,

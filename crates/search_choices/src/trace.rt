@@ -1,4 +1,4 @@
-//! The choices of a search, as they are returned.
+//! The choices that lead to the preferred selection, as `solve` of `solve_core` returns them.
 ghost use Rattle.std.specs.Prelude.{◌≡◌, ◌<◌, IfOk, Some, length, slice_get};
 
 use search_tables::CandId;
@@ -17,6 +17,7 @@ impl Model for Trace {
 
     ghost Value = { List ℕ };
 
+    // The value is the list of these places.
     ghost view = { λ trace. trace.ids.items };
 }
 
@@ -36,7 +37,7 @@ impl Trace {
         self.ids.len()
     }
 
-    /// The candidate that was chosen at a place of the trace, counted from 0.
+    /// The candidate that was chosen at an index of the trace, counted from 0.
     pub fn get(&self, i: usize) -> CandId
         requires { i < length self.now }
         ensures { slice_get self.now i ≡ Some result }

@@ -1,5 +1,5 @@
--- A set of candidates as a list with marks.
--- No rule of a document: serves the contract of `src/candidate_set.rt`.
+-- A set of candidates, as a list of places with a mark for each place. No rule of a document: serves the contract of
+-- `src/candidate_set.rt`.
 use Rattle.std.specs.Prelude.{ℕ, Bool, false, List, slice_index_or}
 use Rattle.std.specs.Bool.{MatchBool}
 use Rattle.pool_core.specs.candidate_core.Options.{IsIn}

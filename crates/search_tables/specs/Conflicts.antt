@@ -10,7 +10,7 @@ use Rattle.pool_core.specs.candidate_core.Rank.{SealedPool}
 use Rattle.search_tables.specs.NameTable.{items_under_name}
 use Rattle.search_tables.specs.Selection.{depends_at}
 
--- the conflicts of a name among some dependencies, each with the choice that has it
+-- those of the dependencies `deps` of the choice `by` that are conflicts of this name, each with the choice
 abbrev pub conflicts_of_name_in : List ℕ → ℕ → List Dependency → List (ℕ × Dependency)
 conflicts_of_name_in name by deps =
     map (λ (d : Dependency). (by, d))
@@ -20,25 +20,25 @@ conflicts_of_name_in name by deps =
 abbrev pub conflicts_among : SealedPool → List ℕ → List ℕ → List (ℕ × Dependency)
 conflicts_among pool chosen name = flat_map (λ c. conflicts_of_name_in name c (depends_at pool c)) chosen
 
--- a conflict that is listed: the choice that has it, the conflict, and its index among the
--- dependencies of the choice
+-- a conflict of a choice, in this order: the choice, the conflict, and the conflict's index among the dependencies of
+-- the choice, counted from 0
 abbrev pub ListedConflictValue : Type 0
 ListedConflictValue = ℕ × Dependency × ℕ
 
--- a listed conflict, with the choice that has it
+-- a conflict with its choice, without its index
 abbrev pub conflict_without_index : ListedConflictValue → ℕ × Dependency
 conflict_without_index listed = (listed.0, listed.1)
 
--- the conflicts of a name that a table lists, each with the choice that has it
+-- the conflicts under a name in a table, each with the choice that has it, without its index
 abbrev pub conflicts_in : List (List ℕ × List ListedConflictValue) → List ℕ → List (ℕ × Dependency)
 conflicts_in table name = map conflict_without_index (items_under_name table name)
 
--- if there is a candidate at this place, its dependencies are these
+-- if there is a candidate at the place `by`, its dependencies are these
 abbrev pub HasDepends : List Candidate → ℕ → List Dependency → Type 0
 HasDepends candidates by deps =
     (c : Candidate) → slice_get candidates by ≡ Some c → c.depends ≡ deps
 
--- the candidate that is listed has the conflict at its index
+-- the candidate of a listed conflict, if there is one, has the conflict at the stored index of its dependencies
 abbrev pub IsConflictOf : List Candidate → ListedConflictValue → Type 0
 IsConflictOf candidates listed = (c : Candidate) → slice_get candidates listed.0 ≡ Some c
     → slice_get c.depends listed.2 ≡ Some listed.1

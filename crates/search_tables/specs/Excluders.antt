@@ -15,12 +15,12 @@ abbrev pub IsConflictTable : SealedPool → List ℕ → Conflicts → Type 0
 IsConflictTable pool chosen conflicts =
     (name : List ℕ) → conflicts_in conflicts.by_name name ≡ conflicts_among pool chosen name
 
--- the candidate at place `k` is a choice, and it and the candidate at place `id` exclude each other
+-- the candidate at the place `k` is a choice, and the candidates at the places `k` and `id` exclude each other
 abbrev pub IsExcluderAmongChoices : SealedPool → List ℕ → ℕ → ℕ → Type 0
 IsExcluderAmongChoices pool chosen id k = IsIn k chosen × (exclude_each_other pool k id ≡ true)
 
--- no choice excludes a candidate by a name: the candidate meets no conflict of that name that a choice
--- has, and, if `is_occupied`, no choice occupies the name
+-- no choice excludes the candidate `details` by this name. The candidate meets no conflict of the name that a choice
+-- has; and if `is_occupied` is true, no choice occupies the name
 abbrev pub IsNotExcludedAt : SealedPool → List ℕ → Candidate → List ℕ → Bool → Type 0
 IsNotExcludedAt pool chosen details name is_occupied =
     ((k : ℕ) (d : Dependency) → IsIn k chosen → IsIn d (depends_at pool k) →

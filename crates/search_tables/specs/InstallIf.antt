@@ -1,5 +1,5 @@
--- Which candidates are triggered by their install-if, so that their name is needed and no choice has it,
--- and the least of these names.
+-- Candidates that are triggered by their install-if: each entry of it is met, but no choice has the candidate's name,
+-- so that this name is needed. The least of these names is needed first.
 -- The rules are in `docs/selection.md`: "What satisfies world", 4, and "Which selection is taken" (in
 -- byte order). Serves the contracts of `src/needs.rt` and `src/install_ifs.rt`.
 use Rattle.std.specs.Prelude.{◌≡◌, ◌≤◌, ◌<◌, ℕ, Bool, true, false, ◌&&◌, List, [], get_or, length, slice_get, Some}
@@ -44,8 +44,9 @@ install_if_at pool k = option_map_or (λ (c : Candidate). c.install_if) (candida
 abbrev pub has_lesser_name : SealedPool → ℕ → ℕ → Bool
 has_lesser_name pool a b = is_lt (bytes_cmp (name_at pool a) (name_at pool b))
 
--- the candidates whose install-if can apply, in byte order of their names; and a table that has for the
--- name of each entry of an install-if the rank of its candidate
+-- `by_name` has the candidates whose install-if can apply, in byte order of their names. The index of a candidate in
+-- this list is its rank. The table `waiting` has, under the name of each entry of an install-if, the rank of its
+-- candidate
 pub record AreUsableInstallIfsByName (pool : SealedPool) (by_name : List ℕ)
     (waiting : List (List ℕ × List ℕ)) :
     Type 0 where
@@ -62,28 +63,29 @@ pub record AreUsableInstallIfsByName (pool : SealedPool) (by_name : List ℕ)
       (rank k : ℕ) (d : Dependency) → slice_get by_name rank ≡ Some k →
       IsIn d (install_if_at pool k) → IsIn rank (items_under_name waiting d.name)
 
--- whether the candidate with this rank, its place in the list by name, is triggered by its install-if
+-- whether the candidate with this rank (its index in the list `by_name`) is triggered by its install-if; false if the
+-- list has no such index
 abbrev pub is_install_if_triggered_at_rank : SealedPool → List ℕ → List ℕ → ℕ → Bool
 is_install_if_triggered_at_rank pool chosen by_name rank =
     option_map_or (λ (k : ℕ). is_install_if_triggered_at pool chosen k) (slice_get by_name rank) false
 
--- none of the candidates of the first `count` ranks is triggered by its install-if
+-- none of the candidates with the ranks below `count` is triggered by its install-if
 abbrev pub AreNoneTriggeredBelow : SealedPool → List ℕ → List ℕ → ℕ → Type 0
 AreNoneTriggeredBelow pool chosen by_name count =
     (rank : ℕ) → rank < count → is_install_if_triggered_at_rank pool chosen by_name rank ≡ false
 
--- the candidate is triggered by its install-if, which can apply; no other such candidate has a lesser name
+-- the candidate `k` is triggered by its install-if, which can apply, and no other such candidate has a lesser name
 pub record IsLeastTriggeredInstallIf (pool : SealedPool) (chosen : List ℕ) (k : ℕ) : Type 0 where
-  -- its install-if can apply
+  -- the install-if of the candidate can apply
   pub usable : has_usable_install_if_at pool k ≡ true
-  -- its install-if triggers it
+  -- the candidate is triggered: each entry of its install-if is met, and no choice has its name
   pub asks : is_install_if_triggered_at pool chosen k ≡ true
   -- no other triggered candidate has a name that is less in byte order
   pub least :
       (o : ℕ) → has_usable_install_if_at pool o ≡ true → is_install_if_triggered_at pool chosen o ≡ true →
       has_lesser_name pool o k ≡ false
 
--- no candidate whose install-if can apply is triggered by it
+-- no candidate is triggered by an install-if that can apply
 abbrev pub IsNoInstallIfTriggered : SealedPool → List ℕ → Type 0
 IsNoInstallIfTriggered pool chosen =
     (o : ℕ) → has_usable_install_if_at pool o ≡ true → is_install_if_triggered_at pool chosen o ≡ false

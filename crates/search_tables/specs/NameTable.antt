@@ -1,11 +1,10 @@
--- Items by name.
--- No rule of a document: serves the contract of `src/name_table.rt`.
+-- Items by name. No rule of a document: serves the contract of `src/name_table.rt`.
 use Rattle.std.specs.Prelude.{ℕ, ◌-◌, List, [], ◌∷◌, length, map, take, if◌then◌else◌, Vec}
 use Rattle.std.specs.Global.{Global}
 use Rattle.std.specs.Borrow.{Bor}
 use Rattle.std.specs.Str.{bytes_eq}
 
--- each name of a map with the items of its list
+-- the names of a map of the program, each with the items of its list
 abbrev pub names_and_items :
     {X : Type 0} → List (Bor (List ℕ) × Vec X Global) → List (List ℕ × List X)
 names_and_items {X} entries = map (λ (e : Bor (List ℕ) × Vec X Global). (e.0.now, e.1.items)) entries

@@ -8,28 +8,28 @@ use Rattle.pool_core.specs.candidate_core.Candidates.{entry}
 use Rattle.pool_core.specs.candidate_core.Rank.{SealedPool}
 use Rattle.search_tables.specs.Selection.{depends_at, is_unmet}
 
--- a dependency, the choice that has it, and its index among those of the choice; a dependency of world
--- has no choice, and its index among the entries of world
+-- a dependency with its origin, in this order: the dependency; the choice that has it (None for an entry of world);
+-- and its index among the dependencies of the choice, or among the entries of world, counted from 0
 abbrev pub RaisedDepValue : Type 0
 RaisedDepValue = Dependency × Option ℕ × ℕ
 
--- the dependencies of a list that are no conflicts, each with the choice that raised it, or with none
--- for world, and with its index, if the first of the list has the index `n`
+-- the dependencies of a list that are no conflicts, each with the choice `by` (None for world) and with its index;
+-- the first dependency of the list has the index `n`
 abbrev pub raised_deps_from : Option ℕ → ℕ → List Dependency → List RaisedDepValue
 raised_deps_from by n [] = []
 raised_deps_from by n (d ∷ ds) =
     if d.conflict then raised_deps_from by (suc n) ds else (d, by, n) ∷ raised_deps_from by (suc n) ds
 
--- the dependencies of a whole list that are no conflicts, each with the choice that raised it, or with
--- none for world, and with its index from 0
+-- the dependencies of a whole list that are no conflicts, each with the choice `by` (None for world) and with its
+-- index, counted from 0
 abbrev pub raised_deps : Option ℕ → List Dependency → List RaisedDepValue
 raised_deps by deps = raised_deps_from by 0 deps
 
--- the dependencies that the choice at a place raises
+-- the dependencies that the choice at a place raises: those that are no conflicts
 abbrev pub raised_deps_at : SealedPool → ℕ → List RaisedDepValue
 raised_deps_at pool c = raised_deps (Some c) (depends_at pool c)
 
--- all that world and the choices raise, in the order in which it is to be met
+-- all dependencies that world and the choices raise, in the order in which they are to be met
 abbrev pub queue_of : SealedPool → List ℕ → List RaisedDepValue
 queue_of pool chosen = raised_deps None pool.world ++ flat_map (raised_deps_at pool) chosen
 

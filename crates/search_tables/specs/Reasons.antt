@@ -19,7 +19,7 @@ AreCompatible pool chosen =
 abbrev pub IsSolution : SealedPool → List ℕ → Type 0
 IsSolution pool selection = AreCompatible pool selection × (next_need pool selection ≡ None)
 
--- no satisfying selection has all of these candidates
+-- the candidates are a reason: no satisfying selection has all of them
 abbrev pub IsReason : SealedPool → List ℕ → Type 0
 IsReason pool reason = (selection : List ℕ) → IsSolution pool selection →
     AreAllMembersOf reason selection → ⊥
@@ -31,12 +31,12 @@ pub record IsRuledOutBy (pool : SealedPool) (chosen : List ℕ) (c : ℕ) (other
   -- no satisfying selection has `c` and all of `others`
   pub dead : IsReason pool (c ∷ others)
 
--- a frame, in this order: the ruled-out options, each with the other members of its reason; the options
--- that are left; the choices that raised its need
+-- a frame, in this order: the ruled-out options, each with the other members of its reason; the options that are
+-- left; the choices that raised the frame's need
 abbrev pub FrameValue : Type 0
 FrameValue = List (ℕ × List ℕ) × List ℕ × List ℕ
 
--- the options in a list of ruled-out options, without the other members of their reasons
+-- the options that are ruled out, without the other members of their reasons
 abbrev pub ruled_out_options : List (ℕ × List ℕ) → List ℕ
 ruled_out_options [] = []
 ruled_out_options (p ∷ ps) = p.0 ∷ ruled_out_options ps
@@ -46,20 +46,22 @@ abbrev pub AreRuledOut : SealedPool → List ℕ → List (ℕ × List ℕ) → 
 AreRuledOut pool chosen [] = Unit {0}
 AreRuledOut pool chosen (p ∷ ps) = IsRuledOutBy pool chosen p.0 p.1 × AreRuledOut pool chosen ps
 
--- the frame is that of the next need after some choices: its ruled-out options and those that are left
--- are the options of the need in their order
+-- the frame is that of the next need after the choices `chosen`. In their order, the options of this need are those
+-- that are ruled out, and then those that are left. World and the choices in `f.2` alone raise the need. Each
+-- ruled-out option has a reason whose other members are choices
 abbrev pub IsFrameOf : SealedPool → List ℕ → FrameValue → Type 0
 IsFrameOf pool chosen f =
     (need : Need) × (next_need pool chosen ≡ Some need) × (options_for pool need ≡ ruled_out_options f.0
     ++ f.1)
     × AreAllMembersOf f.2 chosen × IsIn need (needs pool f.2) × AreRuledOut pool chosen f.0
 
--- the frame is that of the next need after some choices, and the option `c` is taken from it
+-- the option `c` was just taken from the frame: with `c` put back in front of the options that are left, the frame is
+-- that of the next need after the choices `chosen`
 abbrev pub IsFrameTaking : SealedPool → List ℕ → FrameValue → ℕ → Type 0
 IsFrameTaking pool chosen f c = IsFrameOf pool chosen (f.0, c ∷ f.1, f.2)
 
--- after some choices: the further choices were made at these turns, which are decisions of the search,
--- in this order
+-- after the choices `chosen`, further choices were made at these turns, in this order: at each turn, the option was
+-- taken from the frame of the next need
 abbrev pub AreTurnsFrom : SealedPool → List ℕ → List (FrameValue × ℕ) → Type 0
 AreTurnsFrom pool chosen [] = Unit {0}
 AreTurnsFrom pool chosen (turn ∷ turns) =
@@ -74,17 +76,17 @@ choices_of_turns (turn ∷ turns) = turn.1 ∷ choices_of_turns turns
 abbrev pub IsExhaustedFrame : SealedPool → List ℕ → FrameValue → Type 0
 IsExhaustedFrame pool chosen f = IsFrameOf pool chosen f × (f.1 ≡ [])
 
--- the other members of the reasons of all options that are ruled out
+-- the other members of the reasons against all options that are ruled out, one list after the other
 abbrev pub other_members_of_reasons : List (ℕ × List ℕ) → List ℕ
 other_members_of_reasons [] = []
 other_members_of_reasons (p ∷ ps) = p.1 ++ other_members_of_reasons ps
 
--- the reason of a dead end, a need without options: the choices that raised the need, and the other
--- members of the reasons of all its options
+-- the reason of a dead end, a frame without options that are left: the choices that raised the need, and the other
+-- members of the reasons against all its options
 abbrev pub dead_end_reason : FrameValue → List ℕ
 dead_end_reason f = f.2 ++ other_members_of_reasons f.0
 
--- the two lists have the same members, in any order and number
+-- each member of one list is a member of the other list; order and repetition make no difference
 abbrev pub HasSameMembers : List ℕ → List ℕ → Type 0
 HasSameMembers xs ys = AreAllMembersOf xs ys × AreAllMembersOf ys xs
 

@@ -1,4 +1,4 @@
--- Selections that satisfy a world, the walk of one, and the preferred one. The rules are in
+-- Selections that satisfy a world, the walk of a selection, and the preferred selection. The rules are in
 -- `docs/selection.md`, "What satisfies world", and "Which selection is taken".
 use Rattle.std.specs.Prelude.{◌≡◌, ◌≢◌, ℕ, ◌==◌, Bool, true, false, not, ◌&&◌, ◌||◌, if◌then◌else◌, List, [], ◌∷◌, ◌++◌, map, Option, Some, None, is_some, ◌⊎◌}
 use Rattle.std.specs.Option.{option_map, option_map_or, option_or}
@@ -12,7 +12,7 @@ pub use Rattle.pool_core.specs.candidate_core.Options.{AreAllMembersOf, AreDisti
 
 -- ---- needs
 
--- whether one of the choices meets the need, by its own name or by what it provides
+-- whether one of the choices `chosen` meets the need, by its own name or by what it provides
 abbrev pub is_met : SealedPool → List ℕ → Need → Bool
 is_met pool chosen need = list_any (λ c. meets_at pool c need) chosen
 
@@ -20,47 +20,48 @@ is_met pool chosen need = list_any (λ c. meets_at pool c need) chosen
 abbrev pub is_unmet : SealedPool → List ℕ → Need → Bool
 is_unmet pool chosen need = not (is_met pool chosen need)
 
--- the dependencies of a list that are no conflicts, as needs
+-- the dependencies of a list as needs, without those that are conflicts
 abbrev pub positive_needs : List Dependency → List Need
 positive_needs deps = map entry (filter (λ (d : Dependency). not d.conflict) deps)
 
--- the dependencies of the candidate at a place, conflicts too; none if no candidate is there
+-- the dependencies of the candidate at a place, with its conflicts; none if no candidate is there
 abbrev pub depends_at : SealedPool → ℕ → List Dependency
 depends_at pool c = option_map_or (λ (k : Candidate). k.depends) (candidate_at pool c) []
 
--- the needs that world and the choices raise: the entries of world, then the dependencies of each
--- choice in the order chosen
+-- the needs that world and the choices raise by dependencies: the entries of world, then the dependencies of each
+-- choice in the order chosen, all without conflicts
 abbrev pub needs_of_world_and_chosen : SealedPool → List ℕ → List Need
 needs_of_world_and_chosen pool chosen =
     positive_needs pool.world ++ flat_map (λ c. positive_needs (depends_at pool c)) chosen
 
--- whether the install-if of a candidate applies: it is usable, and each entry is met
+-- whether the install-if of a candidate applies: the candidate may be selected, its install-if has an entry and no
+-- conflict, and the choices meet each entry
 abbrev pub install_if_applies : SealedPool → List ℕ → Candidate → Bool
 install_if_applies pool chosen c =
     has_usable_install_if pool.world c
     && list_all (λ (d : Dependency). is_met pool chosen (entry d)) c.install_if
 
--- the names of the candidates whose install-if applies
+-- the names of all candidates of the pool whose install-if applies, also of those that are chosen
 abbrev pub names_by_install_if : SealedPool → List ℕ → List (List ℕ)
 names_by_install_if pool chosen =
     map (λ (c : Candidate). c.name) (filter (install_if_applies pool chosen) pool.candidates)
 
--- all needs that world and the choices raise, met or not
+-- all needs that world and the choices raise, met or not: those by dependencies, then the names by install-if
 abbrev pub needs : SealedPool → List ℕ → List Need
 needs pool chosen = needs_of_world_and_chosen pool chosen ++ map named (names_by_install_if pool chosen)
 
--- of a name and another one, if there is another, the one that is less in byte order
+-- of a name and an optional second one, the one that is less in byte order; the first name if there is no second one
 abbrev pub lesser_name : List ℕ → Option (List ℕ) → List ℕ
 lesser_name name None = name
 lesser_name name (Some other) = if is_lt (bytes_cmp other name) then other else name
 
--- the least of the names in byte order
+-- the least of the names in byte order; None if there are none
 abbrev pub least_name : List (List ℕ) → Option (List ℕ)
 least_name [] = None
 least_name (name ∷ names) = Some (lesser_name name (least_name names))
 
--- the first need that no choice meets: the first of the raised ones in their order, else the byte-least
--- of the names whose install-if applies
+-- the first need that no choice meets: the first of those by dependencies, in their order; if there is none, the
+-- least, in byte order, of the names by install-if
 unfoldable pub next_need : SealedPool → List ℕ → Option Need
 next_need pool chosen =
     option_or (find (is_unmet pool chosen) (needs_of_world_and_chosen pool chosen))
@@ -70,13 +71,13 @@ next_need pool chosen =
 
 -- ---- candidates that exclude each other
 
--- whether a conflict of the first candidate is met by the second
+-- whether the second candidate `b` meets a conflict of the first candidate `a`
 abbrev pub conflicts_with : SealedPool → ℕ → ℕ → Bool
 conflicts_with pool a b =
     list_any (λ (d : Dependency). d.conflict && candidate_at_passes pool (meets_dependency d) b)
     (depends_at pool a)
 
--- the names that a candidate occupies
+-- the names that a candidate occupies: its own, and each name that it provides with a version
 abbrev pub occupied_names : Candidate → List (List ℕ)
 occupied_names c =
     c.name ∷ map (λ (p : Dependency). p.name)
@@ -91,7 +92,8 @@ abbrev pub share_a_name : SealedPool → ℕ → ℕ → Bool
 share_a_name pool a b =
     list_any (λ name. candidate_at_passes pool (occupies_name name) b) (occupied_names_at pool a)
 
--- whether one candidate excludes the other: by a conflict that it has, or by a name that both occupy
+-- whether the first candidate excludes the second: by a conflict that the first one has, or by a name that both
+-- occupy
 abbrev pub does_exclude : SealedPool → ℕ → ℕ → Bool
 does_exclude pool a b = conflicts_with pool a b || share_a_name pool a b
 
@@ -101,9 +103,9 @@ exclude_each_other pool a b = not (a == b) && (does_exclude pool a b || does_exc
 
 -- ---- satisfying selections
 
--- a selection satisfies the world. Its members are different and may be selected. Each entry of world
--- and each dependency of a member is met, and no conflict of a member is met by another. Each name is
--- occupied by at most one member, and each name whose install-if applies is a member's
+-- a selection satisfies the world. Its members are different and may be selected. Each entry of world and each
+-- dependency of a member is met, and no conflict of a member is met by another. Each name is occupied by at most one
+-- member, and each name whose install-if applies is the name of a member
 pub record IsSatisfying (pool : SealedPool) (selection : List ℕ) : Type 0 where
   -- no member occurs twice
   pub once : AreDistinct selection
@@ -132,27 +134,29 @@ pub record IsSatisfying (pool : SealedPool) (selection : List ℕ) : Type 0 wher
 
 -- ---- the walk of a selection
 
--- the member of a selection is the best in rank that meets the need
+-- the candidate `c` is a member of the selection and meets the need, and is better in rank than each other member
+-- that meets it
 abbrev pub IsBestMember : SealedPool → List ℕ → Need → ℕ → Type 0
 IsBestMember pool selection need c =
     IsIn c selection × (meets_at pool c need ≡ true)
     × ((o : ℕ) → IsIn o selection → meets_at pool o need ≡ true →
     (o ≡ c) ⊎ (is_better pool need c o ≡ true))
 
--- after some choices: the rest of the walk of a selection, which has the best member in rank for each
--- next need, until there is none
+-- the last list is the rest of the walk of the selection after the choices `chosen`. For each next need, this rest
+-- has the best member in rank that meets the need, until no need is left
 abbrev pub IsRestOfWalk : SealedPool → List ℕ → List ℕ → List ℕ → Type 0
 IsRestOfWalk pool selection chosen [] = next_need pool chosen ≡ None
 IsRestOfWalk pool selection chosen (c ∷ rest) =
     (need : Need) × (next_need pool chosen ≡ Some need) × IsBestMember pool selection need c
     × IsRestOfWalk pool selection (chosen ++ c ∷ []) rest
 
--- the walk of a selection, from the first need on: for each next need, the best member that meets it
+-- the walk of a selection, from no choices on: for each next need, the walk has the best member that meets the need,
+-- until no need is left
 abbrev pub IsSelectionWithWalk : SealedPool → List ℕ → List ℕ → Type 0
 IsSelectionWithWalk pool selection walk = IsRestOfWalk pool selection [] walk
 
--- after some choices: the rest of one walk is preferred to that of another if it has the better rank at
--- the first place where they differ, for the need there
+-- two walks begin with the choices `chosen`. The rest of one walk is preferred to the rest `other` of the other walk
+-- if, at the first place where they differ, the first rest has the candidate that is better in rank for the next need
 abbrev pub IsRestOfWalkPreferred : SealedPool → List ℕ → List ℕ → List ℕ → Type 0
 IsRestOfWalkPreferred pool chosen [] other = ⊥
 IsRestOfWalkPreferred pool chosen (c ∷ rest) [] = ⊥
@@ -160,18 +164,18 @@ IsRestOfWalkPreferred pool chosen (c ∷ rest) (d ∷ other) =
     ((need : Need) × (next_need pool chosen ≡ Some need) × (is_better pool need c d ≡ true))
     ⊎ ((c ≡ d) × IsRestOfWalkPreferred pool (chosen ++ c ∷ []) rest other)
 
--- one walk is preferred to another, from the first need on
+-- one walk is preferred to the walk `other`, from the first need on
 abbrev pub IsWalkPreferredTo : SealedPool → List ℕ → List ℕ → Type 0
 IsWalkPreferredTo pool walk other = IsRestOfWalkPreferred pool [] walk other
 
--- the preferred solution: it satisfies the world, is its own walk, and is preferred to the walk of each
+-- `trace` is the preferred solution: it satisfies the world, is its own walk, and is preferred to the walk of each
 -- other satisfying selection
 pub record IsFirstPreferredSelection (pool : SealedPool) (trace : List ℕ) : Type 0 where
-  -- it satisfies the world
+  -- the selection satisfies the world
   pub satisfies : IsSatisfying pool trace
-  -- its members are in the order of its walk: for each next need, the best member that meets it
+  -- the members are in the order of the walk: for each next need, the best member that meets it
   pub walked : IsSelectionWithWalk pool trace trace
-  -- the walk of each satisfying selection is the same walk, or this one is preferred to it
+  -- the walk of each satisfying selection is equal to `trace`, or `trace` is preferred to it
   pub first :
       (selection walk : List ℕ) → IsSatisfying pool selection → IsSelectionWithWalk pool selection walk →
       (walk ≡ trace) ⊎ IsWalkPreferredTo pool trace walk

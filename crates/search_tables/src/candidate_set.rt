@@ -9,14 +9,14 @@ use pool_core::CandId;
 use std::alloc::{AllocError, Global};
 use std::marker::Model;
 
-/// Candidates in the order in which they were added, each once, and a mark for each place in the
-/// list of all candidates, which is set if its candidate is in the set.
+/// Candidates in the order in which they were added, each once. Each place in the list of all
+/// candidates has a mark, which is set if the candidate at this place is in the set.
 #[derive(Drop)]
 pub struct CandidateSet {
-    /// The places of the candidates, in the order in which they came.
+    /// The places of the candidates, in the order in which they were added.
     ids: Vec<CandId>,
-    /// For each place in the list of all candidates, up to the greatest that was ever in the set,
-    /// whether it is in the set.
+    /// For each place in the list of all candidates: whether its candidate is in the set. The marks
+    /// end at the greatest place that was ever in the set.
     marks: Vec<bool>,
 }
 
@@ -26,8 +26,10 @@ impl Model for CandidateSet {
 
     ghost Value = { List ℕ };
 
+    // The value is the list of the places, without the marks.
     ghost view = { λ m. m.ids.items };
 
+    // A mark is set exactly if its place is in the list, and no place occurs twice.
     ghost invariant = { λ m. AreMarksOfPlaces m.marks.items m.ids.items };
 }
 
@@ -57,6 +59,7 @@ impl CandidateSet {
 
     /// Appends a candidate to the set, unless the set has it.
     pub fn add(&mut self, id: CandId) -> Result<(), AllocError>
+        // The set has exactly its old members and this candidate.
         ensures { OnOk result (HasSameMembers self.new (self.old ++ id ∷ [])) }
     {
         if self.has(id) {
@@ -68,6 +71,7 @@ impl CandidateSet {
 
     /// Appends each of these candidates that is not in the set.
     pub fn add_all(&mut self, ids: &[CandId]) -> Result<(), AllocError>
+        // The set has exactly its old members and these candidates.
         ensures { OnOk result (HasSameMembers self.new (self.old ++ ids.now)) }
     {
         for id in ids {
@@ -100,6 +104,8 @@ impl CandidateSet {
 
     /// Removes the last candidate; an empty set is unchanged.
     pub fn pop(&mut self)
+        // If the set is not empty, its last candidate is removed, and the others stay in their
+        // order.
         ensures last { (rest : List ℕ) (last : ℕ) → self.old ≡ rest ++ last ∷ [] →
             self.new ≡ rest }
         ensures fewer { 0 < length self.old → length self.new < length self.old }
@@ -121,7 +127,7 @@ impl CandidateSet {
         self.ids.last().copied()
     }
 
-    /// The candidates of the set, in the order in which they came.
+    /// The candidates of the set, in the order in which they were added.
     pub fn as_slice(&self) -> &[CandId]
         ensures { result.now ≡ self.now }
     {
@@ -132,6 +138,7 @@ impl CandidateSet {
 // Adds marks that are not set, until there is one at the place.
 fn grow(marks: &mut Vec<bool>, place: usize) -> Result<(), AllocError>
     requires { place < 2 ^ 32 }
+    // There is then a mark at the place, and no mark has changed; an absent mark counts as not set.
     ensures room { OnOk result (place < vec_len marks.new) }
     ensures same { (c : ℕ) → slice_index_or marks.new.items c false
         ≡ slice_index_or marks.old.items c false }

@@ -16,7 +16,8 @@ use pool_core::{CandId, Deps, PackageDep, PackageMatches};
 use std::alloc::{AllocError, Global};
 use std::marker::Model;
 
-/// A conflict, its choice, and its index among the dependencies of that.
+/// A conflict of a choice, with the choice, and with the conflict's index among the choice's
+/// dependencies.
 #[derive(Drop)]
 pub struct ListedConflict<'p> {
     /// The choice that has the conflict.
@@ -48,7 +49,9 @@ impl<'p> ListedConflict<'p> {
     // Whether a candidate meets the conflict. Results for long versions are remembered.
     fn is_met_by(&self, id: CandId, matches: &mut PackageMatches<'_>) -> Result<bool, AllocError>
         requires within { id < length (candidates_of_packages matches.old.packages.now) }
+        // This conflict is a dependency of its choice, at its index.
         requires listed { IsConflictOf (candidates_of_packages matches.old.packages.now) self.now }
+        // The remembered results are right for the packages, before the call and after it.
         requires matches { AreMatchesAmong (candidates_of_packages matches.old.packages.now)
             matches.old }
         // The result says whether the candidate at the place meets this conflict.
@@ -67,15 +70,16 @@ impl<'p> ListedConflict<'p> {
     }
 }
 
-/// The conflicts of the choices, by their names, in the order of the choices.
+/// The conflicts of the choices, under their names. The conflicts of one name are in the order of
+/// the choices.
 #[derive(Drop)]
 pub struct Conflicts<'p> {
-    /// The conflicts of each name.
+    /// For each name, the conflicts of this name that the choices have.
     pub by_name: NameTable<'p, ListedConflict<'p>>,
 }
 
 impl<'p> Conflicts<'p> {
-    /// A list without conflicts.
+    /// A table without conflicts.
     pub fn new(alloc: Global) -> Conflicts<'p>
         ensures { result.by_name ≡ [] }
     {
@@ -84,14 +88,14 @@ impl<'p> Conflicts<'p> {
         }
     }
 
-    /// Adds the conflicts that are among the dependencies of the candidate `by`. Under each name
-    /// they are appended.
+    /// Adds the conflicts among `depends`, the dependencies of the candidate `by`. Each is appended
+    /// to the conflicts of its name.
     pub fn add(&mut self, depends: &Deps<'p>, by: CandId) -> Result<(), AllocError>
         // Under each name, the conflicts of these dependencies that have the name are appended.
         ensures conflicts { OnOk result ((name : List ℕ) → conflicts_in self.new.by_name name
             ≡ conflicts_in self.old.by_name name ++ conflicts_of_name_in name by depends.now) }
-        // If the dependencies are those of the choice, each entry is still a conflict of a
-        // candidate.
+        // If `depends` are the dependencies of the candidate `by`, each entry of the table is still
+        // a conflict of its candidate, at its index.
         ensures listed { OnOk result ((candidates : List Candidate)
             → HasDepends candidates by depends.now → AreConflictsOf candidates self.old.by_name
             → AreConflictsOf candidates self.new.by_name) }
@@ -102,13 +106,15 @@ impl<'p> Conflicts<'p> {
         Ok(())
     }
 
-    // Adds the dependency that a candidate has at an index to the list, if it is a conflict.
+    // Adds the dependency that the candidate `by` has at an index to the table, if the dependency
+    // is a conflict.
     fn add_one(&mut self, dep: Dep<'p>, by: CandId, index: usize) -> Result<(), AllocError>
-        // The dependency is appended under its name, if it is a conflict.
+        // The dependency is appended under its name, if the dependency is a conflict.
         ensures conflicts { OnOk result ((name : List ℕ) → conflicts_in self.new.by_name name
             ≡ conflicts_in self.old.by_name name
             ++ conflicts_of_name_in name by (dependency dep.entry ∷ [])) }
-        // If it is a dependency of the choice, each entry is still a conflict of a candidate.
+        // If the candidate has this dependency there, each entry of the table is still a conflict
+        // of its candidate, at its index.
         ensures listed { OnOk result ((candidates : List Candidate)
             → IsConflictOf candidates (by, dependency dep.entry, index)
             → AreConflictsOf candidates self.old.by_name
@@ -122,32 +128,34 @@ impl<'p> Conflicts<'p> {
         Ok(())
     }
 
-    /// Removes the conflicts of the candidate that was added last. In the clause, `front` is the
-    /// list for each name before that candidate was added.
+    /// Removes the conflicts of the candidate that was added last; `depends` are its dependencies.
+    /// In the clause, `front` gives for each name the conflicts before that candidate was added.
     pub fn pop_all(&mut self, depends: &Deps<'_>)
         // If the last conflicts under each name are those of these dependencies, they are removed.
         ensures conflicts { (by : ℕ) (front : List ℕ → List (ℕ × Dependency)) →
             ((name : List ℕ) → conflicts_in self.old.by_name name
             ≡ front name ++ conflicts_of_name_in name by depends.now) →
             (name : List ℕ) → conflicts_in self.new.by_name name ≡ front name }
+        // The entries that remain are still conflicts of their candidates.
         ensures listed { (candidates : List Candidate) → AreConflictsOf candidates self.old.by_name
             → AreConflictsOf candidates self.new.by_name }
     {
         let mut left = depends.len();
-        // From the last on, so that each is then the last one of its name.
+        // From the last dependency on: then each conflict is the last one under its name.
         while left > 0 {
             left -= 1;
             self.take_one_away(&depends.get(left));
         }
     }
 
-    // Takes the last conflict of the dependency's name out, if the dependency is a conflict.
+    // Removes the last conflict under the dependency's name, if the dependency is a conflict.
     fn take_one_away(&mut self, dep: &Dep<'_>)
         // If the last conflict under its name is this dependency, it is removed.
         ensures conflicts { (by : ℕ) (front : List ℕ → List (ℕ × Dependency)) →
             ((name : List ℕ) → conflicts_in self.old.by_name name
             ≡ front name ++ conflicts_of_name_in name by (dependency dep.now ∷ [])) →
             (name : List ℕ) → conflicts_in self.new.by_name name ≡ front name }
+        // The entries that remain are still conflicts of their candidates.
         ensures listed { (candidates : List Candidate) → AreConflictsOf candidates self.old.by_name
             → AreConflictsOf candidates self.new.by_name }
     {
@@ -156,8 +164,8 @@ impl<'p> Conflicts<'p> {
         }
     }
 
-    /// The first choice with a conflict of a name that a candidate meets. Results for long versions
-    /// are remembered.
+    /// The first choice that has a conflict of this name which the candidate `id` meets; None if
+    /// there is no such choice. Results for long versions are remembered.
     ///
     /// # Errors
     ///
@@ -169,8 +177,10 @@ impl<'p> Conflicts<'p> {
         matches: &mut PackageMatches<'_>,
     ) -> Result<Option<CandId>, AllocError>
         requires within { id < length (candidates_of_packages matches.old.packages.now) }
+        // Each entry of the table is a conflict of its candidate, at its index.
         requires listed { AreConflictsOf (candidates_of_packages matches.old.packages.now)
             self.now.by_name }
+        // The remembered results are right for the packages, before the call and after it.
         requires matches { AreMatchesAmong (candidates_of_packages matches.old.packages.now)
             matches.old }
         // The result is the choice of the first conflict that the candidate meets, if there is one.

@@ -14,7 +14,7 @@ use std::marker::Model;
 pub struct RuledOutOption {
     /// The option.
     option: CandId,
-    /// The other members of the reason.
+    /// The other members of the reason: no satisfying selection has the option and all of these.
     others: Vec<CandId>,
 }
 
@@ -23,6 +23,7 @@ impl Model for RuledOutOption {
 
     ghost Value = { ℕ × List ℕ };
 
+    // In this order: the option, and the other members of its reason.
     ghost view = { λ ruled_out. (ruled_out.option, ruled_out.others.items) };
 }
 
@@ -46,14 +47,16 @@ impl RuledOutOption {
 /// option with its reason; and the choices that raised the need.
 #[derive(Drop)]
 pub struct Frame {
-    /// The options that are ruled out, in that order, each with the other members of its reason.
+    /// The options that are ruled out, in the order in which they were ruled out, each with the
+    /// other members of its reason.
     ruled_out: Vec<RuledOutOption>,
     /// All options of the need, best first.
     options: Vec<CandId>,
-    /// The index, counted from 0, of the first option that is left; the one before it may be taken.
+    /// The index, counted from 0, of the best option that is left; the options before it were ruled
+    /// out, and the last of these may be taken.
     next: usize,
-    /// The choices that raised the need: that have the dependency, or that meet the entries of the
-    /// install-if.
+    /// The choices that raised the need: the choice that has the dependency (none for an entry of
+    /// world), or the choices that meet the entries of the install-if.
     by: Vec<CandId>,
 }
 
@@ -68,10 +71,11 @@ impl Model for Frame {
 }
 
 impl Frame {
-    /// A frame in which no option is ruled out, so all of them are left. `by` has the choices that
-    /// raised the need.
+    /// A frame in which no option is ruled out, so that all options are left. `by` are the choices
+    /// that raised the need.
     pub fn new(alloc: Global, options: Vec<CandId>, by: Vec<CandId>) -> Frame
         ensures value { result ≡ ([], options.items, by.items) }
+        // A list has fewer than 2^64 entries.
         ensures few { length result.1 < 2 ^ 64 }
     {
         Frame {
@@ -98,8 +102,10 @@ impl Frame {
         Some(id)
     }
 
-    /// Rules out the option that was taken last, with the other members of the reason against it.
+    /// Rules out the option that was taken last. `others` are the other members of the reason
+    /// against this option.
     pub fn rule_out(&mut self, option: CandId, others: Vec<CandId>) -> Result<(), AllocError>
+        // The option is appended to those that are ruled out; the rest of the frame is unchanged.
         ensures { OnOk result (self.new ≡ (
           self.old.0 ++
               (option, others.items) ∷ [],

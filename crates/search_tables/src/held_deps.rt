@@ -16,9 +16,9 @@ use crate::needs::{choice_meeting, is_met_by_latest_or_other};
 use pool_core::{CandId, NeedRef, PackageDep, PackageMatches, Sealed, is_long};
 use std::alloc::AllocError;
 
-/// A choice that meets a dependency of a candidate, whether that is a conflict or not. All choices
-/// are searched if they are fewer than the candidates that offer the dependency's name. Results for
-/// long versions are remembered.
+/// A choice that meets a dependency of a candidate; None if no choice does. The dependency may be a
+/// conflict. If the choices are fewer than the candidates that offer the dependency's name, all
+/// choices are tried, and else these candidates. Results for long versions are remembered.
 ///
 /// # Errors
 ///
@@ -29,6 +29,8 @@ pub fn choice_meeting_own(
     held: &PackageDep<'_>,
     matches: &mut PackageMatches<'_>,
 ) -> Result<Option<CandId>, AllocError>
+    // The dependency is that of the candidate at the stored place, with the stored index. The
+    // remembered results are right for the pool, before the call and after it.
     requires held { IsDepOfPackageAt pool.now.candidates held.now }
     requires matches { AreMatchesAmong pool.now.candidates matches.old }
     // None: no choice meets the dependency. Otherwise: a choice that meets it.
@@ -60,8 +62,11 @@ pub fn is_held_met(
     held: &PackageDep<'_>,
     matches: &mut PackageMatches<'_>,
 ) -> Result<bool, AllocError>
+    // The dependency is that of the candidate at the stored place, with the stored index. The
+    // remembered results are right for the pool, before the call and after it.
     requires held { IsDepOfPackageAt pool.now.candidates held.now }
     requires matches { AreMatchesAmong pool.now.candidates matches.old }
+    // The answer is whether a choice meets the dependency.
     ensures met { IfOk result (λ met. met
         ≡ is_met pool.now choices.now (entry (dependency held.now.dep.now))) }
     ensures matches { OnOk result (AreMatchesAmong pool.now.candidates matches.new) }
@@ -74,7 +79,8 @@ pub fn is_held_met(
     Ok(found.is_some())
 }
 
-// A choice among some candidates that meets a dependency of a candidate.
+// The first of the candidates `ids` that is a choice and meets a dependency of another candidate.
+// The contract does not promise that it is the first one.
 fn choice_among(
     pool: &Sealed<'_>,
     choices: &CandidateSet,
@@ -82,6 +88,7 @@ fn choice_among(
     held: &PackageDep<'_>,
     matches: &mut PackageMatches<'_>,
 ) -> Result<Option<CandId>, AllocError>
+    // The dependency is that of the candidate at the stored place, with the stored index.
     requires held { IsDepOfPackageAt pool.now.candidates held.now }
     requires matches { AreMatchesAmong pool.now.candidates matches.old }
     // None: none of these places is that of a choice that meets the dependency. Otherwise: a choice
@@ -102,7 +109,7 @@ fn choice_among(
     Ok(None)
 }
 
-// Whether the candidate at a place is a choice, and meets a dependency of another.
+// Whether the candidate `id` is a choice, and meets a dependency of another candidate.
 fn is_met_by_choice(
     pool: &Sealed<'_>,
     choices: &CandidateSet,
@@ -110,6 +117,7 @@ fn is_met_by_choice(
     held: &PackageDep<'_>,
     matches: &mut PackageMatches<'_>,
 ) -> Result<bool, AllocError>
+    // The dependency is that of the candidate at the stored place, with the stored index.
     requires held { IsDepOfPackageAt pool.now.candidates held.now }
     requires matches { AreMatchesAmong pool.now.candidates matches.old }
     // True: the place is that of a choice that meets the dependency. False: it is none of these.
@@ -125,15 +133,17 @@ fn is_met_by_choice(
     is_met_by(pool, id, held, matches)
 }
 
-// Whether the candidate at a place meets a dependency of another.
+// Whether the candidate `id` meets a dependency of another candidate.
 fn is_met_by(
     pool: &Sealed<'_>,
     id: CandId,
     held: &PackageDep<'_>,
     matches: &mut PackageMatches<'_>,
 ) -> Result<bool, AllocError>
+    // The dependency is that of the candidate at the stored place, with the stored index.
     requires held { IsDepOfPackageAt pool.now.candidates held.now }
     requires matches { AreMatchesAmong pool.now.candidates matches.old }
+    // The answer is whether the candidate meets the dependency.
     ensures meets { IfOk result (λ meets. meets
         ≡ meets_at pool.now id (entry (dependency held.now.dep.now))) }
     ensures matches { OnOk result (AreMatchesAmong pool.now.candidates matches.new) }

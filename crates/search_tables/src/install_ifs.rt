@@ -1,6 +1,6 @@
-//! The candidates whose install-if can apply, and the names that each of them waits for. The rules
-//! are in `docs/selection.md`: "What satisfies world", 4 (when an install-if applies), and "Which
-//! selection is taken" (names are needed in byte order).
+//! The candidates whose install-if can apply, and for each name the candidates whose install-if has
+//! an entry of this name. The rules are in `docs/selection.md`: "What satisfies world", 4 (when an
+//! install-if applies), and "Which selection is taken" (names are needed in byte order).
 ghost use Rattle.std.specs.Prelude.{◌≡◌, ◌≤◌, ◌<◌, ℕ, List, length, get_or, true, false, IfOk, OnOk, slice_get};
 ghost use Rattle.dep_core.specs.Dependency.{Dependency};
 ghost use Rattle.pool_core.specs.candidate_core.Options.{AreAllMembersOf, IsIn};
@@ -13,12 +13,13 @@ use pool_core::{CandId, Deps, Sealed};
 use std::alloc::{AllocError, Global};
 use std::cmp::Ordering;
 
-/// The candidates whose install-if can apply, in byte order of their names, and, for each name, the
-/// ranks in this order of those that have an entry of it.
+/// The candidates whose install-if can apply, in byte order of their names. A table has for each
+/// name the ranks (the indexes in this list) of the candidates whose install-if has an entry of the
+/// name.
 #[derive(Drop)]
 pub struct InstallIfs<'p> {
-    /// The candidates, in byte order of their names; the place here, counted from 0, is the rank of
-    /// a candidate.
+    /// The candidates, in byte order of their names. The index of a candidate in this list, counted
+    /// from 0, is its rank.
     pub by_name: Vec<CandId>,
     /// For each name, the ranks of the candidates whose install-if has an entry of the name.
     pub waiting: NameTable<'p, usize>,
@@ -38,7 +39,7 @@ impl<'p> InstallIfs<'p> {
         Ok(InstallIfs { by_name, waiting })
     }
 
-    /// The candidate of a rank, counted from 0, if there is one.
+    /// The candidate with a rank, counted from 0; None if there is none.
     pub fn at(&self, rank: usize) -> Option<CandId>
         ensures { result ≡ slice_get self.now.by_name.items rank }
     {
@@ -55,6 +56,7 @@ impl<'p> InstallIfs<'p> {
 
 // The candidates whose install-if can apply, in byte order of their names.
 fn in_byte_order(alloc: Global, pool: &Sealed<'_>) -> Result<Vec<CandId>, AllocError>
+    // The list has exactly the candidates whose install-if can apply.
     ensures those { IfOk result (λ ids. (k : ℕ) → IsIn k ids.items →
         has_usable_install_if_at pool.now k ≡ true) }
     ensures each { IfOk result (λ ids. (k : ℕ) → has_usable_install_if_at pool.now k ≡ true →
@@ -75,7 +77,7 @@ fn by_names(pool: &Sealed<'_>, a: CandId, b: CandId) -> Ordering
     name_at(pool, a).cmp(&name_at(pool, b))
 }
 
-// The name of the candidate at a place; empty if there is none.
+// The name of the candidate at a place; empty if no candidate is there.
 fn name_at<'a>(pool: &'a Sealed<'_>, id: CandId) -> &'a [u8]
     ensures { result.now ≡ name_at pool.entry.now id }
 {
@@ -85,14 +87,15 @@ fn name_at<'a>(pool: &'a Sealed<'_>, id: CandId) -> &'a [u8]
     }
 }
 
-// For each entry of a candidate's install-if: appends the candidate's index in the list of
-// install-ifs (its rank) under the name of the entry.
+// Appends the rank of the candidate `id` (its index in the list of install-ifs) under the name of
+// each entry of its install-if.
 fn add_install_if<'p>(
     waiting: &mut NameTable<'p, usize>,
     pool: &'p Sealed<'p>,
     id: CandId,
     rank: usize,
 ) -> Result<(), AllocError>
+    // Each name keeps its ranks. The rank is then under the name of each entry of the install-if.
     ensures more { OnOk result ((name : List ℕ) →
         AreAllMembersOf (items_under_name waiting.old name) (items_under_name waiting.new name)) }
     ensures each { OnOk result ((d : Dependency) →
@@ -111,6 +114,7 @@ fn add_entries<'p>(
     deps: &Deps<'p>,
     rank: usize,
 ) -> Result<(), AllocError>
+    // Each name keeps its ranks. The rank is then under the name of each of the dependencies.
     ensures more { OnOk result ((name : List ℕ) →
         AreAllMembersOf (items_under_name waiting.old name) (items_under_name waiting.new name)) }
     ensures each { OnOk result ((d : Dependency) → IsIn d deps.now →

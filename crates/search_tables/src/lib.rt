@@ -27,6 +27,7 @@ pub use name_table::NameTable;
 pub use needs::{
     choice_meeting, is_met_by_latest_or_other, is_triggered_by_install_if, occupant, raisers,
 };
+// Names of `pool_core` and the crates below it that users of this crate need.
 pub use pool_core::{
     CandId, Candidate, Deps, Details, NeedRef, Options, PackageDep, PackageMatches, Sealed,
     SortedWords, Upgrade, is_same_id, options_are_the_best_first, rank_is_total,

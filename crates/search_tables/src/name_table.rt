@@ -1,6 +1,7 @@
-//! Items by name, those of each name in the order in which they were added. It borrows the names.
-//! No rule of a document: `conflicts` stores the conflicts of the choices in such a table, and
-//! `install_ifs` the ranks that wait for a name.
+//! Items by name; the items of each name are in the order in which they were added. The table
+//! borrows the names. No rule of a document: `conflicts` stores the conflicts of the choices in
+//! such a table. `install_ifs` stores under each name the ranks of those install-ifs that have an
+//! entry of this name.
 ghost use Rattle.std.specs.Prelude.{◌≡◌, ℕ, List, [], ◌∷◌, ◌++◌, OnOk, if◌then◌else◌};
 ghost use Rattle.std.specs.Str.{bytes_eq};
 ghost use Rattle.search_tables.specs.NameTable.{items_under_name, without_last};
@@ -9,7 +10,7 @@ use indexmap::IndexMap;
 use std::alloc::{AllocError, Global};
 use std::marker::Model;
 
-/// The items of each name.
+/// A table that has for each name a list of items.
 #[derive(Drop)]
 pub struct NameTable<'p, T> {
     /// The allocator.
@@ -24,6 +25,7 @@ impl<'p, T> Model for NameTable<'p, T> {
 
     ghost Value = { List (List ℕ × List T) };
 
+    // The value has the names with their items, wherever the bytes of the names are.
     ghost view = { λ t. names_and_items t.by_name.entries };
 }
 
@@ -48,7 +50,7 @@ impl<'p, T: Drop> NameTable<'p, T> {
         }
     }
 
-    /// Appends an item to the items of a name. Those of other names are unchanged.
+    /// Appends an item to the items of a name. The items of other names are unchanged.
     pub fn add(&mut self, name: &'p [u8], item: T) -> Result<(), AllocError>
         // The item is appended under this name. Nothing changes under other names.
         ensures { OnOk result ((other : List ℕ) → items_under_name self.new other

@@ -15,8 +15,8 @@ use dep_core::Dep;
 use pool_core::{CandId, Deps, Details, NeedRef, Sealed};
 use std::alloc::{AllocError, Global};
 
-/// A choice that meets a need. All choices are searched if they are fewer than the candidates that
-/// offer the need's name.
+/// A choice that meets a need; None if no choice does. If the choices are fewer than the candidates
+/// that offer the need's name, all choices are tried, and else these candidates.
 pub fn choice_meeting(
     pool: &Sealed<'_>,
     choices: &CandidateSet,
@@ -28,6 +28,7 @@ pub fn choice_meeting(
         ≡ true)) }
 {
     let offers = offers_for(pool, need);
+    // The shorter list is searched: the choices, or the candidates that offer the need's name.
     if choices.as_slice().len() < offers.len() {
         return choice_among(pool, choices, choices.as_slice(), need);
     }
@@ -45,8 +46,8 @@ fn offers_for<'a>(pool: &'a Sealed<'_>, need: &NeedRef<'_>) -> &'a [CandId]
     }
 }
 
-// The first choice among some candidates that meets a need; no contract promises that it is the
-// first.
+// The first of the candidates `ids` that is a choice and meets a need. The contract does not
+// promise that it is the first one.
 fn choice_among(
     pool: &Sealed<'_>,
     choices: &CandidateSet,
@@ -67,7 +68,7 @@ fn choice_among(
     None
 }
 
-// Whether the candidate is a choice, and meets the need.
+// Whether the candidate `id` is a choice, and meets the need.
 fn is_choice_meeting(
     pool: &Sealed<'_>,
     choices: &CandidateSet,
@@ -106,14 +107,16 @@ fn meets_need(details: &Details<'_>, need: &NeedRef<'_>) -> bool
     }
 }
 
-// Whether a choice meets a need; `is_met_by_latest_or_other` has the same result.
+// Whether a choice meets a need. `is_met_by_latest_or_other` gives the same result, and is faster
+// if the latest choice was taken for this need.
 fn is_met(pool: &Sealed<'_>, choices: &CandidateSet, need: &NeedRef<'_>) -> bool
     ensures { result ≡ is_met pool.now choices.now (need_of_ref need.now) }
 {
     choice_meeting(pool, choices, need).is_some()
 }
 
-/// Whether a choice meets a need. The latest is tried first: it may have been taken for this need.
+/// Whether a choice meets a need. The latest choice is tried first: it may have been taken for this
+/// need.
 pub fn is_met_by_latest_or_other(
     pool: &Sealed<'_>,
     choices: &CandidateSet,
@@ -127,7 +130,7 @@ pub fn is_met_by_latest_or_other(
     is_met(pool, choices, need)
 }
 
-// Whether the latest choice meets the need. If it does not, an earlier choice may still meet it.
+// Whether the latest choice meets the need; false says nothing about the earlier choices.
 fn latest_meets(pool: &Sealed<'_>, choices: &[CandId], need: &NeedRef<'_>) -> bool
     ensures { result ≡ true → is_met pool.now choices.now (need_of_ref need.now) ≡ true }
 {
@@ -178,14 +181,17 @@ fn is_dep_met(pool: &Sealed<'_>, choices: &CandidateSet, dep: &Dep<'_>) -> bool
     is_met(pool, choices, &NeedRef::Entry(dep))
 }
 
-/// For each of some dependencies that a choice meets, one choice that does. If all are met, these
-/// choices alone meet them: so they raised the need of an install-if.
+/// For each of these dependencies that a choice meets, one choice that meets it. If the
+/// dependencies are the entries of an install-if, and all are met, these choices raise the need of
+/// its name.
 pub fn raisers(
     alloc: Global,
     pool: &Sealed<'_>,
     choices: &CandidateSet,
     deps: &Deps<'_>,
 ) -> Result<Vec<CandId>, AllocError>
+    // All members of the list are choices. If all choices together meet each dependency, the
+    // members of the list alone do too.
     ensures within { IfOk result (λ by. AreAllMembersOf by.items choices.now) }
     ensures met { IfOk result (λ by. all_met pool.now choices.now deps.now ≡ true →
         all_met pool.now by.items deps.now ≡ true) }
@@ -197,13 +203,14 @@ pub fn raisers(
     Ok(by)
 }
 
-// Adds a choice that meets the dependency to the list `by`, if one does.
+// Appends a choice that meets the dependency to the list `by`, if there is such a choice.
 fn push_met(
     by: &mut Vec<CandId>,
     pool: &Sealed<'_>,
     choices: &CandidateSet,
     dep: &Dep<'_>,
 ) -> Result<(), AllocError>
+    // A list that has only choices still does, and each list keeps its members.
     ensures within { OnOk result (AreAllMembersOf by.old.items choices.now →
         AreAllMembersOf by.new.items choices.now) }
     ensures more { OnOk result (AreAllMembersOf by.old.items by.new.items) }
@@ -220,8 +227,8 @@ fn push_met(
     }
 }
 
-/// A choice that occupies a name. All choices are searched if they are fewer than the candidates
-/// that offer the name.
+/// A choice that occupies a name; None if no choice does. If the choices are fewer than the
+/// candidates that offer the name, all choices are tried, and else these candidates.
 pub fn occupant(pool: &Sealed<'_>, choices: &CandidateSet, name: &[u8]) -> Option<CandId>
     // None: no choice occupies the name. Otherwise: a choice that occupies it.
     ensures { MatchOption result ((k : ℕ) → IsIn k choices.now →

@@ -10,8 +10,8 @@ use pool_core::{CandId, Deps};
 use std::alloc::AllocError;
 use std::marker::Model;
 
-/// A dependency that must be met, the choice that has it, if it is not one of world, and its index
-/// there.
+/// A dependency that must be met, with its origin: the choice that has the dependency, or world,
+/// and the index of the dependency there.
 #[derive(Drop)]
 pub struct RaisedDep<'p> {
     /// The dependency, which is no conflict.
@@ -29,6 +29,7 @@ impl<'p> Model for RaisedDep<'p> {
 
     ghost Value = { RaisedDepValue };
 
+    // In this order: the dependency, the choice that has it, and its index.
     ghost view = { λ r. (dependency r.dep, r.by, r.index) };
 }
 
@@ -56,18 +57,19 @@ impl<'p> RaisedDep<'p> {
     }
 }
 
-/// The state of the queue and the cursors before a choice.
+/// The state of the queue and of the two cursors before a choice, to which they return if the
+/// choice is taken back.
 #[derive(Clone, Copy)]
 pub struct Checkpoint {
     /// How many dependencies the queue had.
     pub queue_len: usize,
-    /// The cursor of the queue.
+    /// The cursor of the queue: the dependencies before it are met.
     pub cursor: usize,
-    /// The cursor of the install-ifs.
+    /// The cursor of the install-ifs: none of those before it triggers its candidate.
     pub asking_cursor: usize,
 }
 
-/// Queues the entries of world that are no conflicts.
+/// Appends the entries of world that are no conflicts to the queue.
 pub fn queue_world<'p>(queue: &mut Vec<RaisedDep<'p>>, world: &'p World) -> Result<(), AllocError>
     ensures { OnOk result (queue.new.items ≡ queue.old.items
         ++ raised_deps None world.entry.now) }
@@ -78,7 +80,7 @@ pub fn queue_world<'p>(queue: &mut Vec<RaisedDep<'p>>, world: &'p World) -> Resu
     Ok(())
 }
 
-/// Queues the dependencies of a choice that are no conflicts.
+/// Appends the dependencies of the choice `by` that are no conflicts to the queue.
 pub fn queue_all<'p>(
     queue: &mut Vec<RaisedDep<'p>>,
     deps: &Deps<'p>,
@@ -93,14 +95,15 @@ pub fn queue_all<'p>(
     Ok(())
 }
 
-// Appends a dependency to the queue, unless it is a conflict; `by` is the choice that has it, at an
-// index.
+// Appends a dependency to the queue, unless it is a conflict. `by` is the choice that has the
+// dependency at this index; None for an entry of world.
 fn queue_one<'p>(
     queue: &mut Vec<RaisedDep<'p>>,
     dep: Dep<'p>,
     by: Option<CandId>,
     index: usize,
 ) -> Result<(), AllocError>
+    // The dependency is appended with the choice and the index, unless it is a conflict.
     ensures { OnOk result (queue.new.items ≡ queue.old.items
         ++ raised_deps_from by index (dependency dep.entry ∷ [])) }
 {

@@ -8,7 +8,7 @@ use Rattle.search_choices.specs.candidate_core.Options.{IsIn}
 use Rattle.search_choices.specs.search_tables.Selection.{AreAllMembersOf}
 use Rattle.search_choices.specs.search_tables.Reasons.{IsSolution}
 
--- a clause, in this order: its members, and its options
+-- a clause, in this order: its members, and its options, both as places in the list of candidates
 abbrev pub ClauseValue : Type 0
 ClauseValue = List ℕ × List ℕ
 
@@ -17,15 +17,15 @@ abbrev pub IsClause : SealedPool → ClauseValue → Type 0
 IsClause pool clause = (selection : List ℕ) → IsSolution pool selection →
     AreAllMembersOf clause.0 selection → (c : ℕ) × IsIn c clause.1 × IsIn c selection
 
--- what is found, if anything is, is a clause of the pool
+-- if memory does not run out and a clause is found, it is a clause of the pool
 abbrev pub IsClauseIfFound : SealedPool → Result (Option ClauseValue) AllocError → Type 0
 IsClauseIfFound pool result = IfOk result (λ found. IfSome found (λ clause. IsClause pool clause))
 
--- each of the list is a clause of the pool
+-- each clause of the list is a clause of the pool
 abbrev pub AreClauses : SealedPool → List ClauseValue → Type 0
 AreClauses pool [] = Unit {0}
 AreClauses pool (clause ∷ clauses) = IsClause pool clause × AreClauses pool clauses
 
--- each member of the first list is the candidate, or is in the second list
+-- each number of the list `members` is the candidate `c`, or is in the list `others`
 abbrev pub AreAllMembersOfOr : List ℕ → ℕ → List ℕ → Type 0
 AreAllMembersOfOr members c others = (o : ℕ) → IsIn o members → (o ≡ c) ⊎ IsIn o others

@@ -15,11 +15,11 @@ power b (suc n) = b * power b n
 unfoldable pub base : ℕ
 base = 2 ^ 64 + 2
 
--- how many digits a number has at most: a list has less than 2^64 frames
+-- the number of digits: a list has less than 2^64 frames, and each frame has one digit
 unfoldable pub most_digits : ℕ
 most_digits = 2 ^ 64
 
--- the digit of a frame: the number of its options that are left, plus one
+-- the digit of a frame: the number of its options that are left, plus one, so that it is never 0
 abbrev pub digit : FrameValue → ℕ
 digit f = suc (length f.1)
 
@@ -30,11 +30,12 @@ weight b room [] = 0
 weight b zero (d ∷ ds) = 0
 weight b (suc room) (d ∷ ds) = d * power b room + weight b room ds
 
--- the digits of the frames of these turns, the first turn's digit first
+-- the digits of the frames of these turns, that of the first turn first
 abbrev pub digits : List (FrameValue × ℕ) → List ℕ
 digits [] = []
 digits (turn ∷ turns) = digit turn.0 ∷ digits turns
 
--- the measure of a search: the number whose digits are those of all frames, with the topmost last
+-- the measure of a search: the number whose digits are those of the frames of all turns, and last that of the topmost
+-- frame `top`, which has no choice yet
 unfoldable pub search_measure : List (FrameValue × ℕ) → FrameValue → ℕ
 search_measure turns top = weight base most_digits (digits turns ++ digit top ∷ [])

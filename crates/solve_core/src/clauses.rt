@@ -16,9 +16,10 @@ use std::marker::Model;
 /// A clause: each satisfying selection that has all members has one of the options.
 #[derive(Drop)]
 pub(crate) struct Clause {
-    /// The members.
+    /// The members: the clause is about the selections that have all of these candidates.
     members: Vec<CandId>,
-    /// The options.
+    /// The options: each such satisfying selection has one of these candidates. A reason has no
+    /// options.
     options: Vec<CandId>,
 }
 
@@ -59,14 +60,14 @@ impl Clause {
         Ok(Clause { members, options })
     }
 
-    /// The members.
+    /// The members: the clause is about the selections that have all of them.
     pub(crate) fn members(&self) -> &[CandId]
         ensures { result.now ≡ self.now.0 }
     {
         self.members.as_slice()
     }
 
-    /// The options.
+    /// The options, of which each such satisfying selection has one; none in a reason.
     pub(crate) fn options(&self) -> &[CandId]
         ensures { result.now ≡ self.now.1 }
     {
@@ -86,14 +87,15 @@ impl Clause {
     }
 }
 
-/// The resolvent of two clauses at a candidate, an option of the first and a member of the second.
-/// It has all members and options of both but that candidate.
+/// The resolvent of two clauses at a candidate, which is an option of the first and a member of the
+/// second. The resolvent has all members and options of both clauses but this candidate.
 pub(crate) fn resolvent(
     alloc: Global,
     first: &Clause,
     second: &Clause,
     id: CandId,
 ) -> Result<Clause, AllocError>
+    // If both are clauses of a pool, so is the resolvent.
     ensures { IfOk result (λ clause. (pool : SealedPool) → IsClause pool first.now →
         IsClause pool second.now → IsClause pool clause) }
 {
@@ -107,6 +109,7 @@ pub(crate) fn resolvent(
 // Appends to the list each of the candidates `ids` that it does not have, except for the candidate
 // `but`.
 fn add_others(list: &mut Vec<CandId>, ids: &[CandId], but: CandId) -> Result<(), AllocError>
+    // The list keeps its members, and then has each of the candidates `ids` except for `but`.
     ensures old { OnOk result (AreAllMembersOf list.old.items list.new.items) }
     ensures new { OnOk result (AreAllMembersOfOr ids.now but list.new.items) }
 {
@@ -116,8 +119,9 @@ fn add_others(list: &mut Vec<CandId>, ids: &[CandId], but: CandId) -> Result<(),
     Ok(())
 }
 
-// Appends a candidate, unless it is the given one or the list has it.
+// Appends the candidate `id`, unless it is the candidate `but`, or is in the list already.
 fn add_unless(list: &mut Vec<CandId>, id: CandId, but: CandId) -> Result<(), AllocError>
+    // The list keeps its members. The candidate is `but`, or is in the list afterwards.
     ensures old { OnOk result (AreAllMembersOf list.old.items list.new.items) }
     ensures new { OnOk result ((id ≡ but) ⊎ IsIn id list.new.items) }
 {

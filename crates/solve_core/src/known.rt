@@ -13,19 +13,19 @@ use std::marker::Model;
 /// The number of clauses from which on no further rules are made clauses.
 const MOST_RULES: usize = 262_144;
 
-/// The clauses of one pool that the search knows. In contracts this value stands for the pool. They
-/// do not say which clauses it holds, only that each is one of the pool.
+/// The clauses of one pool that the search knows. In contracts this value stands for the pool:
+/// contracts do not say which clauses there are, only that each is a clause of this pool.
 #[derive(Drop)]
 pub(crate) struct Known<'p> {
     /// The allocator.
     alloc: Global,
-    /// The candidates, under their world.
+    /// The pool: the candidates, and the world that they were sealed with.
     pool: &'p Sealed<'p>,
     /// The world that the pool was sealed with.
     world: &'p World,
     /// The clauses of the pool's rules, then those that were learnt.
     clauses: Vec<Clause>,
-    /// For each step of propagation, the clause that it follows from.
+    /// For each step of the trail, by its index: the clause from which propagation drew the step.
     causes: Vec<Clause>,
 }
 
@@ -38,17 +38,20 @@ impl<'p> Model for Known<'p> {
 
     ghost Value = { SealedPool };
 
+    // Pools with equal codes are equal (`Coded`).
     ghost coded = { Prim.hlevel (codes, plain_code) };
 
+    // The value is the pool alone.
     ghost view = { λ known. known.pool.now };
 
+    // The world is that of the pool, and each clause and each cause is a clause of the pool.
     ghost invariant = { λ known. (known.world.now ≡ known.pool.now.world)
         × AreClauses known.pool.now known.clauses.items
         × AreClauses known.pool.now known.causes.items };
 }
 
 impl<'p> Known<'p> {
-    /// No clauses, of this pool.
+    /// The known clauses of this pool, when none is known yet.
     pub(crate) fn new(alloc: Global, pool: &'p Sealed<'p>, world: &'p World) -> Known<'p>
         requires { world.now ≡ pool.now.world }
         ensures { result ≡ pool.entry.now }
@@ -62,7 +65,7 @@ impl<'p> Known<'p> {
         }
     }
 
-    /// The candidates, under their world.
+    /// The pool: the candidates, and the world that they were sealed with.
     pub(crate) fn pool(&self) -> &'p Sealed<'p>
         ensures { result.now ≡ self.now }
     {
@@ -89,14 +92,16 @@ impl<'p> Known<'p> {
     /// Adds a clause, whose index is the number of those before it.
     pub(crate) fn push(&mut self, clause: Clause) -> Result<(), AllocError>
         requires { IsClause self.old clause }
+        // The pool is unchanged: `Known` is seen as its pool.
         ensures { self.new ≡ self.old }
     {
         self.clauses.push(clause)?;
         Ok(())
     }
 
-    /// Forgets the clauses from an index on.
+    /// Forgets all clauses but the first `len`.
     pub(crate) fn truncate(&mut self, len: usize)
+        // The pool is unchanged: `Known` is seen as its pool.
         ensures { self.new ≡ self.old }
     {
         self.clauses.truncate(len);
@@ -110,23 +115,27 @@ impl<'p> Known<'p> {
         Some(clause)
     }
 
-    /// Adds the clause that the next step follows from.
+    /// Adds the cause of the next step of the trail: the clause from which propagation draws the
+    /// step.
     pub(crate) fn push_cause(&mut self, clause: Clause) -> Result<(), AllocError>
         requires { IsClause self.old clause }
+        // The pool is unchanged: `Known` is seen as its pool.
         ensures { self.new ≡ self.old }
     {
         self.causes.push(clause)?;
         Ok(())
     }
 
-    /// Forgets the causes of the steps from an index on.
+    /// Forgets all causes but those of the first `len` steps.
     pub(crate) fn truncate_causes(&mut self, len: usize)
+        // The pool is unchanged: `Known` is seen as its pool.
         ensures { self.new ≡ self.old }
     {
         self.causes.truncate(len);
     }
 
-    /// The clause that a step follows from, if there is the step.
+    /// The cause of the step of the trail at an index, counted from 0; None if there is no such
+    /// step.
     pub(crate) fn cause_at(&self, step: usize) -> Option<&Clause>
         ensures { IfSome result (λ clause. IsClause self.now clause.now) }
     {
@@ -134,8 +143,8 @@ impl<'p> Known<'p> {
         Some(clause)
     }
 
-    /// The resolvent of a clause with the cause of a step that rules its option out; the clause
-    /// itself if there is no such step.
+    /// The clause without one of its options: its resolvent with the cause of the step that rules
+    /// the option out. If there is no such step, the clause itself.
     pub(crate) fn without_option(
         &self,
         clause: Clause,
@@ -152,8 +161,8 @@ impl<'p> Known<'p> {
         Ok(found)
     }
 
-    /// The resolvent of a clause with the cause of a step that forces its member; the clause itself
-    /// if there is no such step.
+    /// The clause without one of its members: its resolvent with the cause of the step that forces
+    /// the member. If there is no such step, the clause itself.
     pub(crate) fn without_member(
         &self,
         clause: Clause,

@@ -15,6 +15,7 @@ pub fn walks_satisfy()
     ensures satisfies { (pool : SealedPool) (selection walk : List ℕ) →
         IsSatisfying pool selection → IsSelectionWithWalk pool selection walk
         → IsSatisfying pool walk }
+    // The walk of a selection is its own walk.
     ensures walked { (pool : SealedPool) (selection walk : List ℕ) →
         IsSelectionWithWalk pool selection walk → IsSelectionWithWalk pool walk walk }
 {
@@ -25,6 +26,7 @@ pub fn walks_satisfy()
 
 /// Each satisfying selection has a walk, and one only.
 pub fn each_selection_has_one_walk()
+    // Each satisfying selection has a walk.
     ensures some { (pool : SealedPool) (selection : List ℕ) →
         IsSatisfying pool selection → (walk : List ℕ) × IsSelectionWithWalk pool selection walk }
     // A selection has at most one walk.
@@ -37,8 +39,8 @@ pub fn each_selection_has_one_walk()
     rank_is_total();
 }
 
-/// The walks of satisfying selections have one order. Of two different ones, one is preferred to
-/// the other, at a place where both choose, and not the other way round. The order is transitive.
+/// The walks of satisfying selections have one order. Of two different walks, exactly one is
+/// preferred to the other, at a place where both have a candidate. The order is transitive.
 pub fn walks_have_one_order()
     // Of the walks of two satisfying selections, one is preferred to the other, or they are equal.
     ensures one_of { (pool : SealedPool) (selection other walk second : List ℕ) →
@@ -46,8 +48,10 @@ pub fn walks_have_one_order()
         IsSelectionWithWalk pool selection walk → IsSelectionWithWalk pool other second →
         (walk ≡ second) ⊎ (IsWalkPreferredTo pool walk second
         ⊎ IsWalkPreferredTo pool second walk) }
+    // Of two walks, at most one is preferred to the other.
     ensures not_both { (pool : SealedPool) (walk second : List ℕ) →
         IsWalkPreferredTo pool walk second → IsWalkPreferredTo pool second walk → ⊥ }
+    // The order is transitive.
     ensures transitive { (pool : SealedPool) (a b c : List ℕ) →
         IsWalkPreferredTo pool a b → IsWalkPreferredTo pool b c → IsWalkPreferredTo pool a c }
 {
@@ -56,7 +60,7 @@ pub fn walks_have_one_order()
     rank_is_total();
 }
 
-/// There is at most one first selection: the rule of the document picks one.
+/// At most one selection is the preferred one: so the rules of `docs/selection.md` define it.
 pub fn the_first_selection_is_unique()
     ensures { (pool : SealedPool) (trace other : List ℕ) →
         IsFirstPreferredSelection pool trace → IsFirstPreferredSelection pool other → trace
@@ -81,6 +85,9 @@ pub fn a_first_selection_exists()
 /// Each choice of the preferred solution is the best in rank with which, and with the choices
 /// before it, the world can still be satisfied.
 pub fn each_choice_is_the_best_that_can_be_completed()
+    // `front` are the choices before `c`, and `need` is the need that comes next after them. Of the
+    // candidates `o` that meet this need and can be completed after `front`, none is better than
+    // `c`.
     ensures { (pool : SealedPool) (front rest selection : List ℕ) (c o : ℕ) (need : Need) →
         IsFirstPreferredSelection pool (front ++ c ∷ rest) → next_need pool front ≡ Some need →
         IsSatisfying pool selection → AreAllMembersOf (front ++ o ∷ []) selection →

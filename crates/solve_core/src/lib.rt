@@ -21,5 +21,6 @@ pub use laws::{
     each_selection_has_one_walk, the_first_selection_is_unique, walks_have_one_order,
     walks_satisfy,
 };
+// Names of `search_choices` and the crates below it that users of this crate need.
 pub use search_choices::{CandId, Candidate, Details, Sealed, SortedWords, Trace, is_same_id};
 pub use selection::solve;

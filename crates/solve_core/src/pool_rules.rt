@@ -21,15 +21,18 @@ use std::alloc::{AllocError, Global};
 /// The most options of a need that is made a clause. A need with more options rarely forces one.
 const MOST_OPTIONS: usize = 256;
 
-/// The most candidates that offer a name for which reasons are made: there is one for each two.
+/// The most candidates that offer a name, if reasons are made of them: each two may exclude each
+/// other.
 const MOST_OFFERS: usize = 256;
 
-/// Adds the clauses of the entries of world, and the options of these to the candidates reached.
+/// Adds the clauses of the entries of world to the known ones, and the options of these entries to
+/// `reached`: the candidates whose own rules are to be added later.
 pub(crate) fn add_world(
     alloc: Global,
     known: &mut Known<'_>,
     reached: &mut CandidateSet,
 ) -> Result<(), AllocError>
+    // The pool is unchanged: `Known` is seen as its pool.
     ensures { known.new ≡ known.old }
 {
     let world = known.world();
@@ -46,6 +49,7 @@ fn add_entry(
     dep: &Dep<'_>,
     reached: &mut CandidateSet,
 ) -> Result<(), AllocError>
+    // The dependency is an entry of the pool's world.
     requires { IsIn (dependency dep.now) known.old.world }
     ensures { known.new ≡ known.old }
 {
@@ -56,14 +60,15 @@ fn add_entry(
     add_need(known, clause, reached)
 }
 
-// Adds the clause of a need, unless there are too many options, and its options to the candidates
-// reached.
+// Adds the clause of a need to the known ones, and its options to the candidates `reached`. If
+// there are too many options, neither is added.
 fn add_need(
     known: &mut Known<'_>,
     clause: Clause,
     reached: &mut CandidateSet,
 ) -> Result<(), AllocError>
     requires { IsClause known.old clause }
+    // The pool is unchanged: `Known` is seen as its pool.
     ensures { known.new ≡ known.old }
 {
     if clause.options().len() > MOST_OPTIONS {
@@ -73,14 +78,16 @@ fn add_need(
     known.push(clause)
 }
 
-/// Adds the clauses of a candidate: of its dependencies, whose options are added to the candidates
-/// reached, and of those that it excludes.
+/// Adds the clauses of the candidate `id` to the known ones: one for each of its dependencies, and
+/// a reason for each candidate that it excludes. The options of the dependencies are added to
+/// `reached`.
 pub(crate) fn add_candidate(
     alloc: Global,
     known: &mut Known<'_>,
     id: CandId,
     reached: &mut CandidateSet,
 ) -> Result<(), AllocError>
+    // The pool is unchanged: `Known` is seen as its pool.
     ensures { known.new ≡ known.old }
 {
     let pool = known.pool();
@@ -91,11 +98,13 @@ pub(crate) fn add_candidate(
     for i in 0..depends.len() {
         add_dependency(alloc, known, id, &depends.get(i), reached)?;
     }
+    // Reasons against other candidates of the same name, and of the names that this one provides.
     add_exclusions(alloc, known, id, pool.offers(details.name()))?;
     add_provided(alloc, known, id, &details)
 }
 
-// Adds the clause of a candidate's dependency; of a conflict, those of the candidates that meet it.
+// Adds the clause of a dependency of the candidate `id`. If the dependency is a conflict, adds a
+// reason for each candidate that `id` excludes among those that offer the conflict's name.
 fn add_dependency(
     alloc: Global,
     known: &mut Known<'_>,
@@ -103,6 +112,7 @@ fn add_dependency(
     dep: &Dep<'_>,
     reached: &mut CandidateSet,
 ) -> Result<(), AllocError>
+    // The dependency is one of those of the candidate `id`, or one of its conflicts.
     requires { IsIn (dependency dep.now) (depends_at known.old id) }
     ensures { known.new ≡ known.old }
 {
@@ -122,6 +132,7 @@ fn need_clause(
     dep: &Dep<'_>,
     by: Option<CandId>,
 ) -> Result<Clause, AllocError>
+    // The candidate `by`, or world if there is none, raises this need.
     requires { IsIn (entry (dependency dep.now)) (needs pool.now (option_to_list by)) }
     ensures { IfOk result (λ clause. IsClause pool.now clause) }
 {
@@ -131,14 +142,15 @@ fn need_clause(
     Ok(clause)
 }
 
-// The clause with the candidate that raises the need as its member, if there is one, and with the
-// options.
+// The clause of a need: its member is the candidate `by` that raises the need, if there is one, and
+// its options are those of the need.
 fn raiser_and_options(
     alloc: Global,
     pool: &Sealed<'_>,
     dep: &Dep<'_>,
     by: Option<CandId>,
 ) -> Result<Clause, AllocError>
+    // In this order: the members, and the options.
     ensures { IfOk result (λ clause. clause ≡ (
       option_to_list by,
       options_for pool.now
@@ -153,8 +165,8 @@ fn raiser_and_options(
     Ok(Clause::new(members, options.into_ids()))
 }
 
-// Adds a reason for each candidate that the candidate `id` excludes, since both occupy a name that
-// it provides with a version.
+// Adds a reason for each candidate that occupies a name which the candidate `id` provides with a
+// version: such candidates exclude `id`.
 fn add_provided(
     alloc: Global,
     known: &mut Known<'_>,
@@ -209,7 +221,8 @@ fn add_exclusion(
     known.push(clause)
 }
 
-// Whether a candidate excludes another: by a conflict that it has, or a name that both occupy.
+// Whether the candidate `id` excludes the candidate `other`: by a conflict that `id` has, or by a
+// name that both occupy. No candidate excludes itself.
 fn does_exclude(pool: &Sealed<'_>, id: CandId, other: CandId) -> bool
     ensures { result ≡ true → exclude_each_other pool.now id other ≡ true }
 {
@@ -228,8 +241,9 @@ fn does_exclude(pool: &Sealed<'_>, id: CandId, other: CandId) -> bool
     shares_a_name(&details, &others)
 }
 
-// Whether a conflict of a candidate is met by another.
+// Whether the candidate `other` meets a conflict that the candidate with these details has.
 fn has_conflict_met_by(details: &Details<'_>, other: &Details<'_>) -> bool
+    // If the result is true, `other` meets a conflict of the candidate; false promises nothing.
     ensures { result ≡ true → list_any (λ (d : Dependency). d.conflict
         && meets_dependency d other.now) details.now.depends ≡ true }
 {
@@ -252,6 +266,7 @@ fn is_conflict_met_by(dep: &Dep<'_>, other: &Details<'_>) -> bool
 
 // Whether both candidates occupy one and the same name.
 fn shares_a_name(details: &Details<'_>, other: &Details<'_>) -> bool
+    // If the result is true, both occupy one of the candidate's names; false promises nothing.
     ensures { result ≡ true → list_any (λ name. occupies_name name other.now)
         (occupied_names details.now) ≡ true }
 {

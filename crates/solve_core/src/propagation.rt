@@ -26,7 +26,8 @@ const MOST_MEMBERS: usize = 64;
 /// takes long, and rarely helps.
 const MOST_LITERALS: usize = 512;
 
-/// The state of propagation. No contract mentions it: what it names is checked before it is used.
+/// The state of propagation. No contract mentions it: the clauses and steps that it names by their
+/// indexes are looked up before they are used.
 #[derive(Drop)]
 pub(crate) struct Propagation {
     /// The allocator.
@@ -44,7 +45,7 @@ pub(crate) struct Propagation {
 }
 
 impl Propagation {
-    /// Propagation that has not begun.
+    /// The state before the rules of the pool are added: nothing is propagated.
     pub(crate) fn new(alloc: Global) -> Propagation {
         Propagation {
             alloc,
@@ -57,6 +58,7 @@ impl Propagation {
 
     /// Adds the rules of the pool to the known clauses, unless they were added before.
     pub(crate) fn begin(&mut self, known: &mut Known<'_>) -> Result<(), AllocError>
+        // The pool is unchanged: `Known` is seen as its pool.
         ensures { known.new ≡ known.old }
     {
         if self.base.is_some() {
@@ -82,10 +84,12 @@ impl Propagation {
         Ok(())
     }
 
-    /// Learns a clause, unless it has too many members. If too many clauses are learnt already,
-    /// these are forgotten first. Each learnt clause is right without the others.
+    /// Learns a clause, unless it has no members or too many, or propagation has not begun. If too
+    /// many clauses are learnt already, these are forgotten first. Each learnt clause is right
+    /// without the others.
     pub(crate) fn learn(&mut self, clause: Clause, known: &mut Known<'_>) -> Result<(), AllocError>
         requires { IsClause known.old clause }
+        // The pool is unchanged: `Known` is seen as its pool.
         ensures { known.new ≡ known.old }
     {
         let Some(base) = self.base else {
@@ -103,10 +107,12 @@ impl Propagation {
         known.push(clause)
     }
 
-    /// Takes the choices back from a level on, which is the number of the choices that remain.
+    /// Takes all choices back but the first `level`, with the steps that followed from them.
     pub(crate) fn take_back(&mut self, level: usize, known: &mut Known<'_>)
+        // The pool is unchanged: `Known` is seen as its pool.
         ensures { known.new ≡ known.old }
     {
+        // `left` is the number of steps that remain.
         if let Some(left) = self.trail.take_back(level) {
             known.truncate_causes(left);
         }
@@ -117,8 +123,7 @@ impl Propagation {
         self.trail.level()
     }
 
-    /// Propagates a further choice. It returns a clause that the choices contradict, if one is
-    /// found.
+    /// Propagates a further choice. Returns a clause that the choices contradict, if one is found.
     pub(crate) fn choose(
         &mut self,
         choice: CandId,
@@ -134,8 +139,11 @@ impl Propagation {
             is_in: true,
         };
         match self.trail.truth(literal) {
+            // The choice was forced already, so it needs no step of its own.
             Some(true) => {}
+            // The choice was ruled out already: the cause of that is the contradicted clause.
             Some(false) => return self.cause_against(choice, known),
+            // The choice becomes a step, whose cause is a clause that always holds.
             None => {
                 known.push_cause(trivial_clause(self.alloc, choice)?)?;
                 self.trail.push(literal, true)?;
@@ -144,7 +152,8 @@ impl Propagation {
         self.propagate(known)
     }
 
-    // A copy of the clause that rules a candidate out, if one does.
+    // A copy of the clause from which propagation drew that a candidate is ruled out; None if the
+    // trail does not rule the candidate out.
     fn cause_against(&self, id: CandId, known: &Known<'_>) -> Result<Option<Clause>, AllocError>
         ensures { IsClauseIfFound known.now result }
     {
@@ -158,7 +167,7 @@ impl Propagation {
     }
 
     /// Propagates the pending clauses, and then the steps of the trail that are not yet propagated.
-    /// It returns a clause that the choices contradict, if one is found.
+    /// Returns a clause that the choices contradict, if one is found.
     pub(crate) fn propagate(&mut self, known: &mut Known<'_>) -> Result<Option<Clause>, AllocError>
         // The pool of the known clauses is unchanged; `Known` is seen as its pool.
         ensures known { known.new ≡ known.old }
@@ -171,7 +180,8 @@ impl Propagation {
         self.propagate_steps(known)
     }
 
-    // For each clause at these indexes: appends the literal that it forces to the trail.
+    // For each clause at these indexes: appends the literal that it forces to the trail. Returns a
+    // clause that the choices contradict, if one is found.
     fn derive_all(
         &mut self,
         indexes: &[usize],
@@ -195,6 +205,7 @@ impl Propagation {
         ensures known { known.new ≡ known.old }
         ensures conflict { IsClauseIfFound known.old result }
     {
+        // At most one step for each candidate: this bound lets the loop end.
         let mut left = known.pool().len();
         while left > 0 {
             left -= 1;
@@ -218,6 +229,7 @@ impl Propagation {
         ensures known { known.new ≡ known.old }
         ensures conflict { IsClauseIfFound known.old result }
     {
+        // The list is read from its end, since a visited clause may be removed from it.
         let mut left = self.watches.count(literal);
         while left > 0 {
             left -= 1;
@@ -263,6 +275,7 @@ impl Propagation {
         };
         match status {
             Status::Quiet => Ok(None),
+            // The clause forces the literal, which becomes a step of the trail with its cause.
             Status::Unit(literal) => {
                 if let Some(cause) = self.without_options(index, known)? {
                     known.push_cause(cause)?;
@@ -270,12 +283,13 @@ impl Propagation {
                 }
                 Ok(None)
             }
+            // The choices contradict the clause.
             Status::Conflict => self.without_options(index, known),
         }
     }
 
-    // The clause at an index without the options that are ruled out, by resolution; None if it gets
-    // too long.
+    // The clause at an index without the options that are ruled out, by resolution; None if the
+    // clause becomes too long (`MOST_LITERALS`).
     fn without_options(&self, index: usize, known: &Known<'_>) -> Result<Option<Clause>, AllocError>
         ensures { IsClauseIfFound known.now result }
     {
@@ -292,8 +306,8 @@ impl Propagation {
         Ok(Some(clause))
     }
 
-    // A clause from which an option that is ruled out was removed, by resolution; otherwise the
-    // clause.
+    // The clause without this option, by resolution, if the trail rules the option out; otherwise
+    // the clause itself.
     fn without_option(
         &self,
         clause: Clause,
@@ -309,8 +323,8 @@ impl Propagation {
         }
     }
 
-    /// Learns from a clause that the choices contradict, and returns the clause of choices alone
-    /// that follows.
+    /// Learns a clause that follows from `conflict`, which the choices contradict. Returns the
+    /// clause that follows about choices alone.
     pub(crate) fn learn_from(
         &mut self,
         conflict: Clause,
@@ -321,6 +335,7 @@ impl Propagation {
         ensures known { known.new ≡ known.old }
         ensures clause { IfOk result (λ clause. IsClause known.old clause) }
     {
+        // `true`: until one member is of the latest level. `false`: until all members are choices.
         let learnt = self.resolved(conflict, true, known)?;
         let copy = learnt.copy(self.alloc)?;
         let of_choices = self.resolved(learnt, false, known)?;
@@ -328,7 +343,8 @@ impl Propagation {
         Ok(of_choices)
     }
 
-    /// The clause of choices and a candidate, by resolution, if the candidate is ruled out.
+    /// A clause of the candidate `id` and of choices, by resolution, if the trail rules the
+    /// candidate out.
     pub(crate) fn clause_against(
         &self,
         id: CandId,
@@ -345,9 +361,9 @@ impl Propagation {
         }
     }
 
-    // A clause without members that were forced, by resolution with the causes of these, the latest
-    // first. It ends early once the clause is too long, or, if `until_alone`, once the latest level
-    // has one member.
+    // A clause that follows from `clause` and has no members that were forced: each is removed by
+    // resolution with its cause, the latest first. Resolution ends early once the clause is too
+    // long, or, if `until_alone`, once the latest level has one member.
     fn resolved(
         &self,
         clause: Clause,
@@ -358,6 +374,7 @@ impl Propagation {
         ensures { IfOk result (λ found. IsClause known.now found) }
     {
         let mut clause = clause;
+        // At most one round for each candidate: this bound lets the loop end.
         let mut left = known.pool().len();
         while left > 0 {
             left -= 1;
@@ -379,10 +396,12 @@ impl Propagation {
     }
 }
 
-// Adds the rules of the pool for the candidates nearest to world.
+// Adds the rules of world, and of the candidates that are nearest to world, to the known clauses.
 fn add_rules(alloc: Global, known: &mut Known<'_>) -> Result<(), AllocError>
     ensures { known.new ≡ known.old }
 {
+    // The candidates found so far: the options for world first, then the options for these, and so
+    // on.
     let mut reached = CandidateSet::new(alloc);
     add_world(alloc, known, &mut reached)?;
     for i in 0..MOST_CANDIDATES {
@@ -397,7 +416,8 @@ fn add_rules(alloc: Global, known: &mut Known<'_>) -> Result<(), AllocError>
     Ok(())
 }
 
-// The clause that says nothing: a candidate is in a selection if it is.
+// A clause that always holds: a selection that has a candidate has this candidate. It is the cause
+// of a step that is a choice.
 fn trivial_clause(alloc: Global, id: CandId) -> Result<Clause, AllocError>
     ensures { (pool : SealedPool) → IfOk result (λ clause. IsClause pool clause) }
 {

@@ -54,14 +54,15 @@ impl Turn {
     }
 }
 
-/// Where an option may be ruled out: the turn, and the index among the ruled-out options there. It
-/// is checked before it is used, so it may be stale.
+/// Where an option may be ruled out: a turn, and an index among the ruled-out options of the turn's
+/// frame. A hint may be stale, so the option there is compared with the expected one before use.
 #[derive(Clone, Copy)]
 struct Hint {
-    /// The index of the turn, counted from 0. It equals the number of turns while the frame of this
-    /// turn is still in use, and not yet stored.
+    /// The index of the turn, counted from 0. The index is the number of turns while the frame of
+    /// this turn is still in use, and not yet stored.
     turn: usize,
-    /// The index of the option among those that are ruled out there, counted from 0.
+    /// The index of the option among those that are ruled out in the frame of this turn, counted
+    /// from 0.
     place: usize,
 }
 
@@ -74,14 +75,15 @@ pub(crate) struct Search<'p> {
     chosen: Choices<'p>,
     /// The turns so far, one for each choice.
     turns: Vec<Turn>,
-    /// For each place in the list of candidates, up to the greatest that was ruled out, where that
-    /// candidate was ruled out last.
+    /// For each candidate, by its place in the list of candidates: where it was ruled out last. The
+    /// list ends at the greatest such place.
     hints: Vec<Option<Hint>>,
     /// The members of the reason of the latest dead end; the set is reused for the next one.
     reason: CandidateSet,
-    /// The remembered results for the long versions in dependencies of candidates.
+    /// Remembered results of comparisons: which long versions the dependencies of candidates
+    /// accept.
     matches: PackageMatches<'p>,
-    /// The number of dead ends so far.
+    /// The number of dead ends so far; propagation begins after `DEAD_ENDS_BEFORE` of them.
     dead_ends: usize,
     /// The clauses that are known, for propagation.
     known: Known<'p>,
@@ -100,8 +102,10 @@ impl<'p> Search<'p> {
         ensures search { IfOk result (λ search. IsSearch search.chosen search.turns.items) }
         ensures pool { IfOk result (λ search. pool_of search.chosen ≡ pool.entry.now) }
         ensures none { IfOk result (λ search. search.turns.items ≡ []) }
+        // The remembered results are right for the candidates of the pool.
         ensures matches { IfOk result (λ search.
             AreMatchesAmong (pool_of search.chosen).candidates search.matches) }
+        // The known clauses are about this pool: in contracts, `Known` is seen as its pool.
         ensures known { IfOk result (λ search. search.known ≡ pool_of search.chosen) }
     {
         let chosen = Choices::new(alloc, pool, world)?;
@@ -129,8 +133,8 @@ impl<'p> Search<'p> {
         ensures known { self.new.known ≡ self.old.known }
         ensures matches { OnOk result
             (AreMatchesAmong (pool_of self.old.chosen).candidates self.new.matches) }
-        // The options that are left are fewer than the base of the measure's digits (*base* of
-        // `Measure`).
+        // The new frame has fewer than 2^64 options left, so that their number is a digit of the
+        // measure of the search (*base* of `Measure`).
         ensures few { IfOk result (λ found. IfSome found (λ frame. length frame.1 < 2 ^ 64)) }
         // None: no need is left. Otherwise: the frame of the next need.
         ensures frame { IfOk result (λ found. MatchOption found (next_need
@@ -158,6 +162,7 @@ impl<'p> Search<'p> {
         // The option is no choice yet.
         requires once { IsIn id (choices_of self.old.chosen) → ⊥ }
         requires matches { AreMatchesAmong (pool_of self.old.chosen).candidates self.old.matches }
+        // The known clauses are about the pool of the choices: `Known` is seen as its pool.
         requires known { self.old.known ≡ pool_of self.old.chosen }
         // None: the option and no choice exclude each other. Otherwise: choices that together rule
         // it out.
@@ -172,6 +177,8 @@ impl<'p> Search<'p> {
         ensures matches { OnOk result
             (AreMatchesAmong (pool_of self.old.chosen).candidates self.new.matches) }
     {
+        // Three sources of a reason are tried, the cheapest first: an earlier turn, propagation,
+        // and a choice that excludes the option.
         if let Some(others) = self.ruled_out_with(id) {
             let copy = Vec::from_slice(self.alloc, others)?;
             return Ok(Some(copy));
@@ -218,8 +225,10 @@ impl<'p> Search<'p> {
         Some(ruled_out.others())
     }
 
-    // The other members of the reason with which propagation rules an option out, if it does.
+    // The other members, all of them choices, of a reason with which propagation rules an option
+    // out; None if propagation does not rule the option out.
     fn propagated_against(&self, id: CandId) -> Result<Option<Vec<CandId>>, AllocError>
+        // The known clauses are about the pool of the choices: `Known` is seen as its pool.
         requires { self.now.known ≡ pool_of self.now.chosen }
         ensures { IfOk result (λ found. IfSome found (λ others. IsRuledOutBy
             (pool_of self.now.chosen)
@@ -228,6 +237,7 @@ impl<'p> Search<'p> {
         let Some(clause) = self.propagation.clause_against(id, &self.known)? else {
             return Ok(None);
         };
+        // Only a clause without options rules the option out.
         if !clause.is_reason() {
             return Ok(None);
         }
@@ -246,6 +256,7 @@ impl<'p> Search<'p> {
         requires open_now { IsFrameOf (pool_of self.old.chosen)
             (choices_of self.old.chosen) top.old }
         requires matches { AreMatchesAmong (pool_of self.old.chosen).candidates self.old.matches }
+        // The known clauses are about the pool of the choices: `Known` is seen as its pool.
         requires known { self.old.known ≡ pool_of self.old.chosen }
         ensures chosen { self.new.chosen ≡ self.old.chosen }
         ensures turns { self.new.turns.items ≡ self.old.turns.items }
@@ -259,7 +270,7 @@ impl<'p> Search<'p> {
             (λ id. IsFrameTaking (pool_of self.old.chosen) (choices_of self.old.chosen) top.new id
             × AreCompatible (pool_of self.old.chosen)
             (choices_of self.old.chosen ++ id ∷ []))) }
-        // The number of options left does not rise. It falls if an option is returned.
+        // The number of options left does not rise, and falls if an option is returned.
         ensures fewer { IfOk result (λ found. MatchOption found
             (length top.new.1 ≤ length top.old.1) (λ _. length top.new.1 < length top.old.1)) }
     {
@@ -269,6 +280,7 @@ impl<'p> Search<'p> {
             match self.reason_against(id)? {
                 None => return Ok(Some(id)),
                 Some(others) => {
+                    // The frame stores why the option is ruled out, and the hint stores where.
                     let hint = Hint {
                         turn: self.turns.len(),
                         place: top.ruled_out().len(),
@@ -293,6 +305,7 @@ impl<'p> Search<'p> {
             ++ choice ∷ []) }
         ensures search { OnOk result (IsSearch self.new.chosen self.new.turns.items) }
         ensures pool { pool_of self.new.chosen ≡ pool_of self.old.chosen }
+        // The frame and the choice become the last turn.
         ensures turns { OnOk result (self.new.turns.items ≡ self.old.turns.items
             ++ (frame, choice) ∷ []) }
         ensures matches { self.new.matches ≡ self.old.matches }
@@ -304,8 +317,8 @@ impl<'p> Search<'p> {
     }
 
     /// Backtracks from a dead end to the latest choice in its reason, and rules that choice out
-    /// with the rest of the reason. It returns the choice's frame; None if the reason has no
-    /// choice, so that no selection satisfies world.
+    /// with the rest of the reason. Returns the choice's frame; None if the reason has no choice,
+    /// so that no selection satisfies world.
     pub(crate) fn step_back(&mut self, spent: Frame) -> Result<Option<Frame>, AllocError>
         requires search { IsSearch self.old.chosen self.old.turns.items }
         // The frame is that of the next need, and has no option left.
@@ -315,8 +328,8 @@ impl<'p> Search<'p> {
         ensures pool { pool_of self.new.chosen ≡ pool_of self.old.chosen }
         ensures matches { self.new.matches ≡ self.old.matches }
         ensures known { self.new.known ≡ self.old.known }
-        // None: the empty reason, so no selection satisfies world. Otherwise the frame is that of
-        // the next need after the choices that remain.
+        // None: the empty list is a reason, so no selection satisfies world. Otherwise the frame is
+        // that of the next need after the choices that remain.
         ensures found { IfOk result (λ found. MatchOption found (IsReason
             (pool_of self.old.chosen) [])
             (λ frame. IsSearch self.new.chosen self.new.turns.items
@@ -328,18 +341,21 @@ impl<'p> Search<'p> {
     {
         // A law that the proof needs; it has no effect at run time.
         options_are_as_promised();
+        // The memory of the last reason is used again for the new one.
         let last = std::mem::replace(&mut self.reason, CandidateSet::new(self.alloc));
         self.reason = reason_of(last, &spent)?;
         self.dead_ends = self.dead_ends.saturating_add(1);
+        // Propagation learns the reason as a clause without options.
         let learnt = Clause::reason(self.alloc, self.reason.as_slice())?;
         self.propagation.learn(learnt, &mut self.known)?;
         self.step_back_for_reason()
     }
 
-    /// Whether propagation finds that no satisfying selection has all the choices. All members of
-    /// the stored reason are then choices. It is only tried after many dead ends, since most
-    /// searches have few.
+    /// Whether propagation finds that no satisfying selection has all the choices. If so, the
+    /// stored reason has only choices as members. Propagation is tried only after many dead ends
+    /// (`DEAD_ENDS_BEFORE`), since most searches have few.
     pub(crate) fn is_dead_ahead(&mut self) -> Result<bool, AllocError>
+        // The known clauses are about the pool of the choices: `Known` is seen as its pool.
         requires { self.old.known ≡ pool_of self.old.chosen }
         ensures chosen { self.new.chosen ≡ self.old.chosen }
         ensures turns { self.new.turns.items ≡ self.old.turns.items }
@@ -359,26 +375,30 @@ impl<'p> Search<'p> {
             return Ok(false);
         };
         let clause = self.propagation.learn_from(conflict, &mut self.known)?;
+        // The clause may have other members or options, if resolution ended early.
         if !is_reason_of_choices(&clause, &self.chosen) {
             return Ok(false);
         }
+        // The memory of the last reason is used again for the new one.
         let last = std::mem::replace(&mut self.reason, CandidateSet::new(self.alloc));
         self.reason = set_of(last, clause.members())?;
         Ok(true)
     }
 
-    // Propagates the choices that are not propagated yet. It returns a clause that the choices
+    // Propagates the choices that are not propagated yet. Returns a clause that the choices
     // contradict, if one is found.
     fn conflict_ahead(&mut self) -> Result<Option<Clause>, AllocError>
         ensures chosen { self.new.chosen ≡ self.old.chosen }
         ensures turns { self.new.turns.items ≡ self.old.turns.items }
         ensures matches { self.new.matches ≡ self.old.matches }
         ensures known { self.new.known ≡ self.old.known }
+        // The returned clause, if any, is a clause of the pool.
         ensures conflict { IsClauseIfFound self.old.known result }
     {
         if let Some(conflict) = self.propagation.propagate(&mut self.known)? {
             return Ok(Some(conflict));
         }
+        // The choices that were made since the last propagation, in their order.
         for i in self.propagation.level()..self.turns.len() {
             let Some(turn) = self.turn_at(i) else {
                 return Ok(None);
@@ -395,18 +415,19 @@ impl<'p> Search<'p> {
     /// above it are dropped.
     pub(crate) fn step_back_for_reason(&mut self) -> Result<Option<Frame>, AllocError>
         requires search { IsSearch self.old.chosen self.old.turns.items }
+        // The members of the stored reason are choices, and no satisfying selection has them all.
         requires within { AreAllMembersOf self.old.reason (choices_of self.old.chosen) }
         requires dead { IsReason (pool_of self.old.chosen) self.old.reason }
         ensures pool { pool_of self.new.chosen ≡ pool_of self.old.chosen }
         ensures matches { self.new.matches ≡ self.old.matches }
         ensures known { self.new.known ≡ self.old.known }
-        // None: the empty reason, so no selection satisfies world. Otherwise the frame is that of
-        // the next need after the choices that remain.
+        // None: the empty list is a reason, so no selection satisfies world. Otherwise the frame is
+        // that of the next need after the choices that remain.
         ensures found { IfOk result (λ found. MatchOption found (IsReason
             (pool_of self.old.chosen) [])
             (λ frame. IsSearch self.new.chosen self.new.turns.items
             × IsFrameOf (pool_of self.new.chosen) (choices_of self.new.chosen) frame)) }
-        // The measure falls, whichever frame had no option left.
+        // The measure falls, whatever the topmost frame `spent` was before the call.
         ensures lighter { (spent : FrameValue) → IfOk result (λ found. IfSome found
             (λ frame. search_measure self.new.turns.items frame < search_measure self.old.turns.items
             spent)) }
@@ -444,8 +465,8 @@ fn remember(hints: &mut Vec<Option<Hint>>, id: CandId, hint: Hint) -> Result<(),
     Ok(())
 }
 
-// The reason of a dead end: the choices that raised the need, and the other members of the reasons
-// of its options. It is made in a reused set, so that no marks are allocated.
+// The reason of a dead end: the choices that raised the need (`by`), and the other members of the
+// reasons of its options. The reason reuses the memory of the set `used`.
 fn reason_of(used: CandidateSet, spent: &Frame) -> Result<CandidateSet, AllocError>
     ensures { IfOk result (λ members. HasSameMembers members (dead_end_reason spent.now)) }
 {
@@ -470,7 +491,7 @@ fn is_reason_of_choices(clause: &Clause, chosen: &Choices<'_>) -> bool
     are_choices(clause.members(), chosen)
 }
 
-// A set of the candidates `ids`. It reuses the memory of the set `used`.
+// A set of the candidates `ids`, in the memory of the set `used`.
 fn set_of(used: CandidateSet, ids: &[CandId]) -> Result<CandidateSet, AllocError>
     ensures { IfOk result (λ members. HasSameMembers members ids.now) }
 {
@@ -480,7 +501,7 @@ fn set_of(used: CandidateSet, ids: &[CandId]) -> Result<CandidateSet, AllocError
     Ok(members)
 }
 
-// The members of a reason without this choice. They rule the choice out.
+// The members of a reason without this choice: they rule the choice out.
 fn without(alloc: Global, members: &[CandId], choice: CandId) -> Result<Vec<CandId>, AllocError>
     ensures { IfOk result (λ others. others.items ≡ filter (λ id. not (id == choice)) members.now) }
 {

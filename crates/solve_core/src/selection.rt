@@ -24,7 +24,7 @@ pub(crate) fn options_are_as_promised()
 }
 
 /// The preferred solution of the world that the pool was sealed with, in the order of its walk.
-/// None is returned only if no selection satisfies it; out of memory is possible in both cases.
+/// None is returned only if no selection satisfies world. The only error is a lack of memory.
 pub fn solve(alloc: Global, pool: &Sealed<'_>, world: &World) -> Result<Option<Trace>, AllocError>
     requires { world.now ≡ pool.now.world }
     // None: no selection satisfies world. Otherwise: the preferred selection.
@@ -36,10 +36,12 @@ pub fn solve(alloc: Global, pool: &Sealed<'_>, world: &World) -> Result<Option<T
     first_selection(alloc, &mut search)
 }
 
-// The preferred solution, by a search that begins without choices. It takes an option of the
-// topmost frame, or backtracks if none is left, or if propagation finds a dead end ahead. The
-// search is borrowed, so that nothing needs to be freed if the loop ends early.
+// The preferred solution, by a search that begins without choices. The search takes an option of
+// the topmost frame, or backtracks if no option is left, or if propagation finds a dead end ahead.
+// `search` is borrowed, so that nothing needs to be freed if the loop ends early.
 fn first_selection(alloc: Global, search: &mut Search<'_>) -> Result<Option<Trace>, AllocError>
+    // The choices and turns fit together, and what the search remembers and knows is about its
+    // pool.
     requires search { IsSearch search.old.chosen search.old.turns.items }
     requires matches { AreMatchesAmong (pool_of search.old.chosen).candidates search.old.matches }
     requires known { search.old.known ≡ pool_of search.old.chosen }
@@ -50,11 +52,13 @@ fn first_selection(alloc: Global, search: &mut Search<'_>) -> Result<Option<Trac
 {
     // A law that the proof needs; it has no effect at run time.
     options_are_as_promised();
+    // Without a need that is unmet, the choices are the solution; here and below.
     let Some(frame) = search.next_frame()? else {
         return Ok(Some(search.trace(alloc)?));
     };
     let mut top = frame;
     loop {
+        // No satisfying selection has all the choices: backtrack before an option is taken.
         let is_dead = search.is_dead_ahead()?;
         if is_dead {
             let Some(frame) = search.step_back_for_reason()? else {

@@ -1,6 +1,7 @@
 //! The trail of propagation: which candidates are in each satisfying selection that has the
 //! choices, and which are in none, in the order in which that was found. No contract mentions the
-//! trail: what it says is checked before it is used, so a wrong one only costs time.
+//! trail: what a step says is proved again from its clause before it is used, so a wrong step only
+//! costs time.
 use crate::clauses::Clause;
 use search_choices::CandId;
 use std::alloc::{AllocError, Global};
@@ -53,7 +54,7 @@ pub(crate) struct Trail {
     /// For each place in the list of candidates, what the trail says of this candidate; None if
     /// nothing. The list ends at the greatest place that was in the trail.
     values: Vec<Option<Value>>,
-    /// The steps.
+    /// The steps of the trail, in order.
     steps: Vec<Step>,
     /// For each choice, how many steps were before it.
     levels: Vec<usize>,
@@ -88,14 +89,14 @@ impl Trail {
         Some(value.is_in == literal.is_in)
     }
 
-    /// The step at which a candidate was ruled out, if it was.
+    /// The index of the step that rules a candidate out; None if the trail does not rule it out.
     pub(crate) fn step_out(&self, id: CandId) -> Option<usize> {
         let value = self.value(id.place)?;
         if value.is_in { None } else { Some(value.step) }
     }
 
-    /// The index of the step of a literal's candidate. If the candidate has no step, it is the
-    /// number of all steps.
+    /// The index of the step of a literal's candidate; the number of all steps if the candidate has
+    /// no step.
     pub(crate) fn step_of(&self, literal: Literal) -> usize {
         match self.value(literal.place) {
             Some(value) => value.step,
@@ -103,8 +104,8 @@ impl Trail {
         }
     }
 
-    /// Appends the step that makes a literal true. `is_choice` says whether it is a choice of the
-    /// search.
+    /// Appends the step that makes a literal true. `is_choice` says whether the step is a choice of
+    /// the search.
     pub(crate) fn push(&mut self, literal: Literal, is_choice: bool) -> Result<(), AllocError> {
         let Literal { place, is_in } = literal;
         let value = Value {
@@ -139,8 +140,8 @@ impl Trail {
         })
     }
 
-    /// Takes choices back, so that `level` of them remain, with all their steps. It returns how
-    /// many steps are left; None if there are no more choices than that.
+    /// Takes choices back, so that `level` of them remain, with all their steps. Returns how many
+    /// steps are left; None if there are no more choices than that.
     pub(crate) fn take_back(&mut self, level: usize) -> Option<usize> {
         let left = *self.levels.get(level)?;
         self.levels.truncate(level);
@@ -148,6 +149,7 @@ impl Trail {
             self.forget(i);
         }
         self.steps.truncate(left);
+        // Steps that were taken back do not count as propagated.
         if self.next > left {
             self.next = left;
         }
@@ -168,6 +170,7 @@ impl Trail {
     pub(crate) fn status(&self, clause: &Clause) -> Status {
         let members = self.status_of(clause.members(), false);
         let options = self.status_of(clause.options(), true);
+        // If all literals of the members are false, the options decide, and the other way round.
         match (members, options) {
             (Status::Conflict, options) => options,
             (members, Status::Conflict) => members,
@@ -184,6 +187,8 @@ impl Trail {
                 place: id.place,
                 is_in,
             };
+            // A literal of unknown truth is the only one so far, and makes the status `Unit`; a
+            // true literal, or a second unknown one, makes it `Quiet`.
             match (self.truth(literal), &status) {
                 (Some(false), _) => {}
                 (None, Status::Conflict) => status = Status::Unit(literal),
@@ -193,7 +198,7 @@ impl Trail {
         status
     }
 
-    /// The step of the member that was forced last; None if no member was forced.
+    /// The index of the step of that member which was forced last; None if no member was forced.
     pub(crate) fn latest_forced(&self, members: &[CandId]) -> Option<usize> {
         let mut latest = None;
         for id in members {

@@ -1,7 +1,7 @@
 //! Which clauses are tested when a literal becomes false: the clauses that watch it. Each clause
 //! watches two of its literals, as in a SAT solver, since it can force a literal only once one of
-//! these two is false. No contract mentions watches: what they name is checked before it is used,
-//! so a wrong one only costs time.
+//! these two is false. No contract mentions watches: a clause that is found by a watch is tested
+//! before it forces a literal, so a wrong watch only costs time.
 ghost use Rattle.std.specs.Prelude.{◌<◌, OnOk, vec_len};
 
 use crate::clauses::Clause;
@@ -14,12 +14,12 @@ use std::alloc::{AllocError, Global};
 struct Watch {
     /// One watched literal.
     one: Literal,
-    /// The other one; the same literal if the clause has no other.
+    /// The other watched literal; `one` again if the clause has no other.
     other: Literal,
 }
 
 impl Watch {
-    /// The other watched literal, if this one is watched.
+    /// The watched literal beside this one; None if this literal is not watched.
     fn beside(&self, literal: Literal) -> Option<Literal> {
         if is_same(self.one, literal) {
             return Some(self.other);
@@ -41,13 +41,13 @@ struct Watching {
 }
 
 impl Watching {
-    // The clauses that watch one of the two literals of the candidate: that it is in, or that it is
-    // not.
+    // The clauses that are listed under one of the two literals of the candidate: that the
+    // candidate is in the selection (`is_in`), or that it is not.
     fn of(&self, is_in: bool) -> &Vec<usize> {
         if is_in { &self.is_in } else { &self.is_out }
     }
 
-    // As `of`, to be changed.
+    // The same list as that of `of`, so that the caller can change it.
     fn of_mut(&mut self, is_in: bool) -> &mut Vec<usize> {
         if is_in {
             &mut self.is_in
@@ -64,7 +64,8 @@ pub(crate) struct Watches {
     alloc: Global,
     /// The watched literals of each clause, by its index; None if the clause is empty.
     watches: Vec<Option<Watch>>,
-    /// The clauses that watch each place in the list of candidates, up to the greatest watched.
+    /// For each candidate, by its place in the list of candidates: the clauses that watch its
+    /// literals. The list ends at the greatest place that was watched.
     places: Vec<Watching>,
 }
 
@@ -83,10 +84,12 @@ impl Watches {
         self.watches.truncate(len);
     }
 
-    /// Watches two literals of the next clause: those that are not false, else those that became
-    /// false last.
+    /// Chooses the two literals that the next clause watches: those that are not false, else those
+    /// that became false last.
     pub(crate) fn push(&mut self, clause: &Clause, trail: &Trail) -> Result<(), AllocError> {
         let mut watch = None;
+        // As a list of literals, a clause says that a member is not in the selection, or an option
+        // is.
         for id in clause.members() {
             let literal = Literal {
                 place: id.place,
@@ -127,7 +130,7 @@ impl Watches {
         Ok(())
     }
 
-    /// How many clauses may watch a literal.
+    /// How many clauses are listed under a literal: those that watch it, and some that did before.
     pub(crate) fn count(&self, literal: Literal) -> usize {
         match self.places.get(literal.place as usize) {
             Some(watching) => watching.of(literal.is_in).len(),
@@ -135,15 +138,16 @@ impl Watches {
         }
     }
 
-    /// The index of a clause that watches a literal: of the one at a place in the list of these.
+    /// The index of a clause that is listed under a literal: of the one at `place` in that list.
     pub(crate) fn at(&self, literal: Literal, place: usize) -> Option<usize> {
         let watching = self.places.get(literal.place as usize)?;
         Some(*watching.of(literal.is_in).get(place)?)
     }
 
-    /// Lets a clause that watches a false literal watch another literal that is not false. `place`
-    /// is its place among the clauses that watch the false literal. Returns true if there is no
-    /// other literal, so that the clause may force one.
+    /// Lets the clause at `index`, which watches the false literal `literal`, watch another literal
+    /// that is not false. `place` is the place of this clause in the list of the clauses that watch
+    /// `literal`. Returns true if there is no other literal to watch, so that the clause may force
+    /// one.
     pub(crate) fn is_forcing(
         &mut self,
         literal: Literal,
@@ -153,15 +157,19 @@ impl Watches {
         trail: &Trail,
     ) -> Result<bool, AllocError> {
         let Some(other) = self.other_of(literal, index) else {
+            // The clause watches this literal no longer.
             self.remove(literal, place);
             return Ok(false);
         };
+        // If the other watched literal is true, the clause forces nothing.
         if trail.truth(other) == Some(true) {
             return Ok(false);
         }
         let Some(free) = free_literal(clause, other, trail) else {
+            // All literals but the other watched one are false: the clause may force that one.
             return Ok(true);
         };
+        // The clause watches the literal `free` from now on, and not the false one.
         self.remove(literal, place);
         self.add(free, index)?;
         if let Some(watch) = self.watches.get_mut(index) {
@@ -173,18 +181,20 @@ impl Watches {
         Ok(false)
     }
 
-    // The literal that a clause watches beside this one, if it watches this one.
+    // The other literal that the clause at an index watches; None if this clause does not watch
+    // `literal`.
     fn other_of(&self, literal: Literal, index: usize) -> Option<Literal> {
         let watch = (*self.watches.get(index)?)?;
         watch.beside(literal)
     }
 
-    // Removes a clause from those that watch a literal: the one at a place in their list. The last
-    // one of the list takes its place.
+    // Removes the clause at `place` from the list of the clauses that watch a literal. The last
+    // clause of the list takes its place.
     fn remove(&mut self, literal: Literal, place: usize) {
         let Some(watching) = self.places.get_mut(literal.place as usize) else {
             return;
         };
+        // The list of the clauses that watch the literal.
         let by = watching.of_mut(literal.is_in);
         let Some(last) = by.pop() else {
             return;
@@ -228,8 +238,8 @@ fn better(watch: Option<Watch>, literal: Literal, trail: &Trail) -> Option<Watch
     watch
 }
 
-// How well a literal can be watched: the index of the step at which it became false, or the
-// greatest number if it is not false.
+// How well a literal can be watched: the index of the step at which the literal became false, or
+// the greatest number if the literal is not false.
 fn watch_rank(literal: Literal, trail: &Trail) -> usize {
     match trail.truth(literal) {
         Some(false) => trail.step_of(literal),

@@ -1,5 +1,5 @@
-//! The questions of a row, and their answers as texts. They are listed in the README of this crate;
-//! the rules for right answers are in `docs/selection.md`.
+//! The questions of a row, and their answers as texts. The README of this crate lists the
+//! questions; the rules for right answers are in `docs/selection.md`.
 ghost use Rattle.std.specs.Prelude.{◌≡◌, IfOk};
 
 use adb_schema::{Checked, IndexView, Which, shape};
@@ -15,7 +15,7 @@ use std::alloc::{AllocError, AllocFailed, Global};
 /// The most names that a command upgrades in a row; with more the answer is `no row`.
 const MOST_NAMES: usize = 1000;
 
-/// The answer if a text of the row cannot be read, or a question is unknown.
+/// The answer if a text of the row cannot be read, or the question is unknown.
 const NO_ROW: &[u8] = b"no row";
 
 /// Why a row has no answer.
@@ -76,7 +76,7 @@ enum Question {
     Count,
 }
 
-/// The first word of each question.
+/// For each kind of question, the first word of such a question.
 const QUESTIONS: [(&[u8], Question); 9] = [
     (b"bytes", Question::Bytes),
     (b"packages", Question::Packages),
@@ -114,7 +114,7 @@ pub(crate) fn answer(alloc: Global, row: &Row<'_>, query: &[u8]) -> Result<Vec<u
     Ok(text)
 }
 
-// Adds the answer, or why there is none.
+// Appends the answer to a question to `text`, or why there is none.
 fn add_answer(
     alloc: Global,
     row: &Row<'_>,
@@ -132,7 +132,7 @@ fn add_answer(
     }
 }
 
-// Reads the question, world and the upgraded names, and adds the answer.
+// Reads the question, world and the names to upgrade, and appends the answer to `text`.
 fn add_to_answer(
     alloc: Global,
     row: &Row<'_>,
@@ -154,7 +154,7 @@ fn add_to_answer(
     add_last_answer(alloc, row, command, Query { question, rest }, text)
 }
 
-// Computes the answer as often as the row says (`times N`), and leaves the last one in `text`.
+// Computes the answer as often as the row says (`times N`), and leaves the last answer in `text`.
 fn add_last_answer(
     alloc: Global,
     row: &Row<'_>,
@@ -169,8 +169,8 @@ fn add_last_answer(
     Ok(())
 }
 
-// Computes the answer once. The questions `bytes` and `packages` need no pool of candidates, and
-// `twice` needs two.
+// Computes the answer once, and appends it to `text`. The questions `bytes` and `packages` need no
+// pool of candidates, and `twice` needs two pools.
 fn add_one_answer(
     alloc: Global,
     row: &Row<'_>,
@@ -186,7 +186,7 @@ fn add_one_answer(
     }
 }
 
-// Makes the pool of candidates of the row, and adds the answer about it.
+// Makes the pool of candidates of the row, and appends the answer about this pool.
 fn add_answer_of_row(
     alloc: Global,
     row: &Row<'_>,
@@ -198,12 +198,12 @@ fn add_answer_of_row(
     Ok(add_answer_of_pool(alloc, &pool, command.world, query, text)?)
 }
 
-// Adds a count in decimal digits.
+// Appends a count in decimal digits.
 fn add_count(alloc: Global, count: u64, text: &mut Vec<u8>) -> Result<(), RowFault> {
     Ok(add_number(alloc, text, u128::from(count))?)
 }
 
-// How many bytes the payloads of the repositories have.
+// How many bytes the payloads of the repositories' indexes have.
 fn byte_count(row: &Row<'_>) -> u64 {
     let mut count = 0u64;
     for repository in &row.repositories {
@@ -225,7 +225,7 @@ fn package_count(alloc: Global, row: &Row<'_>) -> Result<u64, RowFault> {
     Ok(count)
 }
 
-// Adds the numbers of candidates of two equal pools, which are in memory at once.
+// Appends the numbers of candidates of two equal pools, which are in memory at once.
 fn add_two_counts(
     alloc: Global,
     row: &Row<'_>,
@@ -237,7 +237,7 @@ fn add_two_counts(
     Ok(add_counts(alloc, first.len(), second.len(), text)?)
 }
 
-// Adds two numbers in decimal, with a space between them.
+// Appends two numbers in decimal digits, with a space between them.
 fn add_counts(
     alloc: Global,
     first: usize,
@@ -251,8 +251,8 @@ fn add_counts(
 
 // ---- the pool
 
-// The pool of all packages of the row, with the world and the names to upgrade. The contract: the
-// world of the pool is the given one.
+// The pool of all packages of the row, with the world and the names to upgrade. The clause says
+// that the world of the pool is the given one.
 fn sealed<'a>(
     alloc: Global,
     row: &'a Row<'a>,
@@ -307,7 +307,7 @@ fn add_installed<'a>(
     Ok(())
 }
 
-// The view of a payload of an index; None if a test fails.
+// The view of a payload as an index; None if the payload fails a test.
 fn view_of<'a>(alloc: Global, payload: &'a [u8]) -> Option<IndexView<'a>> {
     let adb = Adb::new(payload).ok()?;
     let shaped = shape(adb, Which::Index).ok()?;
@@ -315,7 +315,7 @@ fn view_of<'a>(alloc: Global, payload: &'a [u8]) -> Option<IndexView<'a>> {
     Some(checked.index())
 }
 
-// The names of a row that are to be upgraded.
+// The names of a row that are to be upgraded, as words; `text` has them with spaces between them.
 fn words_of(alloc: Global, text: &[u8]) -> Result<Words, RowFault> {
     let mut words = Words::new(alloc);
     for word in text.split(|byte| *byte == b' ') {
@@ -327,7 +327,7 @@ fn words_of(alloc: Global, text: &[u8]) -> Result<Words, RowFault> {
     Ok(words)
 }
 
-// Which names are upgraded: none, all, or those listed.
+// Which names are upgraded: none if the text is empty, all if it is `all`, and else those listed.
 fn upgrade_of<'a>(text: &[u8], words: &'a Words) -> Upgrade<'a> {
     if text.is_empty() {
         return Upgrade::Nothing;
@@ -340,7 +340,7 @@ fn upgrade_of<'a>(text: &[u8], words: &'a Words) -> Upgrade<'a> {
 
 // ---- answers of the pool
 
-// Adds the answer to a question about a pool of candidates. The given world must be that of the
+// Appends the answer to a question about a pool of candidates. The given world must be that of the
 // pool.
 fn add_answer_of_pool(
     alloc: Global,
@@ -362,7 +362,7 @@ fn add_answer_of_pool(
     }
 }
 
-// Adds the candidates for a dependency, best first, or `no row` if the text is no dependency.
+// Appends the candidates for a dependency, best first, or `no row` if the text is no dependency.
 fn add_options_of_text(
     alloc: Global,
     pool: &Sealed<'_>,
@@ -375,7 +375,8 @@ fn add_options_of_text(
     }
 }
 
-// Adds the candidates for a need (a dependency or a name in an install-if), best first.
+// Appends the candidates for a need (a dependency or a name that an install-if asks for), best
+// first.
 fn add_options(
     alloc: Global,
     pool: &Sealed<'_>,
@@ -386,7 +387,7 @@ fn add_options(
     add_candidates(alloc, pool, &options, text)
 }
 
-// Adds the candidates of the preferred selection in the order in which the solver chose them, or
+// Appends the candidates of the preferred selection in the order in which the solver chose them, or
 // `none`. The given world must be that of the pool.
 fn add_selection(
     alloc: Global,
@@ -402,8 +403,8 @@ fn add_selection(
     }
 }
 
-// Adds how many candidates the preferred selection has, or `none`. The given world must be that of
-// the pool.
+// Appends how many candidates the preferred selection has, or `none`. The given world must be that
+// of the pool.
 fn add_selection_count(
     alloc: Global,
     pool: &Sealed<'_>,
@@ -418,7 +419,7 @@ fn add_selection_count(
     }
 }
 
-// Adds the candidates of a selection, in the order in which the solver chose them.
+// Appends the candidates of a selection, in the order in which the solver chose them.
 fn add_choices(
     alloc: Global,
     pool: &Sealed<'_>,
@@ -431,7 +432,7 @@ fn add_choices(
     Ok(())
 }
 
-// Adds these candidates, in their order.
+// Appends these candidates, in their order.
 fn add_candidates(
     alloc: Global,
     pool: &Sealed<'_>,
@@ -444,14 +445,15 @@ fn add_candidates(
     Ok(())
 }
 
-// Adds the name and the version of a candidate, and after `/` the number of its repository unless
-// that is 1. The number 0 stands for an installed package that no repository has.
+// Appends the name and the version of a candidate, and after `/` the number of its repository
+// unless the number is 1. The number 0 stands for an installed package that no repository has.
 fn add_candidate(
     alloc: Global,
     pool: &Sealed<'_>,
     id: CandId,
     text: &mut Vec<u8>,
 ) -> Result<(), AllocError> {
+    // The pool has no candidate at this place; no question gives such a place.
     let Some(details) = pool.at(id) else {
         return add_word(text, b"none of the pool");
     };

@@ -24,7 +24,8 @@ pub(crate) fn run_rows(
     Ok(run.failed == 0)
 }
 
-/// The kinds of lines, by their first word; the README of this crate has a row for each.
+/// The kinds of lines of a text of rows. The first word of a line says its kind. The README of this
+/// crate has a row for each.
 #[derive(Clone, Copy)]
 enum Line {
     /// A blank line, or `#` and a comment.
@@ -49,7 +50,7 @@ enum Line {
     Printed,
 }
 
-/// The first word of each kind of line.
+/// For each kind of line, the first word of such a line.
 const LINES: [(&[u8], Line); 11] = [
     (b"", Line::Comment),
     (b"#", Line::Comment),
@@ -73,16 +74,17 @@ struct Run<'t> {
     row: Row<'t>,
     /// The last question, until the line with its expected answer.
     query: Option<&'t [u8]>,
-    /// How many rows have begun.
+    /// How many rows have begun so far.
     rows: u64,
     /// How many answers were computed.
     answers: u64,
-    /// How many failures were reported: wrong answers, and lines that are unknown or out of place.
+    /// How many failures were reported: wrong answers, and lines that are unknown or at a wrong
+    /// place.
     failed: u64,
 }
 
 impl<'t> Run<'t> {
-    // Runs all lines of a text, and adds the counts to the report.
+    // Takes all lines of a text in turn, and appends the counts to the report.
     fn take_text(&mut self, text: &'t [u8], report: &mut Vec<u8>) -> Result<(), AllocError> {
         for line in text.split(|byte| *byte == b'\n') {
             self.take_line(line, report)?;
@@ -91,7 +93,7 @@ impl<'t> Run<'t> {
         self.add_counts(report)
     }
 
-    // Runs a line, by its first word.
+    // Takes one line; its first word says what to do.
     fn take_line(&mut self, line: &'t [u8], report: &mut Vec<u8>) -> Result<(), AllocError> {
         let (word, rest) = split_word(line);
         let Some(kind) = value_named(&LINES, word) else {
@@ -112,7 +114,7 @@ impl<'t> Run<'t> {
         }
     }
 
-    // Sets the world, the names to upgrade or (in the last case) the number of times.
+    // Sets the world, the names to upgrade, or (`Line::Times`) how often each answer is computed.
     fn set(&mut self, kind: Line, rest: &'t [u8]) {
         match kind {
             Line::World => self.row.world = rest,
@@ -121,7 +123,7 @@ impl<'t> Run<'t> {
         }
     }
 
-    // Keeps a question until the line with its expected answer.
+    // Stores a question until the line with its expected answer.
     fn begin_question(&mut self, query: &'t [u8], report: &mut Vec<u8>) -> Result<(), AllocError> {
         self.end_row(report)?;
         self.query = Some(query);
@@ -145,8 +147,8 @@ impl<'t> Run<'t> {
         }
     }
 
-    // Compares the answer to the last question with the expected one; prints it if none is
-    // expected.
+    // Compares the answer to the last question with the expected one, `wanted`. If no answer is
+    // expected, it is printed.
     fn end_question(
         &mut self,
         wanted: Option<&[u8]>,
@@ -164,7 +166,7 @@ impl<'t> Run<'t> {
         }
     }
 
-    // Adds a line to the report, which consists of these parts.
+    // Appends a line to the report, which consists of these parts, one after another.
     fn add_line(&self, parts: &[&[u8]], report: &mut Vec<u8>) -> Result<(), AllocError> {
         for part in parts {
             report.extend_from_slice(part)?;
@@ -172,7 +174,7 @@ impl<'t> Run<'t> {
         report.extend_from_slice(b"\n")
     }
 
-    // Reports a failure: the question or the line that failed, and why.
+    // Appends a failure to the report: the question or the line that failed, and why. Counts it.
     fn fail(&mut self, what: &[u8], why: &[u8], report: &mut Vec<u8>) -> Result<(), AllocError> {
         self.failed = self.failed.saturating_add(1);
         self.add_line(
@@ -181,7 +183,7 @@ impl<'t> Run<'t> {
         )
     }
 
-    // Reports how many rows and answers there were, and how many failed.
+    // Appends to the report how many rows and answers there were, and how many failed.
     fn add_counts(&self, report: &mut Vec<u8>) -> Result<(), AllocError> {
         let text = format!(in self.alloc;
             "{} rows, {} answers, {} failed\n",

@@ -1,8 +1,8 @@
-//! The search for a choice that excludes a further candidate. It has a conflict that the candidate
-//! meets, meets one of the candidate's conflicts, or occupies a name of the candidate. The rules
-//! are in `docs/selection.md`, "What satisfies world", 2 and 3. In the contracts, None says for
-//! which names or entries no choice excludes the candidate; together these prove that none does at
-//! all.
+//! The search for a choice that excludes a further candidate. Such a choice has a conflict that the
+//! candidate meets, meets a conflict of the candidate, or occupies a name that the candidate
+//! occupies. The rules are in `docs/selection.md`, "What satisfies world", 2 and 3. If a function
+//! here returns None, its contract says for which names or conflicts no choice excludes the
+//! candidate. Together these prove that no choice excludes the candidate at all.
 ghost use Rattle.std.specs.Prelude.{◌≡◌, ◌<◌, ℕ, length, true, false, IfOk, MatchOption, OnOk, Some, is_some, slice_get};
 ghost use Rattle.dep_core.specs.Dependency.{Dependency};
 ghost use Rattle.dep_core.specs.Meets.{dependency};
@@ -21,8 +21,8 @@ use search_tables::{CandId, Details, PackageDep, PackageMatches, choice_meeting_
 use std::alloc::AllocError;
 
 impl<'p> Choices<'p> {
-    /// A choice that no satisfying selection contains together with a candidate that is no choice.
-    /// Results for long versions are remembered.
+    /// A choice that excludes the candidate `id`, which is no choice: no satisfying selection has
+    /// both. None if there is none. Results for long versions are remembered.
     ///
     /// # Errors
     ///
@@ -34,10 +34,11 @@ impl<'p> Choices<'p> {
     ) -> Result<Option<CandId>, AllocError>
         requires consistent { IsConsistent self.now }
         requires within { id < length (pool_of self.now).candidates }
+        // The candidate is no choice.
         requires once { IsIn id (choices_of self.now) → ⊥ }
         requires matches { AreMatchesAmong (pool_of self.now).candidates matches.old }
         // None: no choice and the candidate exclude each other. Otherwise: a choice that excludes
-        // it.
+        // the candidate.
         ensures found { IfOk result (λ found. MatchOption found
             ((k : ℕ) → IsIn k (choices_of self.now) →
             exclude_each_other (pool_of self.now) k id ≡ false)
@@ -45,6 +46,7 @@ impl<'p> Choices<'p> {
         ensures matches { OnOk result (AreMatchesAmong (pool_of self.now).candidates matches.new) }
     {
         let details = self.pool.details(id);
+        // First by the candidate's own name, which it occupies.
         let by_name = self.excluder_at(details.name(), true, &details, id, matches)?;
         match by_name {
             Some(excluder) => Ok(Some(excluder)),
@@ -52,8 +54,8 @@ impl<'p> Choices<'p> {
         }
     }
 
-    // A choice that excludes the candidate, looked for at the names that it provides and among its
-    // conflicts.
+    // A choice that excludes the candidate, by a name that the candidate provides or by a conflict
+    // of the candidate.
     fn other_excluder(
         &self,
         details: &Details<'_>,
@@ -63,8 +65,8 @@ impl<'p> Choices<'p> {
         requires choices { HasConflictsOfChoices self.now }
         requires candidate { IsUnchosenCandidate self.now id details.now }
         requires matches { AreMatchesAmong (pool_of self.now).candidates matches.old }
-        // None: neither an entry of the candidate's provides nor a conflict of the candidate has a
-        // choice that excludes it.
+        // None: no choice excludes the candidate by a name that it provides, and no choice meets a
+        // conflict of the candidate.
         ensures { FindsExcluder self.now id
             (((p : Dependency) → IsIn p details.now.provides →
             p.conflict ≡ false → IsNotExcludedAt (pool_of self.now)
@@ -81,8 +83,8 @@ impl<'p> Choices<'p> {
         }
     }
 
-    // A choice with a conflict of a name that the candidate meets, or one that occupies the name if
-    // the candidate does (`is_occupied`).
+    // A choice that has a conflict of this name which the candidate meets, or, if the candidate
+    // occupies the name (`is_occupied`), a choice that occupies it too.
     fn excluder_at(
         &self,
         name: &[u8],
@@ -93,8 +95,10 @@ impl<'p> Choices<'p> {
     ) -> Result<Option<CandId>, AllocError>
         requires choices { HasConflictsOfChoices self.now }
         requires candidate { IsUnchosenCandidate self.now id details.now }
+        // If `is_occupied` is true, the candidate occupies the name.
         requires occupied { is_occupied ≡ true → IsIn name.now (occupied_names details.now) }
         requires matches { AreMatchesAmong (pool_of self.now).candidates matches.old }
+        // None: no choice excludes the candidate by this name.
         ensures { FindsExcluder self.now id
             (IsNotExcludedAt (pool_of self.now)
             (choices_of self.now) details.now name.now is_occupied)
@@ -107,10 +111,10 @@ impl<'p> Choices<'p> {
         }
     }
 
-    // A choice that occupies a name, if `is_occupied`.
+    // A choice that occupies a name; None if there is none, or if `is_occupied` is false.
     fn occupant_at(&self, name: &[u8], is_occupied: bool) -> Option<CandId>
         // None: no choice occupies the name, or `is_occupied` is false. Otherwise: a choice that
-        // does.
+        // occupies the name, and `is_occupied` is true.
         ensures { MatchOption result (is_occupied ≡ true → (k : ℕ) →
             IsIn k (choices_of self.now)
             → candidate_at_passes (pool_of self.now) (occupies_name name.now) k
@@ -123,8 +127,9 @@ impl<'p> Choices<'p> {
         None
     }
 
-    // A choice that excludes the candidate by the name of one of its entries of provides. It has a
-    // conflict that the entry meets, or occupies the name if the entry has a version.
+    // A choice that excludes the candidate by the name of an entry of its provides. The choice has
+    // a conflict of this name that the candidate meets; or it occupies the name, and the entry has
+    // a version.
     fn excluder_by_provides(
         &self,
         details: &Details<'_>,
@@ -179,7 +184,7 @@ impl<'p> Choices<'p> {
         self.excluder_at(entry.name, entry.version.is_some(), details, id, matches)
     }
 
-    // A choice that meets a conflict of the candidate.
+    // A choice that meets a conflict of the candidate; None if no choice meets one.
     fn excluder_by_conflicts(
         &self,
         details: &Details<'_>,
@@ -215,6 +220,7 @@ impl<'p> Choices<'p> {
         matches: &mut PackageMatches<'_>,
     ) -> Result<Option<CandId>, AllocError>
         requires candidate { IsUnchosenCandidate self.now id details.now }
+        // The dependency is that of the candidate at this index.
         requires depends { slice_get details.now.depends index ≡ Some (dependency dep.now) }
         requires matches { AreMatchesAmong (pool_of self.now).candidates matches.old }
         // None: the dependency is no conflict, or no choice meets it.
