@@ -14,11 +14,11 @@ abbrev pub bad_text_at : Option ℕ → Option Cause
 bad_text_at None = None
 bad_text_at (Some place) = Some (BadText place)
 
--- the entry with index i is the same word as the one before it
+-- the entry of an array with the index i (from 0) is the same word as the entry before it
 pub record IsSameWordAsPrevious (words : List ℕ) (i : ℕ) : Type 0 where
-  -- it is not the first entry
+  -- the entry is not the first one
   pub behind : 0 < i
-  -- it equals the entry before it
+  -- the entry equals the entry before it
   pub same : slice_index words i ≡ slice_index words (i - 1)
 
 -- no text breaks the rule of the field with this number, whatever its surroundings

@@ -38,8 +38,8 @@ impl<'a> Checked<'a> {
     ghost use Rattle.adb_schema.specs.ReadFaults.{IsReadFault};
     ghost use Rattle.adb_schema.specs.Views.{package_value, index_value, idb_value, intent_value};
 
-    /// Tests each text and number of a walked payload by the rule of its field. Only long texts
-    /// need memory; each is judged once.
+    /// Tests each text and number of a payload by the rule of its field; its shape was tested
+    /// before. Only long texts need memory; each is judged once.
     ///
     /// # Errors
     ///
@@ -50,14 +50,14 @@ impl<'a> Checked<'a> {
         ensures bad { IfErr result (λ fault.
             IsReadFault fault (text_or_number_fault (table_of shaped.entry)
             (shaped_value shaped.entry))) }
-        // On Ok, none of these tests failed.
+        // On Ok, each text and number obeys the rule of its field.
         ensures sound { IfOk result (λ _.
             text_or_number_fault (table_of shaped.entry) (shaped_value shaped.entry) ≡ None) }
-        // The table at the root is unchanged.
+        // On Ok, the table at the root is that of `shaped`.
         ensures which { IfOk result (λ checked. table_of_checked checked ≡ table_of shaped.entry) }
-        // The value is that of the walked payload.
+        // On Ok, the value at the root is that of `shaped`.
         ensures value { IfOk result (λ checked. checked_value checked ≡ shaped_value shaped.entry) }
-        // The payload is the walked one.
+        // On Ok, the payload is that of `shaped`.
         ensures payload { IfOk result (λ checked. adb_of checked.shaped ≡ adb_of shaped.entry) }
     {
         match check_texts(alloc, shaped)? {
@@ -66,7 +66,7 @@ impl<'a> Checked<'a> {
         }
     }
 
-    /// The payload as it was walked, before its texts were tested.
+    /// The payload with its table, as known before its texts were tested.
     pub(crate) fn shaped(&self) -> Shaped<'a>
         ensures { result ≡ self.now.shaped }
     {
@@ -131,6 +131,7 @@ pub struct IndexView<'a> {
     word: u32,
     // The word has a plain value, an index.
     ghost sound: { is_sound (payload_of adb) (Kinds.Obj Tables.Index) word ≡ true },
+    // Each text and number of the index obeys the rule of its field.
     ghost texts: { is_none (text_or_number_fault Tables.Index
         (value_at (payload_of adb) (Kinds.Obj Tables.Index) word)) ≡ true },
 }
@@ -144,7 +145,7 @@ impl<'a> IndexView<'a> {
 
     /// The view of a word that is an index whose texts obey their rules.
     pub fn of(adb: Adb<'a>, word: Val) -> IndexView<'a>
-        // The word has a plain value of its kind.
+        // The word refers to an index in this payload.
         requires sound { is_sound (payload_of adb) (Kinds.Obj Tables.Index) word ≡ true }
         // Each text and number of the index obeys the rule of its field.
         requires texts { is_none (text_or_number_fault Tables.Index
@@ -176,7 +177,7 @@ impl<'a> IndexView<'a> {
     /// The word of the index in the payload.
     pub fn word(&self) -> Val
         ensures is { result ≡ self.now.word }
-        // The word has a plain value of its kind.
+        // The word refers to an index in the payload of the view.
         ensures sound { is_sound (payload_of self.now.adb) (Kinds.Obj Tables.Index) result
             ≡ true }
     {
@@ -209,7 +210,7 @@ impl<'a> IndexView<'a> {
         List::of(self.adb, entries)
     }
 
-    /// How the files of its packages are named: empty, or `${name}-${version}.apk`.
+    /// How the files of the index's packages are named: empty, or `${name}-${version}.apk`.
     pub fn pkgname_spec(&self) -> &'a [u8]
         ensures { result.now ≡ text_in (entry_in (index_value self.now) INDEX_PKGNAME_SPEC) }
     {
@@ -317,7 +318,7 @@ impl<'a> IntentView<'a> {
     ghost use Rattle.adb_schema.specs.Views.{intent_value};
     ghost use Rattle.adb_fields.specs.ListValue.{list_value};
 
-    /// The paths to be removed.
+    /// The paths of the files that the change removes.
     pub fn removals(&self) -> List<'a, &'a [u8]>
         ensures { list_value result ≡ entry_in (intent_value self.now) INTENT_REMOVALS }
     {
@@ -327,7 +328,7 @@ impl<'a> IntentView<'a> {
         )
     }
 
-    /// The paths to be written.
+    /// The paths of the files that the change writes.
     pub fn writes(&self) -> List<'a, &'a [u8]>
         ensures { list_value result ≡ entry_in (intent_value self.now) INTENT_WRITES }
     {

@@ -1,6 +1,6 @@
 //! The rules that read each byte of a text, and the long texts of a payload that are known to obey
-//! one. Many places may share a text, so a long one is judged once (`Judged::keeps` in the README
-//! of this crate). The rules are in the table of `docs/formats.md`, "The texts".
+//! such a rule. Many fields may share a text, so a long text is judged once (`Judged::keeps` in the
+//! README of this crate). The rules are in the table of `docs/formats.md`, "The texts".
 
 ghost use Rattle.std.specs.Prelude.{◌≡◌, All, IfOk};
 ghost use Rattle.std.specs.Bool.{OnTrue};
@@ -127,8 +127,9 @@ impl<'a> Judged<'a> {
         self.good.contains(&(rule, word.word()))
     }
 
-    /// Whether a long text, which is the text of a word, obeys a rule. It is judged here. A version
-    /// has no limit of length, and many may overlap.
+    /// Whether a long text, which is the text of a word, obeys a rule; the text is read here. A
+    /// version has no limit of length, and many may overlap, so bytes that they share are read
+    /// once.
     fn long_text_keeps(
         &mut self,
         rule: TextRule,
@@ -173,6 +174,8 @@ impl<'a> Judged<'a> {
         // The payload is unchanged.
         ensures payload { self.new.adb ≡ self.old.adb }
     {
+        // A version is judged by where it is in the payload; a word without a blob has no such
+        // range.
         match self.adb.blob_range(word) {
             Ok((from, end)) => self.versions.is_version(from, end),
             Err(_) => Ok(is_version(text)),

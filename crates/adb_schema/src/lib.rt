@@ -3,7 +3,7 @@
 //!
 //! `shape` makes a `Shaped` of a payload, and `Checked::new` makes a `Checked` of that. Its four
 //! views borrow from the payload; they have one method per field, which cannot fail. `check_texts`
-//! tests each text and number of a walked payload by the rule of its field. `repeated` finds
+//! tests each text and number of a `Shaped` by the rule of its field. `repeated` finds
 //! repeated names. `read_adb` reads a file and makes all of these tests. `is_reserved` and its like
 //! decide which names below a root no database may list as files.
 //!

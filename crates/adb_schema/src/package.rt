@@ -252,49 +252,49 @@ impl<'a> ScriptsView<'a> {
     ghost use Rattle.adb_view.specs.Values.{entry_in, text_in};
     ghost use Rattle.adb_schema.specs.Views.{scripts_value};
 
-    /// Runs if a watched folder has changed.
+    /// The script for a change in a folder that `PackageView::triggers` watches.
     pub fn trigger(&self) -> &'a [u8]
         ensures { result.now ≡ text_in (entry_in (scripts_value self.now) SCRIPTS_TRIGGER) }
     {
         text_field(self.adb, Which::Scripts, self.word, SCRIPTS_TRIGGER)
     }
 
-    /// Runs before an installation.
+    /// The script for before an installation of the package.
     pub fn pre_install(&self) -> &'a [u8]
         ensures { result.now ≡ text_in (entry_in (scripts_value self.now) SCRIPTS_PRE_INSTALL) }
     {
         text_field(self.adb, Which::Scripts, self.word, SCRIPTS_PRE_INSTALL)
     }
 
-    /// Runs after an installation.
+    /// The script for after an installation of the package.
     pub fn post_install(&self) -> &'a [u8]
         ensures { result.now ≡ text_in (entry_in (scripts_value self.now) SCRIPTS_POST_INSTALL) }
     {
         text_field(self.adb, Which::Scripts, self.word, SCRIPTS_POST_INSTALL)
     }
 
-    /// Runs before a removal.
+    /// The script for before a removal of the package.
     pub fn pre_deinstall(&self) -> &'a [u8]
         ensures { result.now ≡ text_in (entry_in (scripts_value self.now) SCRIPTS_PRE_DEINSTALL) }
     {
         text_field(self.adb, Which::Scripts, self.word, SCRIPTS_PRE_DEINSTALL)
     }
 
-    /// Runs after a removal.
+    /// The script for after a removal of the package.
     pub fn post_deinstall(&self) -> &'a [u8]
         ensures { result.now ≡ text_in (entry_in (scripts_value self.now) SCRIPTS_POST_DEINSTALL) }
     {
         text_field(self.adb, Which::Scripts, self.word, SCRIPTS_POST_DEINSTALL)
     }
 
-    /// Runs before an upgrade.
+    /// The script for before an upgrade of the package.
     pub fn pre_upgrade(&self) -> &'a [u8]
         ensures { result.now ≡ text_in (entry_in (scripts_value self.now) SCRIPTS_PRE_UPGRADE) }
     {
         text_field(self.adb, Which::Scripts, self.word, SCRIPTS_PRE_UPGRADE)
     }
 
-    /// Runs after an upgrade.
+    /// The script for after an upgrade of the package.
     pub fn post_upgrade(&self) -> &'a [u8]
         ensures { result.now ≡ text_in (entry_in (scripts_value self.now) SCRIPTS_POST_UPGRADE) }
     {
@@ -334,7 +334,7 @@ impl<'a> PackageView<'a> {
 
     /// The view of a word that is sound as a package, read from this payload.
     pub(crate) fn at(adb: Adb<'a>, word: Val) -> PackageView<'a>
-        // The word has a plain value of its kind.
+        // The word refers to a package in this payload.
         requires { is_sound (payload_of adb) (Kinds.Obj Tables.Package) word ≡ true }
         // The value of the package is that of the word.
         ensures value { package_value result
@@ -355,7 +355,7 @@ impl<'a> PackageView<'a> {
     /// The word of the package in the payload.
     pub fn word(&self) -> Val
         ensures is { result ≡ self.now.word }
-        // The word has a plain value of its kind.
+        // The word refers to a package in the payload of the view.
         ensures sound { is_sound (payload_of self.now.adb) (Kinds.Obj Tables.Package) result
             ≡ true }
     {
@@ -396,7 +396,7 @@ impl<'a> PackageView<'a> {
         )
     }
 
-    /// The patterns of the folders whose changes run its trigger.
+    /// The patterns of the folders that the package's trigger script watches.
     pub fn triggers(&self) -> List<'a, &'a [u8]>
         ensures { list_value result ≡ entry_in (package_value self.now) PACKAGE_TRIGGERS }
     {
@@ -406,8 +406,8 @@ impl<'a> PackageView<'a> {
         )
     }
 
-    /// Its priority in replacing. If two packages list one path and each names the other in
-    /// `replaces`, the one with the greater priority owns the path.
+    /// The priority of the package in replacing. If two packages list one path and each names the
+    /// other in `replaces`, the one with the greater priority owns the path.
     pub fn replaces_priority(&self) -> u64
         ensures { result ≡ int_in (entry_in (package_value self.now) PACKAGE_REPLACES_PRIORITY) }
     {

@@ -114,7 +114,7 @@ impl<'a> PkgInfo<'a> {
     /// The word of the information in the payload.
     pub fn word(&self) -> Val
         ensures is { result ≡ self.now.word }
-        // The word has a plain value of its kind.
+        // The word refers to a package's information in the payload of the view.
         ensures sound { is_sound (payload_of self.now.adb) (Kinds.Obj Tables.PkgInfo) result
             ≡ true }
     {
@@ -135,8 +135,8 @@ impl<'a> PkgInfo<'a> {
         text_field(self.adb, Which::PkgInfo, Val::of(self.word), INFO_VERSION)
     }
 
-    /// A digest. In an index it is the package's id or the first 20 bytes of it; empty if it is
-    /// unknown.
+    /// A digest of the package. In an index it is the package's id or the first 20 bytes of the id;
+    /// elsewhere it may be empty.
     pub fn hashes(&self) -> &'a [u8]
         ensures { result.now ≡ text_in (entry_in (info_value self.now) INFO_HASHES) }
     {
@@ -155,21 +155,21 @@ impl<'a> PkgInfo<'a> {
         )
     }
 
-    /// The architecture.
+    /// The architecture of the machines that the package is for.
     pub fn arch(&self) -> &'a [u8]
         ensures { result.now ≡ text_in (entry_in (info_value self.now) INFO_ARCH) }
     {
         text_field(self.adb, Which::PkgInfo, Val::of(self.word), INFO_ARCH)
     }
 
-    /// The license.
+    /// The license of the package.
     pub fn license(&self) -> &'a [u8]
         ensures { result.now ≡ text_in (entry_in (info_value self.now) INFO_LICENSE) }
     {
         text_field(self.adb, Which::PkgInfo, Val::of(self.word), INFO_LICENSE)
     }
 
-    /// The package that it was built from.
+    /// The name of the source package that the package was built from.
     pub fn origin(&self) -> &'a [u8]
         ensures { result.now ≡ text_in (entry_in (info_value self.now) INFO_ORIGIN) }
     {
@@ -188,7 +188,7 @@ impl<'a> PkgInfo<'a> {
         )
     }
 
-    /// Where to read of the package.
+    /// The address of a page about the package.
     pub fn url(&self) -> &'a [u8]
         ensures { result.now ≡ text_in (entry_in (info_value self.now) INFO_URL) }
     {
@@ -219,7 +219,7 @@ impl<'a> PkgInfo<'a> {
         )
     }
 
-    /// The size of its installed files in bytes.
+    /// The size of the package's installed files in bytes.
     pub fn installed_size(&self) -> u64
         ensures { result ≡ int_in (entry_in (info_value self.now) INFO_INSTALLED_SIZE) }
     {

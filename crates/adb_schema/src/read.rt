@@ -93,7 +93,7 @@ pub fn schema_word(which: Which) -> Option<u32>
 }
 
 /// Searches a checked container for a repeated name. It returns the cause `Repeated`, or None if
-/// and only if no name repeats. The kinds are searched in this order:
+/// and only if no name repeats. These kinds of repeated names are searched in this order:
 ///
 /// - in a package and in a database, a folder that a package lists twice, over all packages;
 /// - then a file that a folder lists twice;
@@ -124,7 +124,7 @@ pub fn read_adb<'a>(alloc: Global, bytes: &'a [u8], which: Which) -> Result<Chec
     // The error is the first failed test, or out of memory.
     ensures bad { IfErr result (λ fault. IsReadFault fault
         (container_fault_except_contents which bytes.entry.now)) }
-    // On Ok, none of these tests failed.
+    // On Ok, the file passes all tests of a container of this table.
     ensures sound { IfOk result (λ _. container_fault_except_contents which bytes.entry.now
         ≡ None) }
     // The values have the wanted table at their root.
@@ -169,7 +169,8 @@ fn read_first<'a>(
         (λ fault. IsReadFault fault (first_block_fault which (block_stream_from blocks.old))) }
     // The values have the wanted table at their root.
     ensures table { IfOk result (λ checked. table_of_checked checked ≡ which) }
-    // The blocks that are left are those after the first one.
+    // On Ok, the payload is that of the first block and passes its tests, and the blocks that are
+    // left are those after the first.
     ensures behind { IfOk result
         (λ checked. IsAfterFirstBlock which (payload_of (adb_of checked.shaped)) (block_stream_from
         blocks.old)
@@ -177,6 +178,7 @@ fn read_first<'a>(
 {
     match blocks.next()? {
         Some(block) => check_payload(alloc, block.payload, which),
+        // A file with a header has a first block, or the framing of that block is refused.
         None => unreachable!(),
     }
 }
@@ -190,7 +192,7 @@ fn check_payload<'a>(
     // The error is the first failed test, or out of memory.
     ensures bad { IfErr result
         (λ fault. IsReadFault fault (payload_fault which payload.entry.now)) }
-    // On Ok, none of these tests failed.
+    // On Ok, the payload passes all its tests.
     ensures sound { IfOk result (λ _. payload_fault which payload.entry.now ≡ None) }
     // The values have the wanted table at their root.
     ensures table { IfOk result (λ checked. table_of_checked checked ≡ which) }
@@ -219,7 +221,8 @@ fn check_rest(blocks: &mut Blocks<'_>, which: Which) -> Result<(), Cause>
     }
 }
 
-/// Tests the blocks after the first of a container without files, if it needs no contents.
+/// Tests the blocks after the first, in a container that is no package: they are framed rightly,
+/// and none has contents.
 #[tactic(auto, unfolding(crate::specs::Soundness::further_blocks_fault))]
 fn check_further(blocks: &mut Blocks<'_>) -> Result<(), Cause>
     ensures { result_err result ≡ further_blocks_fault (block_stream_from blocks.old) }
@@ -234,7 +237,8 @@ fn check_further(blocks: &mut Blocks<'_>) -> Result<(), Cause>
     }
 }
 
-/// Why a block is not allowed after the first, if it is not.
+/// Why a block is not allowed after the first block of a container that is no package: it has
+/// contents. None for a block of another kind.
 fn unexpected_contents_block_fault(block: &Block<'_>) -> Option<Cause>
     ensures { result
         ≡ unexpected_contents_block_fault block.now.kind block.now.payload.now block.now.at }
@@ -245,8 +249,9 @@ fn unexpected_contents_block_fault(block: &Block<'_>) -> Option<Cause>
     }
 }
 
-/// The cause for contents that are not allowed. Contents shorter than their two positions (8 bytes)
-/// are reported as too short; others as a file where none (0.0) was expected.
+/// The cause for contents that are not allowed, in a block at the offset `at`. Contents shorter
+/// than their two positions (8 bytes) are too short; others are a file where none, (0, 0), was
+/// expected.
 fn unexpected_contents_cause(payload: &[u8], at: u64) -> Cause
     ensures { result ≡ unexpected_contents_cause payload.now at }
 {
@@ -259,8 +264,8 @@ fn unexpected_contents_cause(payload: &[u8], at: u64) -> Cause
     }
 }
 
-/// The two numbers at the front of contents (apk-v3(5)): the positions of the folder and of its
-/// file, which count from 1.
+/// The two numbers at the beginning of a block of contents (apk-v3(5)): the position of the folder
+/// in its package, and that of the file in this folder. Both count from 1.
 pub fn contents_positions(payload: &[u8]) -> (u32, u32)
     // The payload has at least the 8 bytes of the two positions.
     requires { 8 ≤ length payload.now }
@@ -272,7 +277,7 @@ pub fn contents_positions(payload: &[u8]) -> (u32, u32)
     )
 }
 
-/// A law: the words of the four schemas are spelled so in a file's header.
+/// A law: in the header of a file, the schemas of the four roots are these four bytes.
 pub fn schema_words_are_as_listed()
     ensures package { to_le_bytes w32 PACKAGE_WORD ≡ codes "pckg" }
     ensures index { to_le_bytes w32 INDEX_WORD ≡ codes "indx" }
