@@ -7,15 +7,16 @@ use Rattle.adb_view.specs.Values.{text_in, value_at}
 use Rattle.adb_view.specs.declared.tables.Kind.TheVariants.{Text}
 use Rattle.adb_dump.specs.Dump.{bare_or_quoted_text}
 
--- a call appends bytes to an output: whatever bytes it had before, it has these after them
+-- a call appends `bytes` to an output: whatever was written to the output before, `bytes` are added. `old` and `new`
+-- are the output before and after the call, and `holds` says which bytes were written to an output
 abbrev pub Puts : {O : Type 0} → (O → List ℕ → Type 0) → O → O → List ℕ → Type 0
 Puts holds old new bytes = (before : List ℕ) → holds old before → holds new (before ++ bytes)
 
--- a call appends bytes to an output, whatever payload the texts are of
+-- a call appends `bytes` to an output, whatever payload the texts are of, which were written to the output
 abbrev pub PutsForAnyPayload : {O : Type 0} → (List ℕ → O → List ℕ → Type 0) → O → O → List ℕ → Type 0
 PutsForAnyPayload holds old new bytes = (payload : List ℕ) → Puts (holds payload) old new bytes
 
--- each length that is remembered for a word is that of the word's text in a line
+-- each length in `lens`, which is remembered for a word, is that of the word's text as it is written in a line
 abbrev pub AreLineLengths : List ℕ → BTreeMap ℕ ℕ → Type 0
 AreLineLengths payload lens = (word len : ℕ) → get nat_cmp lens word ≡ Some len
     → len ≡ length (bare_or_quoted_text (text_in (value_at payload Text word)))

@@ -1,8 +1,8 @@
 //! The text of a container's values, for a person to read and for a program to read back.
 //!
-//! From a walked payload the crate writes its text: `#%SCHEMA: ` and the schema in eight
-//! hexadecimal digits, and then the fields of the root that are not Null, in the order of their
-//! table (apk-v3(5)).
+//! Of a payload with a known shape (`Shaped`) the crate writes the text: `#%SCHEMA: ` and the
+//! schema in eight hexadecimal digits, and then the fields of the root that are not Null, in the
+//! order of their table (apk-v3(5)).
 //!
 //! - `name: ` precedes an integer in decimal digits, a hash in hexadecimal digits, or a text.
 //! - An object and an array are below `name:`, two spaces deeper. Each entry of an array is after
