@@ -35,11 +35,12 @@ pub enum Value<'a> {
     Number(u64),
     /// Dependencies, in their order.
     Needs(Vec<Dep<'a>>),
-    /// Nothing: the text is dropped.
+    /// Nothing: the text of a commit that is not hexadecimal is dropped.
     Nothing,
 }
 
-/// Reads the value of a field. None: it is not in the field's grammar.
+/// Reads the text after the colon of a line as the value of a field. None: the text is not in the
+/// field's grammar.
 pub(crate) fn read_value<'a>(
     alloc: Global,
     field: InfoField,
@@ -60,7 +61,7 @@ pub(crate) fn read_value<'a>(
     }
 }
 
-// A text as a value, if its rule allows it.
+// A text as a value; `is_good` says whether the grammar of its field allows the text.
 fn text_value_if(text: &[u8], is_good: bool) -> Option<Value<'_>>
     ensures { option_map line_value_view result ≡ text_value_if is_good text.now }
 {
@@ -125,8 +126,8 @@ fn read_commit<'a>(alloc: Global, text: &[u8]) -> Result<Option<Value<'a>>, Allo
     }
 }
 
-// Dependencies as a value, with spaces between them. None: one of them is no dependency without
-// tag.
+// The dependencies in a text, with spaces between them, as a value. None: one part of the text is
+// no dependency, or has a tag.
 fn read_needs<'a>(alloc: Global, text: &'a [u8]) -> Result<Option<Value<'a>>, AllocError>
     ensures { IfOk result (λ found. option_map line_value_view found
         ≡ dependency_values_in (nonempty_parts text.entry.now)) }
@@ -140,7 +141,8 @@ fn read_needs<'a>(alloc: Global, text: &'a [u8]) -> Result<Option<Value<'a>>, Al
     Ok(Some(Value::Needs(needs)))
 }
 
-// Adds a dependency, or nothing for an empty part. False: it is no dependency without tag.
+// Adds the dependency in a part of a text, or nothing for an empty part. False: the part is no
+// dependency, or has a tag.
 fn add_need<'a>(needs: &mut Vec<Dep<'a>>, part: &'a [u8]) -> Result<bool, AllocError>
     ensures { IfOk result (λ good. (if good then Some (needs_view needs.new) else None)
         ≡ with_needs (needs_view needs.old) (dependency_values_in (nonempty_part part.entry.now))) }
