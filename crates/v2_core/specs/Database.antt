@@ -62,7 +62,7 @@ record_info_value info =
 
 -- ---- folders and files
 
--- the object of an access (table 2): mode, user, group; Null if no line gives one
+-- the object of an owner and mode (table 2): mode, user, group; Null if no line gives them
 abbrev pub listed_access_value : Option Access → Plain
 listed_access_value None = null
 listed_access_value (Some a) = object_of (int a.mode ∷ blob_or_null a.user ∷ blob_or_null a.group ∷ [])

@@ -1,4 +1,5 @@
-//! Writes the package of a record, as an installed database has it (apk-v3(5)).
+//! Writes the package of a record into a draft (a payload that is being written), as an installed
+//! database has it (apk-v3(5)). `read.rt` calls `write_package` at the end of each record.
 //! The rules are in `docs/formats.md`, "Text database of version 2", the column "Goes to"; the
 //! order of fields in "Schemas", tables 2 to 5 and 7.
 ghost use Rattle.v2_lines.specs.adb_values.Drafts.{draft_with, draft_with_all};
@@ -21,12 +22,12 @@ use dep_core::Dep;
 use std::alloc::AllocError;
 use v2_lines::{Access, Draft, InfoField, Value, write_need};
 
-/// The source of a field of the package's information.
+/// Which lines of a record give a field of the package's information.
 #[derive(Clone, Copy)]
 enum Column {
-    /// A field of which a record has one line at most.
+    /// The line of this field, of which a record has at most one.
     Once(InfoField),
-    /// All lines of a field.
+    /// All lines of this field, whose values are the entries of an array.
     List(InfoField),
     /// Nothing: no line gives the field.
     Null,
@@ -63,6 +64,7 @@ pub(crate) fn write_package(draft: &mut Draft, text_record: &Record<'_>) -> Resu
     draft.open_list()?;
     write_info(draft, &text_record.info)?;
     write_folders(draft, &text_record.folders)?;
+    // The text has no scripts and no triggers.
     draft.null()?;
     draft.null()?;
     write_once(draft, &text_record.info, InfoField::ReplacesPriority)?;
@@ -71,7 +73,7 @@ pub(crate) fn write_package(draft: &mut Draft, text_record: &Record<'_>) -> Resu
 
 // ---- the package's information
 
-// Writes the information, by the table of its columns.
+// Writes the information of the package: the fields that `COLUMNS` lists, in their order.
 #[tactic(auto, unfolding(crate::specs::Database::record_info_value))]
 fn write_info(draft: &mut Draft, info: &[InfoLine<'_>]) -> Result<(), AllocError>
     ensures { OnOk result (draft.new ≡ draft_with (record_info_value info.now) draft.old) }
@@ -81,7 +83,7 @@ fn write_info(draft: &mut Draft, info: &[InfoLine<'_>]) -> Result<(), AllocError
     draft.close_object()
 }
 
-// Writes columns one after the other.
+// Writes the fields that these columns describe, one after the other.
 fn write_columns(
     draft: &mut Draft,
     info: &[InfoLine<'_>],
@@ -108,7 +110,7 @@ fn write_column(draft: &mut Draft, info: &[InfoLine<'_>], column: Column) -> Res
     }
 }
 
-// Writes the line of a field, or NULL if there is none.
+// Writes the value of the line of a field, or NULL if there is no such line.
 fn write_once(draft: &mut Draft, info: &[InfoLine<'_>], field: InfoField) -> Result<(), AllocError>
     ensures { OnOk result (draft.new
         ≡ draft_with (value_of_single_line_field field info.now) draft.old) }
@@ -119,14 +121,14 @@ fn write_once(draft: &mut Draft, info: &[InfoLine<'_>], field: InfoField) -> Res
     }
 }
 
-// The line of a field of which a record has one at most.
+// The line of a field of which a record has at most one line, if there is such a line.
 fn find_line<'a, 'b>(info: &'a [InfoLine<'b>], field: InfoField) -> Option<&'a InfoLine<'b>>
     ensures { option_map (λ line. line.now) result ≡ find (is_line_of field) info.entry.now }
 {
     info.iter().find(|line| line.field == field)
 }
 
-// Writes the value that a field has once.
+// Writes the value of a line as a single value: the first one that the line gives, or NULL.
 fn write_first(draft: &mut Draft, value: &Value<'_>) -> Result<(), AllocError>
     ensures { OnOk result
         (draft.new ≡ draft_with (value_of_first_or_null (line_value_view value.now)) draft.old) }
@@ -157,7 +159,7 @@ fn write_list(draft: &mut Draft, info: &[InfoLine<'_>], field: InfoField) -> Res
     draft.close_array()
 }
 
-// Writes the values of a line.
+// Writes all values of a line, one after the other.
 fn write_values(draft: &mut Draft, value: &Value<'_>) -> Result<(), AllocError>
     ensures { OnOk result (draft.new
         ≡ draft_with_all (plains_of_list (map plain_value (line_value_view value.now)))
@@ -227,13 +229,14 @@ fn write_file(draft: &mut Draft, file: &File<'_>) -> Result<(), AllocError>
     draft.open_list()?;
     draft.blob(file.name)?;
     write_access(draft, &file.access)?;
+    // The size and the mtime.
     draft.null()?;
     draft.null()?;
     write_hash(draft, &file.hash)?;
     draft.close_object()
 }
 
-// Writes an access, or NULL if no line gives it.
+// Writes an owner and mode, or NULL if no line gives them.
 fn write_access(draft: &mut Draft, access: &Option<Access<'_>>) -> Result<(), AllocError>
     ensures { OnOk result
         (draft.new ≡ draft_with (listed_access_value (access_view_if_any access.now)) draft.old) }
@@ -244,7 +247,7 @@ fn write_access(draft: &mut Draft, access: &Option<Access<'_>>) -> Result<(), Al
     write_known_access(draft, access)
 }
 
-// Writes an access that a line gives, in the order of table 2: mode, user and group.
+// Writes an owner and mode that a line gives, in the order of table 2: mode, user and group.
 fn write_known_access(draft: &mut Draft, access: &Access<'_>) -> Result<(), AllocError>
     ensures { OnOk result (draft.new
         ≡ draft_with (listed_access_value (Some (access_view access.now))) draft.old) }
