@@ -1,4 +1,5 @@
-//! The folders of a package, and of their files those that it owns.
+//! Writes the folders of a package, and of their files those that the package owns. `packages.rt`
+//! calls this for each package.
 //! The rule is in `docs/formats.md`, "The database after a change": "each folder with its name
 //! and its access list, also if it is empty, and of its files those that the package owns"; the
 //! fields in "Schemas", tables 5 and 7.
@@ -29,11 +30,15 @@ pub(crate) fn write_folders(
     pkg: Val,
     flags: &[bool],
 ) -> Result<(), AllocError>
+    // The word `pkg` refers to a package.
     requires sound { is_sound (payload_of adb) (Kinds.Obj Tables.Package) pkg ≡ true }
+    // What `known` remembers of texts of this payload is right for the draft.
     requires known { AreRememberedBlobsOfDraft (payload_of adb) draft.old known.old }
+    // On Ok, the array of the folders is added to the draft.
     ensures folders { OnOk result (draft.new
         ≡ draft_with (array_or_null (folders_in_new_database (folders_in
         (value_at (payload_of adb.entry) (Kinds.Obj Tables.Package) pkg)) flags.now)) draft.old) }
+    // On Ok, what `known` remembers is right for the new draft.
     ensures known { OnOk result (AreRememberedBlobsOfDraft
         (payload_of adb.entry) draft.new known.new) }
 {
@@ -41,8 +46,9 @@ pub(crate) fn write_folders(
     write_folder_list(draft, adb, known, folders, flags)
 }
 
-/// The flags after those of the files of a package: the next package's.
+/// The flags that are left after those of the files of a package: those of the next packages.
 pub(crate) fn flags_behind<'f>(adb: Adb<'_>, pkg: Val, flags: &'f [bool]) -> &'f [bool]
+    // The word `pkg` refers to a package.
     requires { is_sound (payload_of adb) (Kinds.Obj Tables.Package) pkg ≡ true }
     ensures { result.now ≡ drop (total_of file_count (folders_in
         (value_at (payload_of adb.entry) (Kinds.Obj Tables.Package) pkg))) flags.entry.now }
@@ -51,7 +57,8 @@ pub(crate) fn flags_behind<'f>(adb: Adb<'_>, pkg: Val, flags: &'f [bool]) -> &'f
     flags_after_folders(adb, folders, flags)
 }
 
-/// Writes folders with the files whose flag is set.
+/// Writes folders with the files whose flag is set. `flags` are the flags from the first file of
+/// the first folder on.
 fn write_folder_list<'a>(
     draft: &mut Draft,
     adb: Adb<'a>,
@@ -59,17 +66,22 @@ fn write_folder_list<'a>(
     folders: Arr<'a>,
     flags: &[bool],
 ) -> Result<(), AllocError>
+    // Each entry of `folders` refers to a folder.
     requires sound { are_all_sound (payload_of adb) (Kinds.Obj Tables.Dir) (array_entries folders)
         ≡ true }
+    // What `known` remembers of texts of this payload is right for the draft.
     requires known { AreRememberedBlobsOfDraft (payload_of adb) draft.old known.old }
+    // On Ok, the array of the folders is added to the draft.
     ensures folders { OnOk result (draft.new
         ≡ draft_with (array_or_null (folders_in_new_database (list_of
         (entries_in (array_at (payload_of adb.entry) (Kinds.Obj Tables.Dir)
         (array_entries folders.entry)))) flags.now)) draft.old) }
+    // On Ok, what `known` remembers is right for the new draft.
     ensures known { OnOk result (AreRememberedBlobsOfDraft
         (payload_of adb.entry) draft.new known.new) }
 {
     draft.open_list()?;
+    // The flags from the first file of the next folder on.
     let mut left = flags;
     for i in 0..folders.len() {
         let folder = entry_word(folders, i);
@@ -80,8 +92,9 @@ fn write_folder_list<'a>(
     draft.close_array()
 }
 
-/// The flags after those of the files of these folders.
+/// The flags that are left after those of the files of these folders.
 fn flags_after_folders<'a, 'f>(adb: Adb<'a>, folders: Arr<'a>, flags: &'f [bool]) -> &'f [bool]
+    // Each entry of `folders` refers to a folder.
     requires { are_all_sound (payload_of adb) (Kinds.Obj Tables.Dir) (array_entries folders)
         ≡ true }
     ensures { result.now ≡ drop (total_of file_count (list_of (entries_in
@@ -95,9 +108,10 @@ fn flags_after_folders<'a, 'f>(adb: Adb<'a>, folders: Arr<'a>, flags: &'f [bool]
     left
 }
 
-/// The flags after those of the files of the folder with this word; none are left if there are too
-/// few.
+/// The flags that are left after those of the files of the folder with this word: none if there are
+/// fewer flags than files.
 fn flags_after_folder<'f>(adb: Adb<'_>, folder: Val, flags: &'f [bool]) -> &'f [bool]
+    // The word `folder` refers to a folder.
     requires { is_sound (payload_of adb) (Kinds.Obj Tables.Dir) folder ≡ true }
     ensures { result.now ≡ drop
         (file_count (value_at (payload_of adb.entry) (Kinds.Obj Tables.Dir) folder))
@@ -119,10 +133,14 @@ fn write_folder(
     folder: Val,
     flags: &[bool],
 ) -> Result<(), AllocError>
+    // The word `folder` refers to a folder.
     requires sound { is_sound (payload_of adb) (Kinds.Obj Tables.Dir) folder ≡ true }
+    // What `known` remembers of texts of this payload is right for the draft.
     requires known { AreRememberedBlobsOfDraft (payload_of adb) draft.old known.old }
+    // On Ok, the folder is added to the draft, with the files whose flag is set.
     ensures folder { OnOk result (draft.new ≡ draft_with (folder_in_new_database
         (value_at (payload_of adb.entry) (Kinds.Obj Tables.Dir) folder) flags.now) draft.old) }
+    // On Ok, what `known` remembers is right for the new draft.
     ensures known { OnOk result (AreRememberedBlobsOfDraft
         (payload_of adb.entry) draft.new known.new) }
 {
@@ -135,7 +153,8 @@ fn write_folder(
     draft.close_object()
 }
 
-/// Writes those of some files whose flag is set, in their order.
+/// Writes the array of those files whose flag is set, in their order. `flags` are the flags from
+/// the first file on.
 fn write_files<'a>(
     draft: &mut Draft,
     adb: Adb<'a>,
@@ -143,12 +162,16 @@ fn write_files<'a>(
     files: Arr<'a>,
     flags: &[bool],
 ) -> Result<(), AllocError>
+    // Each entry of `files` refers to a file.
     requires sound { are_all_sound (payload_of adb) (Kinds.Obj Tables.File) (array_entries files)
         ≡ true }
+    // What `known` remembers of texts of this payload is right for the draft.
     requires known { AreRememberedBlobsOfDraft (payload_of adb) draft.old known.old }
+    // On Ok, the array of the files whose flag is set is added to the draft.
     ensures files { OnOk result (draft.new ≡ draft_with (array_or_null (owned_entries (list_of
         (entries_in (array_at (payload_of adb.entry) (Kinds.Obj Tables.File)
         (array_entries files.entry)))) flags.now)) draft.old) }
+    // On Ok, what `known` remembers is right for the new draft.
     ensures known { OnOk result (AreRememberedBlobsOfDraft
         (payload_of adb.entry) draft.new known.new) }
 {
