@@ -26,7 +26,7 @@ abbrev pub AllowsEachText : ℕ → Type 0
 AllowsEachText field_number = (around : Surroundings) (text : List ℕ)
     → is_allowed_text_of_field field_number around text ≡ true
 
--- no value of the kind breaks a rule as the field with this number, whatever its surroundings
+-- no value of the kind breaks a rule if it is the value of the field with this number, whatever its surroundings
 abbrev pub AllowsEachValueOfKind : Kind → ℕ → Type 0
 AllowsEachValueOfKind kind field_number = (around : Surroundings) (v : Plain)
     → first_bad_leaf (leaves (shape_of kind) field_number around v) ≡ None

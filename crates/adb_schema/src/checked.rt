@@ -150,6 +150,7 @@ impl<'a> IndexView<'a> {
         // Each text and number of the index obeys the rule of its field.
         requires texts { is_none (text_or_number_fault Tables.Index
             (value_at (payload_of adb) (Kinds.Obj Tables.Index) word)) ≡ true }
+        // The value of the view is that of the word.
         ensures { index_value result
             ≡ value_at (payload_of adb.entry) (Kinds.Obj Tables.Index) word }
     {
@@ -176,6 +177,7 @@ impl<'a> IndexView<'a> {
 
     /// The word of the index in the payload.
     pub fn word(&self) -> Val
+        // The result is the word of the view.
         ensures is { result ≡ self.now.word }
         // The word refers to an index in the payload of the view.
         ensures sound { is_sound (payload_of self.now.adb) (Kinds.Obj Tables.Index) result
@@ -235,10 +237,12 @@ pub struct IdbView<'a> {
 }
 
 impl<'a> Kinded for IdbView<'a> {
+    // What a word of this kind refers to: an installed database.
     ghost kind = { Kinds.Obj Tables.Idb };
 }
 
 impl<'a> View<'a> for IdbView<'a> {
+    // A view shows the value to which its word refers in its payload.
     ghost shows = { λ view. value_at (payload_of view.adb) (Kinds.Obj Tables.Idb) view.word };
 
     // The view of a word that is sound as a database.
@@ -269,7 +273,7 @@ impl<'a> IdbView<'a> {
 
     /// The package at a place, counted from 0, which is read from the payload of the database.
     pub fn package_at(&self, i: usize) -> PackageView<'a>
-        // The index is one of the database's packages.
+        // `i` is the index of one of the database's packages.
         requires { i < count_of (entries_in (entry_in (idb_value self.now) IDB_PACKAGES)) }
         // The value is that of entry `i` of the database's packages.
         ensures value { package_value result
@@ -300,10 +304,12 @@ pub struct IntentView<'a> {
 }
 
 impl<'a> Kinded for IntentView<'a> {
+    // What a word of this kind refers to: an intent (journal entry).
     ghost kind = { Kinds.Obj Tables.Intent };
 }
 
 impl<'a> View<'a> for IntentView<'a> {
+    // A view shows the value to which its word refers in its payload.
     ghost shows = { λ view. value_at (payload_of view.adb) (Kinds.Obj Tables.Intent) view.word };
 
     // The view of a word that is sound as a journal entry.

@@ -107,9 +107,11 @@ impl<'a> Judged<'a> {
         // The payload is unchanged.
         ensures payload { self.new.adb ≡ self.old.adb }
     {
+        // A short text is judged wherever it occurs.
         if text.len() <= LONGEST_SHORT_TEXT {
             return Ok(rule.is_kept_by(text));
         }
+        // A long text that was found to obey the rule before is not read again.
         if self.is_good(rule, word) {
             return Ok(true);
         }

@@ -32,10 +32,12 @@ pub struct AclView<'a> {
 }
 
 impl<'a> Kinded for AclView<'a> {
+    // What a word of this kind refers to: an access list.
     ghost kind = { Kinds.Obj Tables.Acl };
 }
 
 impl<'a> View<'a> for AclView<'a> {
+    // A view shows the value to which its word refers in its payload.
     ghost shows = { λ view. value_at (payload_of view.adb) (Kinds.Obj Tables.Acl) view.word };
 
     // The view of a word that is sound as an access list.
@@ -94,10 +96,12 @@ pub struct FileInfo<'a> {
 }
 
 impl<'a> Kinded for FileInfo<'a> {
+    // What a word of this kind refers to: the entry of a file.
     ghost kind = { Kinds.Obj Tables.File };
 }
 
 impl<'a> View<'a> for FileInfo<'a> {
+    // A view shows the value to which its word refers in its payload.
     ghost shows = { λ view. value_at (payload_of view.adb) (Kinds.Obj Tables.File) view.word };
 
     // The view of a word that is sound as a file.
@@ -178,10 +182,12 @@ pub struct DirInfo<'a> {
 }
 
 impl<'a> Kinded for DirInfo<'a> {
+    // What a word of this kind refers to: a folder.
     ghost kind = { Kinds.Obj Tables.Dir };
 }
 
 impl<'a> View<'a> for DirInfo<'a> {
+    // A view shows the value to which its word refers in its payload.
     ghost shows = { λ view. value_at (payload_of view.adb) (Kinds.Obj Tables.Dir) view.word };
 
     // The view of a word that is sound as a folder.
@@ -235,10 +241,12 @@ pub struct ScriptsView<'a> {
 }
 
 impl<'a> Kinded for ScriptsView<'a> {
+    // What a word of this kind refers to: the scripts of a package.
     ghost kind = { Kinds.Obj Tables.Scripts };
 }
 
 impl<'a> View<'a> for ScriptsView<'a> {
+    // A view shows the value to which its word refers in its payload.
     ghost shows = { λ view. value_at (payload_of view.adb) (Kinds.Obj Tables.Scripts) view.word };
 
     // The view of a word that is sound as scripts.
@@ -314,10 +322,12 @@ pub struct PackageView<'a> {
 }
 
 impl<'a> Kinded for PackageView<'a> {
+    // What a word of this kind refers to: a package.
     ghost kind = { Kinds.Obj Tables.Package };
 }
 
 impl<'a> View<'a> for PackageView<'a> {
+    // A view shows the value to which its word refers in its payload.
     ghost shows = { λ view. value_at (payload_of view.adb) (Kinds.Obj Tables.Package) view.word };
 
     // The view of a word that is sound as a package.
@@ -354,6 +364,7 @@ impl<'a> PackageView<'a> {
 
     /// The word of the package in the payload.
     pub fn word(&self) -> Val
+        // The result is the word of the view.
         ensures is { result ≡ self.now.word }
         // The word refers to a package in the payload of the view.
         ensures sound { is_sound (payload_of self.now.adb) (Kinds.Obj Tables.Package) result

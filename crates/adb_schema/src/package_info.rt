@@ -31,10 +31,12 @@ pub struct DepView<'a> {
 }
 
 impl<'a> Kinded for DepView<'a> {
+    // What a word of this kind refers to: a dependency.
     ghost kind = { Kinds.Obj Tables.Dep };
 }
 
 impl<'a> View<'a> for DepView<'a> {
+    // A view shows the value to which its word refers in its payload.
     ghost shows = { λ view. value_at (payload_of view.adb) (Kinds.Obj Tables.Dep) view.word };
 
     // The view of a word that is sound as a dependency.
@@ -83,10 +85,12 @@ pub struct PkgInfo<'a> {
 }
 
 impl<'a> Kinded for PkgInfo<'a> {
+    // What a word of this kind refers to: the information of a package.
     ghost kind = { Kinds.Obj Tables.PkgInfo };
 }
 
 impl<'a> View<'a> for PkgInfo<'a> {
+    // A view shows the value to which its word refers in its payload.
     ghost shows = { λ view. value_at (payload_of view.adb) (Kinds.Obj Tables.PkgInfo) view.word };
 
     // The view of a word that is sound as the information of a package.
@@ -113,6 +117,7 @@ impl<'a> PkgInfo<'a> {
 
     /// The word of the information in the payload.
     pub fn word(&self) -> Val
+        // The result is the word of the view.
         ensures is { result ≡ self.now.word }
         // The word refers to a package's information in the payload of the view.
         ensures sound { is_sound (payload_of self.now.adb) (Kinds.Obj Tables.PkgInfo) result

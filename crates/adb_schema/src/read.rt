@@ -59,6 +59,7 @@ impl From<Cause> for ReadFault {
     ghost use Rattle.std.specs.Prelude.{◌≡◌};
     ghost use Rattle.adb_schema.specs.declared.read.ReadFault.TheVariants.{Bad};
 
+    // The fault has this cause.
     ghost from_gives = { λ cause fault. fault ≡ Bad cause };
 
     // The first failed test as the fault of a read.
@@ -71,6 +72,7 @@ impl From<AllocError> for ReadFault {
     ghost use Rattle.std.specs.Prelude.{◌≡◌};
     ghost use Rattle.adb_schema.specs.declared.read.ReadFault.TheVariants.{Memory};
 
+    // The fault is `Memory`.
     ghost from_gives = { λ _ fault. fault ≡ Memory };
 
     // Out of memory, as the fault of a read.
@@ -104,6 +106,7 @@ pub fn schema_word(which: Which) -> Option<u32>
 /// The first kind with a repeated name is reported, by the pair with the smallest second position,
 /// and among those the one with the smallest first position.
 pub fn repeated(alloc: Global, checked: &Checked<'_>) -> Result<Option<Cause>, AllocError>
+    // On Ok, the result is the cause of the definition, or None.
     ensures { IfOk result (λ cause. cause
         ≡ repeated_fault (table_of_checked checked.now) (checked_value checked.now)) }
 {
@@ -212,6 +215,7 @@ fn check_payload<'a>(
 /// Tests the blocks after the first. In a package nothing is tested here: `pkg_core` tests them
 /// against the files that the package lists.
 fn check_rest(blocks: &mut Blocks<'_>, which: Which) -> Result<(), Cause>
+    // The result is the first fault of these blocks, or Ok.
     ensures { result_err result
         ≡ further_blocks_fault_unless_package which (block_stream_from blocks.old) }
 {
@@ -279,9 +283,13 @@ pub fn contents_positions(payload: &[u8]) -> (u32, u32)
 
 /// A law: in the header of a file, the schemas of the four roots are these four bytes.
 pub fn schema_words_are_as_listed()
+    // The schema of a package.
     ensures package { to_le_bytes w32 PACKAGE_WORD ≡ codes "pckg" }
+    // The schema of an index.
     ensures index { to_le_bytes w32 INDEX_WORD ≡ codes "indx" }
+    // The schema of an installed database.
     ensures database { to_le_bytes w32 IDB_WORD ≡ codes "idb\0" }
+    // The schema of an intent (journal entry).
     ensures intent { to_le_bytes w32 INTENT_WORD ≡ codes "intt" }
 {}
 

@@ -108,6 +108,7 @@ impl<'a> Surroundings<'a> {
     pub(crate) fn inside(&self, adb: Adb<'a>, which: Which, object: Val) -> Surroundings<'a>
         // The word `object` refers to an object of this table.
         requires { is_sound (payload_of adb) (Kinds.Obj which) object ≡ true }
+        // The result has the surroundings that the definition gives for these fields.
         ensures { surroundings_of result
             ≡ surroundings_of_fields (table_number which) (surroundings_of self.now)
             (value_at (payload_of adb.entry) (Kinds.Obj which) object) }
@@ -270,6 +271,7 @@ fn keeps_change_name(judged: &mut Judged<'_>, word: Val, text: &[u8]) -> Result<
 /// field, or None if and only if each obeys its own. A missing field counts as Null. A text of more
 /// than 64 bytes is judged once, however many places share it.
 pub fn check_texts(alloc: Global, shaped: Shaped<'_>) -> Result<Option<Cause>, AllocError>
+    // On Ok, the result is the cause for the first text or number that breaks its rule, or None.
     ensures { IfOk result (λ cause. cause
         ≡ text_or_number_fault (table_of shaped.entry) (shaped_value shaped.entry)) }
 {
@@ -501,6 +503,7 @@ fn check_text(
 /// A law: the cause from the text walk is that of the first text or number that breaks the rule of
 /// its field, depth first and field by field. There is no cause if and only if each obeys its rule.
 pub fn the_first_bad_text_is_reported()
+    // A cause is that of the first bad leaf (text or number); without a cause no leaf is bad.
     ensures { (which : Which) (value : Plain)
         → IsFirstBadLeafIfAny (leaves_of which value) (text_or_number_fault which value) }
 {}
@@ -508,6 +511,7 @@ pub fn the_first_bad_text_is_reported()
 /// A law: the text walk reports no fault in a value if and only if each text and number in the
 /// value obeys the rule of its field. *ObeysFieldRulesOfTable* states the rules for each table.
 pub fn no_text_is_bad_where_each_keeps_its_rule()
+    // No fault is reported if and only if the value obeys the rules of its table.
     ensures { (which : Which) (value : Plain) → (text_or_number_fault which value ≡ None)
         ↔ ObeysFieldRulesOfTable which value }
 {}
