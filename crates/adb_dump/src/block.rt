@@ -39,6 +39,7 @@ use std::alloc::{AllocError, Global};
 pub fn dump(alloc: Global, shaped: &Shaped<'_>) -> Result<Text, AllocError>
     // The table is one of the four that a container may have at its root.
     requires { is_some (schema_word (table_of shaped.now)) ≡ true }
+    // On Ok, the text is the dump text of the value at the root.
     ensures { IfOk result
         (λ text. text ≡ dump_text (table_of shaped.now) (shaped_value shaped.now)) }
 {
@@ -58,6 +59,7 @@ const MOST_TEXT_PER_PAYLOAD_BYTE: usize = 4;
 fn short_dump(alloc: Global, shaped: &Shaped<'_>) -> Result<Text, AllocError>
     // The table is one of the four that a container may have at its root.
     requires { is_some (schema_word (table_of shaped.now)) ≡ true }
+    // On Ok, the text is the dump text of the value at the root.
     ensures { IfOk result
         (λ text. text ≡ dump_text (table_of shaped.now) (shaped_value shaped.now)) }
 {
@@ -76,6 +78,7 @@ fn short_dump(alloc: Global, shaped: &Shaped<'_>) -> Result<Text, AllocError>
 fn counted_dump(alloc: Global, shaped: &Shaped<'_>) -> Result<Text, AllocError>
     // The table is one of the four that a container may have at its root.
     requires { is_some (schema_word (table_of shaped.now)) ≡ true }
+    // On Ok, the text is the dump text of the value at the root.
     ensures { IfOk result
         (λ text. text ≡ dump_text (table_of shaped.now) (shaped_value shaped.now)) }
 {
@@ -92,6 +95,7 @@ fn counted_dump(alloc: Global, shaped: &Shaped<'_>) -> Result<Text, AllocError>
 fn dump_len(alloc: Global, shaped: &Shaped<'_>) -> Result<usize, AllocError>
     // The table is one of the four that a container may have at its root.
     requires { is_some (schema_word (table_of shaped.now)) ≡ true }
+    // On Ok, the result is the length of the dump text.
     ensures { IfOk result
         (λ len. len ≡ length (dump_text (table_of shaped.now) (shaped_value shaped.now))) }
 {
@@ -105,6 +109,7 @@ fn dump_len(alloc: Global, shaped: &Shaped<'_>) -> Result<usize, AllocError>
 fn write_dump<O: BlobOut>(out: &mut O, shaped: &Shaped<'_>) -> Result<(), AllocError>
     // The table is one of the four that a container may have at its root.
     requires { is_some (schema_word (table_of shaped.now)) ≡ true }
+    // On Ok, exactly the dump text is written.
     ensures { OnOk result (Puts (O.holds (payload_of (adb_of shaped.now))) out.old out.new
         (dump_text (table_of shaped.now) (shaped_value shaped.now))) }
 {
@@ -124,6 +129,7 @@ fn write_dump<O: BlobOut>(out: &mut O, shaped: &Shaped<'_>) -> Result<(), AllocE
 fn write_schema<O: Out>(out: &mut O, which: Which) -> Result<(), AllocError>
     // The table is one of the four that a container may have at its root.
     requires { is_some (schema_word which) ≡ true }
+    // On Ok, exactly the line of the schema is written, with its line end.
     ensures { OnOk result (PutsForAnyPayload O.holds out.old out.new
         (schema_line (schema_word which) ++ codes "\n")) }
 {
@@ -156,6 +162,7 @@ fn write_block<O: BlobOut>(
     requires some { is_null (value_at (payload_of adb) kind word) ≡ false }
     // No line of the value is deeper than the limit, 100 levels, so no depth overflows.
     requires deep { start.depth + rank kind ≤ DEPTH_LIMIT }
+    // On Ok, exactly the lines of the value are written.
     ensures { OnOk result (Puts (O.holds (payload_of adb.entry)) out.old out.new
         (indented_lines_text start.depth start.begun
         (block_lines (shape_of kind) (value_at (payload_of adb.entry) kind word)))) }
@@ -191,6 +198,7 @@ fn write_entries<O: BlobOut>(
     requires sound { are_all_sound (payload_of adb) kind (array_entries words) ≡ true }
     // No line of the value is deeper than the limit, 100 levels, so no depth overflows.
     requires deep { start.depth + rank kind < DEPTH_LIMIT }
+    // On Ok, exactly the lines of the array are written.
     ensures { OnOk result (Puts (O.holds (payload_of adb.entry)) out.old out.new
         (indented_lines_text start.depth start.begun
         (array_lines (block_lines (shape_of kind))
@@ -221,6 +229,7 @@ fn write_entry<O: BlobOut>(
     requires sound { is_sound (payload_of adb) kind word ≡ true }
     // No line of the value is deeper than the limit, 100 levels, so no depth overflows.
     requires deep { depth + rank kind ≤ DEPTH_LIMIT }
+    // On Ok, exactly the lines of the entry are written; its first line is already begun.
     ensures { OnOk result (Puts (O.holds (payload_of adb.entry)) out.old out.new
         (indented_lines_text depth true
         (entry_lines_or_null_line (value_at (payload_of adb.entry) kind word)
@@ -249,6 +258,7 @@ fn write_object_entry<O: BlobOut>(
     requires sound { is_sound (payload_of adb) (Kinds.Obj which) word ≡ true }
     // No line of the value is deeper than the limit, 100 levels, so no depth overflows.
     requires deep { depth + rank (Kinds.Obj which) ≤ DEPTH_LIMIT }
+    // On Ok, exactly the lines of the entry are written; its first line is already begun.
     ensures { OnOk result (Puts (O.holds (payload_of adb.entry)) out.old out.new
         (indented_lines_text depth true
         (entry_lines_or_null_line (value_at (payload_of adb.entry) (Kinds.Obj which) word)
@@ -392,6 +402,7 @@ fn write_named<O: BlobOut>(
     requires some { is_null (value_at (payload_of adb) field.kind word) ≡ false }
     // No line of the value is deeper than the limit, 100 levels, so no depth overflows.
     requires deep { start.depth + rank field.kind < DEPTH_LIMIT }
+    // On Ok, exactly the lines of the field are written.
     ensures { OnOk result (Puts (O.holds (payload_of adb.entry)) out.old out.new
         (indented_lines_text start.depth start.begun
         (named_lines (shape_of field.kind) (field_name_text field.name)

@@ -46,6 +46,7 @@ pub(crate) fn name_front(name: FieldName) -> &'static [u8]
         FieldName::Group => b"                group: ",
         FieldName::Xattrs => b"                xattrs: ",
         FieldName::Hashes => b"                hashes: ",
+        // Sixteen spaces, the name of the field, a colon and a space.
         FieldName::Description => b"                description: ",
         FieldName::Arch => b"                arch: ",
         FieldName::License => b"                license: ",
@@ -53,6 +54,7 @@ pub(crate) fn name_front(name: FieldName) -> &'static [u8]
         FieldName::Maintainer => b"                maintainer: ",
         FieldName::Url => b"                url: ",
         FieldName::RepoCommit => b"                repo-commit: ",
+        // Sixteen spaces, the name of the field, a colon and a space.
         FieldName::BuildTime => b"                build-time: ",
         FieldName::InstalledSize => b"                installed-size: ",
         FieldName::FileSize => b"                file-size: ",
@@ -60,6 +62,7 @@ pub(crate) fn name_front(name: FieldName) -> &'static [u8]
         FieldName::Depends => b"                depends: ",
         FieldName::Provides => b"                provides: ",
         FieldName::Replaces => b"                replaces: ",
+        // Sixteen spaces, the name of the field, a colon and a space.
         FieldName::InstallIf => b"                install-if: ",
         FieldName::Recommends => b"                recommends: ",
         FieldName::Layer => b"                layer: ",
@@ -67,6 +70,7 @@ pub(crate) fn name_front(name: FieldName) -> &'static [u8]
         FieldName::Unused => b"                unused: ",
         FieldName::Acl => b"                acl: ",
         FieldName::Size => b"                size: ",
+        // Sixteen spaces, the name of the field, a colon and a space.
         FieldName::Mtime => b"                mtime: ",
         FieldName::Target => b"                target: ",
         FieldName::Files => b"                files: ",
@@ -74,12 +78,14 @@ pub(crate) fn name_front(name: FieldName) -> &'static [u8]
         FieldName::PreInstall => b"                pre-install: ",
         FieldName::PostInstall => b"                post-install: ",
         FieldName::PreDeinstall => b"                pre-deinstall: ",
+        // Sixteen spaces, the name of the field, a colon and a space.
         FieldName::PostDeinstall => b"                post-deinstall: ",
         FieldName::PreUpgrade => b"                pre-upgrade: ",
         FieldName::PostUpgrade => b"                post-upgrade: ",
         FieldName::Info => b"                info: ",
         FieldName::Paths => b"                paths: ",
         FieldName::Scripts => b"                scripts: ",
+        // Sixteen spaces, the name of the field, a colon and a space.
         FieldName::Triggers => b"                triggers: ",
         FieldName::ReplacesPriority => b"                replaces-priority: ",
         FieldName::Packages => b"                packages: ",

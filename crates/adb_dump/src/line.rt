@@ -123,6 +123,7 @@ fn hex_digits(byte: u8) -> [u8; 2]
 /// Writes a text as it is if it needs no quotes, else between quotes.
 #[inline(always)]
 pub(crate) fn write_text<O: Out>(out: &mut O, text: &[u8]) -> Result<(), AllocError>
+    // On Ok, exactly the text is written, with quotes if it needs them.
     ensures { OnOk result (PutsForAnyPayload O.holds out.old out.new
         (bare_or_quoted_text text.now)) }
 {
@@ -235,6 +236,7 @@ fn is_long_printable(text: &[u8]) -> bool
     requires { 16 ≤ length text.now }
     ensures { result ≡ list_all is_printable text.now }
 {
+    // The index at which the last window begins.
     let last = text.len() - WINDOW_LEN;
     let mut at = 0;
     while at < last {
@@ -250,11 +252,13 @@ fn is_long_printable(text: &[u8]) -> bool
 /// which together are all of its bytes.
 #[inline(always)]
 fn are_ends_printable(text: &[u8], len: usize) -> bool
-    // The text has at least `len` bytes, and at most twice as many.
+    // The text has at least `len` bytes.
     requires within { len ≤ length text.now }
+    // The text has at most twice `len` bytes.
     requires all { length text.now ≤ len + len }
     ensures { result ≡ list_all is_printable text.now }
 {
+    // The index at which the last `len` bytes begin.
     let last = text.len() - len;
     is_window_printable(&text[..len]) & is_window_printable(&text[last..last + len])
 }
@@ -304,7 +308,9 @@ impl LineStart {
 fn write_front<O: Out>(out: &mut O, start: LineStart, front: &[u8]) -> Result<(), AllocError>
     // The front begins with eight levels (`FRONT_LEVELS`), which are sixteen spaces (`FRONT_LEN`).
     requires spaces { front.now ≡ margin 8 ++ drop 16 front.now }
+    // The front has at least these spaces.
     requires len { 16 ≤ length front.now }
+    // On Ok, the missing spaces are written, and what the front has after its sixteen spaces.
     ensures { OnOk result (PutsForAnyPayload O.holds out.old out.new
         (margin_unless_begun start.depth start.begun ++ drop 16 front.now)) }
 {
@@ -333,33 +339,36 @@ fn write_levels<O: Out>(out: &mut O, levels: u32) -> Result<(), AllocError>
 /// Writes the missing spaces before an entry of an array, and its dash and a space.
 #[inline(always)]
 pub(crate) fn write_dash<O: Out>(out: &mut O, depth: u32, begun: bool) -> Result<(), AllocError>
+    // On Ok, exactly the missing spaces, the dash and a space are written.
     ensures { OnOk result (PutsForAnyPayload O.holds out.old out.new
         (margin_unless_begun depth begun ++ codes "- ")) }
 {
     write_front(out, LineStart { depth, begun }, dash_front())
 }
 
-/// Writes the missing spaces before a field, its name, a colon and a space: its value follows on
-/// the line.
+/// Writes the missing spaces before a field, the field's name, a colon and a space. The value of
+/// the field follows on this line.
 #[inline(always)]
 pub(crate) fn write_name<O: Out>(
     out: &mut O,
     start: LineStart,
     name: FieldName,
 ) -> Result<(), AllocError>
+    // On Ok, exactly the missing spaces, the name, the colon and the space are written.
     ensures { OnOk result (PutsForAnyPayload O.holds out.old out.new
         (margin_unless_begun start.depth start.begun ++ field_name_text name ++ codes ": ")) }
 {
     write_front(out, start, name_front(name))
 }
 
-/// Writes the missing spaces before a field, its name, a colon and a line end: its value follows
-/// below.
+/// Writes the missing spaces before a field, the field's name, a colon and a line end. The value of
+/// the field follows below this line.
 pub(crate) fn write_name_line<O: Out>(
     out: &mut O,
     start: LineStart,
     name: FieldName,
 ) -> Result<(), AllocError>
+    // On Ok, exactly the missing spaces, the name, the colon and the line end are written.
     ensures { OnOk result (PutsForAnyPayload O.holds out.old out.new
         (margin_unless_begun start.depth start.begun ++ field_name_text name ++ codes ":\n")) }
 {
@@ -371,6 +380,7 @@ pub(crate) fn write_name_line<O: Out>(
 
 /// Writes the spaces before the next line, or nothing if the line is already begun.
 fn write_lead<O: Out>(out: &mut O, start: LineStart) -> Result<(), AllocError>
+    // On Ok, exactly the missing spaces are written.
     ensures { OnOk result (PutsForAnyPayload O.holds out.old out.new
         (margin_unless_begun start.depth start.begun)) }
 {

@@ -34,10 +34,12 @@ pub(crate) trait Out {
 
     /// Appends bytes.
     fn put(&mut self, bytes: &[u8]) -> Result<(), AllocError>
+        // On Ok, these bytes are added to those that were written.
         ensures { OnOk result (PutsForAnyPayload holds self.old self.new bytes.now) };
 
     /// Appends a byte.
     fn put_byte(&mut self, byte: u8) -> Result<(), AllocError>
+        // On Ok, this byte is added to those that were written.
         ensures { OnOk result (PutsForAnyPayload holds self.old self.new (byte ∷ [])) };
 }
 
@@ -47,11 +49,13 @@ pub(crate) trait BlobOut: Out {
     fn put_text(&mut self, adb: Adb<'_>, word: Val, text: &[u8]) -> Result<(), AllocError>
         // These bytes are the text of the word.
         requires { text.now ≡ text_in (value_at (payload_of adb) Kinds.Text word) }
+        // On Ok, the form of the text in a line is added to what was written.
         ensures { OnOk result (Puts (Self.holds (payload_of adb.entry)) self.old self.new
             (bare_or_quoted_text text.now)) };
 
     /// Puts a hash as it is in a line, in hexadecimal digits.
     fn put_hash(&mut self, hash: &[u8]) -> Result<(), AllocError>
+        // On Ok, two digits for each byte are added to what was written.
         ensures { OnOk result (PutsForAnyPayload Self.holds self.old self.new
             (encode_lower hash.now)) };
 }
@@ -209,6 +213,7 @@ impl Count {
 
     /// A count of no bytes.
     pub(crate) fn new(alloc: Global) -> Count
+        // No byte is counted yet.
         ensures none { result.len.bytes ≡ 0 }
         // No length is remembered yet, so that each remembered one is right.
         ensures lens { (payload : List ℕ) → AreLineLengths payload result.lens }

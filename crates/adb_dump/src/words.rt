@@ -62,6 +62,7 @@ pub(crate) fn is_null(adb: Adb<'_>, kind: Kind, word: Val) -> bool
 fn are_null(adb: Adb<'_>, fields: &[Field], words: Arr<'_>) -> bool
     // Each word refers to a value of the kind of its field, or is NULL.
     requires { fields_sound (payload_of adb) fields.now (array_entries words) ≡ true }
+    // The result says whether the values of all fields are Null.
     ensures { result
         ≡ are_null (fields_at (payload_of adb.entry) fields.now (array_entries words.entry)) }
 {
