@@ -30,6 +30,7 @@ impl<'a> Model for Cursor<'a> {
     ghost use Rattle.std.specs.Prelude.{◌+◌, ◌<◌, ◌^◌, length, option_copied};
     ghost use Rattle.gen_core.specs.Cursors.{CursorState, cursor_from_parts, line_end_count, lines_at_cursor};
 
+    // What contracts see of a cursor.
     ghost Value = { CursorState };
 
     // Contracts see the lines that are left, the number of the current line, and the levels read.

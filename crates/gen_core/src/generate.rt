@@ -157,6 +157,7 @@ impl From<AllocError> for GenFault {
     ghost use Rattle.std.specs.Prelude.{◌≡◌};
     ghost use Rattle.gen_core.specs.declared.generate.GenFault.TheVariants.{Memory};
 
+    // The fault is `Memory`.
     ghost from_gives = { λ _ fault. fault ≡ Memory };
 
     /// Out of memory: nothing is said of the text.

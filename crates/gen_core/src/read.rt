@@ -138,6 +138,7 @@ fn read_value(
     kind: Kind,
     line: &[u8],
 ) -> Result<bool, AllocError>
+    // On Ok true, the value is added to the draft; on Ok false, the line cannot be read.
     ensures { IfOk result (λ is. IsLineRead is (line_read (shape_of kind) line.now) draft.old
         draft.new) }
 {
@@ -363,6 +364,7 @@ fn read_fields(
 
 /// The rest of a line after the name of a field and a colon, if the line begins with these.
 fn after_name(line: &[u8], name: FieldName) -> Option<&[u8]>
+    // The result is the rest of the line after `name:`, or None.
     ensures { option_copied result
         ≡ strip_prefix (field_name_text name ++ codes ":") line.entry.now }
 {

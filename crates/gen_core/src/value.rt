@@ -15,6 +15,7 @@ use std::alloc::AllocError;
 
 /// The integer whose decimal digits are the line; None if there is no such integer below 2^64.
 pub(crate) fn number_in(line: &[u8]) -> Option<u64>
+    // A number is below 2^64 and has these digits; None means that no such number has them.
     ensures { MatchOption result ((n : ℕ) → n < 2 ^ 64 → decimal n ≢ line.now)
         (λ n. (n < 2 ^ 64) × (decimal n ≡ line.now)) }
 {
@@ -66,7 +67,9 @@ fn hex_byte(text: &[u8]) -> Option<(u8, &[u8])>
 
 /// The value of a hexadecimal digit in lower case.
 fn hex_digit(digit: u8) -> Option<u8>
+    // The result is the value of the digit, or None.
     ensures value { result ≡ hex_digit_value digit }
+    // The value of a digit is below 16.
     ensures small { IfSome result (λ value. value < 16) }
 {
     match digit {
@@ -107,6 +110,7 @@ fn read_bare(bytes: &mut Vec<u8>, line: &[u8]) -> Result<bool, AllocError>
 /// Reads a text between quotes; `quoted` is the rest of the line after the first quote. False if no
 /// text has this line.
 fn read_quoted(bytes: &mut Vec<u8>, quoted: &[u8]) -> Result<bool, AllocError>
+    // On Ok true, the bytes are written as a quote and `quoted`; on Ok false, no bytes are.
     ensures { IfOk result (λ is. IsFormOf bare_or_quoted_text is bytes.new.items (codes "\""
         ++ quoted.now)) }
 {
@@ -168,10 +172,12 @@ fn escaped(text: &[u8]) -> Option<(u8, &[u8])>
 /// The first byte of a text and what follows it, if two hexadecimal digits are the only form of
 /// this byte between quotes.
 fn if_only_hex(first: Option<(u8, &[u8])>) -> Option<(u8, &[u8])>
+    // The result is `first`, or None if this byte has a shorter form.
     ensures { option_map (λ first. (first.0, first.1.now)) result
         ≡ if_only_hex (option_map (λ first. (first.0, first.1.now)) first.entry) }
 {
     let (byte, further) = first?;
+    // A line end is written as `\n`, and a printable byte as it is or after a backslash.
     if byte == b'\n' {
         return None;
     }
