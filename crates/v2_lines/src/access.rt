@@ -44,6 +44,7 @@ pub(crate) fn read_access(text: &[u8]) -> Option<Access<'_>>
 fn colon_in(text: &[u8]) -> Option<usize>
     // The result is the index of the first colon, or None if there is no colon.
     ensures at { result ≡ position (λ b. b == COLON) text.now }
+    // An index that is returned is within the text.
     ensures within { IfSome result (λ at. at < length text.now) }
 {
     text.iter().position(|byte| *byte == COLON)

@@ -70,6 +70,7 @@ fn read_by_letter<'a>(
     letter: u8,
     value: &'a [u8],
 ) -> Result<Option<Line<'a>>, AllocError>
+    // On Ok, the result is the meaning of the line; None if the value is not in the grammar.
     ensures { IfOk result (λ found. option_map line_view found
         ≡ record_line_of_letter letter value.entry.now) }
 {
@@ -105,6 +106,7 @@ fn file_line(name: &[u8]) -> Option<Line<'_>>
 
 // Reads the line of a file's hash. None: the value is no SHA-1.
 fn read_file_hash<'a>(alloc: Global, value: &[u8]) -> Result<Option<Line<'a>>, AllocError>
+    // On Ok, the result is the line of this hash; None if the value is no SHA-1.
     ensures { IfOk result (λ found. option_map line_view found
         ≡ option_map file_hash_line (sha1_in_text value.now)) }
 {
@@ -116,6 +118,7 @@ fn read_file_hash<'a>(alloc: Global, value: &[u8]) -> Result<Option<Line<'a>>, A
 
 // Reads a line on the package itself. A line with an unlisted letter is read as `Other`.
 fn read_info<'a>(alloc: Global, letter: u8, value: &'a [u8]) -> Result<Option<Line<'a>>, AllocError>
+    // On Ok, the result is the meaning of the line; None if the value is not in the grammar.
     ensures { IfOk result (λ found. option_map line_view found
         ≡ info_record_line (field_of_letter letter) value.entry.now) }
 {
