@@ -213,6 +213,7 @@ impl From<AllocError> for V2Fault {
     ghost use Rattle.std.specs.Prelude.{◌≡◌};
     ghost use Rattle.v2_core.specs.declared.read.V2Fault.TheVariants.{Memory};
 
+    // The fault is `Memory`.
     ghost from_gives = { λ _ fault. fault ≡ Memory };
 
     /// Out of memory, as the reason why a text is refused.
@@ -225,6 +226,7 @@ impl From<Cause> for V2Fault {
     ghost use Rattle.std.specs.Prelude.{◌≡◌};
     ghost use Rattle.v2_core.specs.declared.read.V2Fault.TheVariants.{Bad};
 
+    // The fault has this cause.
     ghost from_gives = { λ cause fault. fault ≡ Bad cause };
 
     /// A failed test, as the reason why a text is refused.

@@ -29,6 +29,7 @@ impl<'a> Model for InfoLine<'a> {
     ghost use Rattle.v2_core.specs.Records.{InfoLine as InfoLineModel, info_line_from_parts};
     ghost use Rattle.v2_lines.specs.Views.{line_value_view};
 
+    // What contracts see of a line on the package.
     ghost Value = { InfoLineModel };
 
     // Contracts see the field and the values of the line.
@@ -50,6 +51,7 @@ impl<'a> Model for File<'a> {
     ghost use Rattle.v2_core.specs.Records.{ListedFile as ListedFileModel, listed_file_from_parts};
     ghost use Rattle.v2_core.specs.Views.{access_view_if_any, hash_view};
 
+    // What contracts see of a file.
     ghost Value = { ListedFileModel };
 
     // Contracts see the name, the owner and mode, and the hash.
@@ -60,6 +62,7 @@ impl<'a> Model for File<'a> {
 impl<'a> File<'a> {
     /// Sets the file's owner and mode. False: they were given before.
     fn add_access(&mut self, access: Access<'a>) -> bool
+        // On true, the definition gives the changed value; on false, it gives None.
         ensures { (if result then Some self.new else None)
             ≡ file_with_access (access_view access.entry) self.old }
     {
@@ -72,6 +75,7 @@ impl<'a> File<'a> {
 
     /// Sets the hash of the file. False: it was given before.
     fn add_hash(&mut self, hash: Vec<u8>) -> bool
+        // On true, the definition gives the changed value; on false, it gives None.
         ensures { (if result then Some self.new else None)
             ≡ file_with_hash hash.items self.old }
     {
@@ -98,6 +102,7 @@ impl<'a> Model for Folder<'a> {
     ghost use Rattle.v2_core.specs.Records.{ListedFolder as ListedFolderModel, listed_folder_from_parts};
     ghost use Rattle.v2_core.specs.Views.{access_view_if_any};
 
+    // What contracts see of a folder.
     ghost Value = { ListedFolderModel };
 
     // Contracts see the path, the owner and mode, and the files.
@@ -109,6 +114,7 @@ impl<'a> Model for Folder<'a> {
 impl<'a> Folder<'a> {
     /// Sets the folder's owner and mode. False: they were given before.
     fn add_access(&mut self, access: Access<'a>) -> bool
+        // On true, the definition gives the changed value; on false, it gives None.
         ensures { (if result then Some self.new else None)
             ≡ folder_with_access (access_view access.entry) self.old }
     {
@@ -133,6 +139,7 @@ impl<'a> Folder<'a> {
 
     /// Sets the last file's owner and mode. False: there is no file, or they were given before.
     fn add_file_access(&mut self, access: Access<'a>) -> bool
+        // On true, the definition gives the changed value; on false, it gives None.
         ensures { (if result then Some self.new else None)
             ≡ folder_with_last_file_changed (file_with_access (access_view access.entry)) self.old }
     {
@@ -141,6 +148,7 @@ impl<'a> Folder<'a> {
 
     /// Sets the hash of the last file. False: there is no file, or its hash was given before.
     fn add_file_hash(&mut self, hash: Vec<u8>) -> bool
+        // On true, the definition gives the changed value; on false, it gives None.
         ensures { (if result then Some self.new else None)
             ≡ folder_with_last_file_changed (file_with_hash hash.items) self.old }
     {
@@ -150,6 +158,7 @@ impl<'a> Folder<'a> {
 
 // Sets the owner and mode of the last file. False: there is no file, or they were given before.
 fn add_access_to_last<'a>(files: &mut Vec<File<'a>>, access: Access<'a>) -> bool
+    // On true, the definition gives the changed files; on false, it gives None.
     ensures { (if result then Some files.new.items else None)
         ≡ list_with_last_changed (file_with_access (access_view access.entry)) files.old.items }
 {
@@ -161,6 +170,7 @@ fn add_access_to_last<'a>(files: &mut Vec<File<'a>>, access: Access<'a>) -> bool
 
 // Sets the hash of the last file. False: there is no file, or its hash was given before.
 fn add_hash_to_last(files: &mut Vec<File<'_>>, hash: Vec<u8>) -> bool
+    // On true, the definition gives the changed files; on false, it gives None.
     ensures { (if result then Some files.new.items else None)
         ≡ list_with_last_changed (file_with_hash hash.items) files.old.items }
 {
@@ -186,8 +196,10 @@ pub(crate) struct Record<'a> {
 impl<'a> Model for Record<'a> {
     ghost use Rattle.v2_core.specs.Records.{Record as RecordModel, record_from_parts};
 
+    // What contracts see of a record.
     ghost Value = { RecordModel };
 
+    // Contracts see whether there is a line, the lines on the package, and the folders.
     ghost view = { λ r. record_from_parts r.has_line r.info.items r.folders.items };
 }
 
@@ -229,6 +241,7 @@ impl<'a> Record<'a> {
 
     /// Reads a line of a text, and adds it. False: the line is bad.
     pub(crate) fn add_text(&mut self, text: &'a [u8]) -> Result<bool, AllocError>
+        // On Ok true, the definition gives the changed value; on Ok false, it gives None.
         ensures { IfOk result (λ good. (if good then Some self.new else None)
             ≡ record_with_text_line self.old text.entry.now) }
     {
@@ -240,6 +253,7 @@ impl<'a> Record<'a> {
 
     /// Adds a line that was read. False: the line is not allowed after those before it.
     fn add(&mut self, line: Line<'a>) -> Result<bool, AllocError>
+        // On Ok true, the definition gives the changed value; on Ok false, it gives None.
         ensures { IfOk result (λ good. (if good then Some self.new else None)
             ≡ with_record_line self.old (line_view line.entry)) }
     {
@@ -270,6 +284,7 @@ fn add_info<'a>(
     field: InfoField,
     value: Value<'a>,
 ) -> Result<bool, AllocError>
+    // On Ok true, the definition gives the changed value; on Ok false, it gives None.
     ensures { IfOk result (λ good. (if good then Some info.new.items else None)
         ≡ with_info_values field (line_value_view value.entry) info.old.items) }
 {
@@ -287,6 +302,7 @@ fn add_folder<'a>(
     folders: &mut Vec<Folder<'a>>,
     name: &'a [u8],
 ) -> Result<bool, AllocError>
+    // On Ok true, the definition gives the changed value; on Ok false, it gives None.
     ensures { IfOk result (λ good. (if good then Some folders.new.items else None)
         ≡ Some (folders.old.items ++ listed_folder_from_parts name.entry.now None [] ∷ [])) }
 {
@@ -300,6 +316,7 @@ fn add_folder<'a>(
 
 /// Sets the last folder's owner and mode. False: there is no folder, or they were given before.
 fn add_access<'a>(folders: &mut Vec<Folder<'a>>, access: Access<'a>) -> bool
+    // On true, the definition gives the changed folders; on false, it gives None.
     ensures { (if result then Some folders.new.items else None)
         ≡ list_with_last_changed (folder_with_access (access_view access.entry)) folders.old.items }
 {
@@ -311,6 +328,7 @@ fn add_access<'a>(folders: &mut Vec<Folder<'a>>, access: Access<'a>) -> bool
 
 /// Adds a file of this name to the last folder. False: there is no folder.
 fn add_file<'a>(folders: &mut Vec<Folder<'a>>, name: &'a [u8]) -> Result<bool, AllocError>
+    // On Ok true, the definition gives the changed value; on Ok false, it gives None.
     ensures { IfOk result (λ good. (if good then Some folders.new.items else None)
         ≡ list_with_last_changed (folder_with_file name.entry.now) folders.old.items) }
 {
@@ -324,6 +342,7 @@ fn add_file<'a>(folders: &mut Vec<Folder<'a>>, name: &'a [u8]) -> Result<bool, A
 /// Sets the owner and mode of the last folder's last file. False: there is no such file, or they
 /// were given before.
 fn add_file_access<'a>(folders: &mut Vec<Folder<'a>>, access: Access<'a>) -> bool
+    // On true, the definition gives the changed folders; on false, it gives None.
     ensures { (if result then Some folders.new.items else None)
         ≡ list_with_last_changed (folder_with_last_file_changed (file_with_access
         (access_view access.entry)))
@@ -338,6 +357,7 @@ fn add_file_access<'a>(folders: &mut Vec<Folder<'a>>, access: Access<'a>) -> boo
 /// Sets the hash of the last folder's last file. False: there is no such file, or its hash was
 /// given before.
 fn add_file_hash<'a>(folders: &mut Vec<Folder<'a>>, hash: Vec<u8>) -> bool
+    // On true, the definition gives the changed folders; on false, it gives None.
     ensures { (if result then Some folders.new.items else None)
         ≡ list_with_last_changed (folder_with_last_file_changed
         (file_with_hash hash.items)) folders.old.items }

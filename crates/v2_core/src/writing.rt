@@ -42,14 +42,17 @@ const COLUMNS: [Column; 18] = [
     Column::Once(InfoField::Description),
     Column::Once(InfoField::Arch),
     Column::Once(InfoField::License),
+    // The 7th field of table 3, and so on.
     Column::Once(InfoField::Origin),
     Column::Once(InfoField::Maintainer),
     Column::Once(InfoField::Url),
     Column::Once(InfoField::RepoCommit),
     Column::Once(InfoField::BuildTime),
     Column::Once(InfoField::InstalledSize),
+    // The 13th field, the size of the package's file.
     Column::Null,
     Column::Once(InfoField::ProviderPriority),
+    // Four lists of dependencies, the 15th to the 18th field.
     Column::List(InfoField::Depends),
     Column::List(InfoField::Provides),
     Column::List(InfoField::Replaces),
@@ -89,6 +92,7 @@ fn write_columns(
     info: &[InfoLine<'_>],
     columns: &[Column],
 ) -> Result<(), AllocError>
+    // On Ok, the values of these columns are added to the draft, in their order.
     ensures { OnOk result (draft.new
         ≡ draft_with_all (plains_of_list (map (value_of_column info.now) columns.now))
         draft.old) }
@@ -112,6 +116,7 @@ fn write_column(draft: &mut Draft, info: &[InfoLine<'_>], column: Column) -> Res
 
 // Writes the value of the line of a field, or NULL if there is no such line.
 fn write_once(draft: &mut Draft, info: &[InfoLine<'_>], field: InfoField) -> Result<(), AllocError>
+    // On Ok, the value of the field is added to the draft.
     ensures { OnOk result (draft.new
         ≡ draft_with (value_of_single_line_field field info.now) draft.old) }
 {
@@ -130,6 +135,7 @@ fn find_line<'a, 'b>(info: &'a [InfoLine<'b>], field: InfoField) -> Option<&'a I
 
 // Writes the value of a line as a single value: the first one that the line gives, or NULL.
 fn write_first(draft: &mut Draft, value: &Value<'_>) -> Result<(), AllocError>
+    // On Ok, the first value of the line, or Null, is added to the draft.
     ensures { OnOk result
         (draft.new ≡ draft_with (value_of_first_or_null (line_value_view value.now)) draft.old) }
 {
@@ -147,6 +153,7 @@ fn write_first(draft: &mut Draft, value: &Value<'_>) -> Result<(), AllocError>
 
 // Writes the values of all lines of a field, as an array.
 fn write_list(draft: &mut Draft, info: &[InfoLine<'_>], field: InfoField) -> Result<(), AllocError>
+    // On Ok, the array of all values of the field is added to the draft.
     ensures { OnOk result (draft.new
         ≡ draft_with (array_of_field_values field info.now) draft.old) }
 {
@@ -161,6 +168,7 @@ fn write_list(draft: &mut Draft, info: &[InfoLine<'_>], field: InfoField) -> Res
 
 // Writes all values of a line, one after the other.
 fn write_values(draft: &mut Draft, value: &Value<'_>) -> Result<(), AllocError>
+    // On Ok, all values of the line are added to the draft, in their order.
     ensures { OnOk result (draft.new
         ≡ draft_with_all (plains_of_list (map plain_value (line_value_view value.now)))
         draft.old) }
@@ -174,6 +182,7 @@ fn write_values(draft: &mut Draft, value: &Value<'_>) -> Result<(), AllocError>
 
 // Writes dependencies, one after the other.
 fn write_needs(draft: &mut Draft, needs: &[Dep<'_>]) -> Result<(), AllocError>
+    // On Ok, all these dependencies are added to the draft, in their order.
     ensures { OnOk result (draft.new
         ≡ draft_with_all (plains_of_list (map (λ d. plain_value (need (dependency d))) needs.now))
         draft.old) }
@@ -188,6 +197,7 @@ fn write_needs(draft: &mut Draft, needs: &[Dep<'_>]) -> Result<(), AllocError>
 
 // Writes the folders of the package.
 fn write_folders(draft: &mut Draft, folders: &[Folder<'_>]) -> Result<(), AllocError>
+    // On Ok, the array of the folders is added to the draft.
     ensures { OnOk result
         (draft.new ≡ draft_with (array_of (map listed_folder_value folders.now)) draft.old) }
 {
@@ -211,6 +221,7 @@ fn write_folder(draft: &mut Draft, folder: &Folder<'_>) -> Result<(), AllocError
 
 // Writes the files of a folder.
 fn write_files(draft: &mut Draft, files: &[File<'_>]) -> Result<(), AllocError>
+    // On Ok, the array of the files is added to the draft.
     ensures { OnOk result
         (draft.new ≡ draft_with (array_of (map listed_file_value files.now)) draft.old) }
 {
@@ -238,6 +249,7 @@ fn write_file(draft: &mut Draft, file: &File<'_>) -> Result<(), AllocError>
 
 // Writes an owner and mode, or NULL if no line gives them.
 fn write_access(draft: &mut Draft, access: &Option<Access<'_>>) -> Result<(), AllocError>
+    // On Ok, the object of the owner and mode, or Null, is added to the draft.
     ensures { OnOk result
         (draft.new ≡ draft_with (listed_access_value (access_view_if_any access.now)) draft.old) }
 {
@@ -249,6 +261,7 @@ fn write_access(draft: &mut Draft, access: &Option<Access<'_>>) -> Result<(), Al
 
 // Writes an owner and mode that a line gives, in the order of table 2: mode, user and group.
 fn write_known_access(draft: &mut Draft, access: &Access<'_>) -> Result<(), AllocError>
+    // On Ok, the object of the owner and mode is added to the draft.
     ensures { OnOk result (draft.new
         ≡ draft_with (listed_access_value (Some (access_view access.now))) draft.old) }
 {
@@ -261,6 +274,7 @@ fn write_known_access(draft: &mut Draft, access: &Access<'_>) -> Result<(), Allo
 
 // Writes a hash, or NULL if no line gives it.
 fn write_hash(draft: &mut Draft, hash: &Option<Vec<u8>>) -> Result<(), AllocError>
+    // On Ok, the blob of the hash, or Null, is added to the draft.
     ensures { OnOk result
         (draft.new ≡ draft_with (listed_hash_value (hash_view hash.now)) draft.old) }
 {
