@@ -138,6 +138,7 @@ impl Payload {
 /// Writes the words of an array or of an object: first their count, which counts itself too, and
 /// then the words.
 pub(crate) fn add_run(bytes: &mut Vec<u8>, entries: &[u32]) -> Result<(), AllocError> {
+    // The remainder only keeps the sum from overflowing; no row has so many words.
     let count = (entries.len() % 65_536) as u32 + 1;
     bytes.extend_from_slice(&count.to_le_bytes())?;
     for entry in entries {

@@ -30,6 +30,7 @@ pub(crate) fn add_shape(
     words: &Words,
     answer: &mut Vec<u8>,
 ) -> Result<(), AllocError> {
+    // The words of the row from the word 3 on are the words of the object.
     let entries = ints_of(alloc, words, 3)?;
     let payload = object_payload(alloc, &entries, word_at(words, 2))?;
     let found = fault_of(&payload, table_of(word_at(words, 1)));
@@ -72,6 +73,7 @@ pub(crate) fn add_faults(
         if has_both_faults(alloc, &before, *field, which)? {
             reported = reported.saturating_add(1);
         }
+        // The word 0 is NULL.
         before.push(0)?;
     }
     add_number(alloc, answer, u128::from(reported))?;
@@ -124,6 +126,7 @@ pub(crate) fn add_visits(
     words: &Words,
     answer: &mut Vec<u8>,
 ) -> Result<(), AllocError> {
+    // The words of the row from the word 3 on are the words of the object.
     let entries = ints_of(alloc, words, 3)?;
     let payload = object_payload(alloc, &entries, b"")?;
     let before = int_of(word_at(words, 2));
@@ -176,6 +179,7 @@ pub(crate) fn add_rule(
     words: &Words,
     answer: &mut Vec<u8>,
 ) -> Result<(), AllocError> {
+    // The value is in the words of the row from the word 2 on.
     let payload = payload_of(alloc, words, 2)?;
     let checked = check(alloc, &payload, table_of(word_at(words, 1)));
     add_outcome(alloc, cause_in(checked)?, answer)

@@ -19,6 +19,7 @@ pub(crate) fn add_view(
     words: &Words,
     answer: &mut Vec<u8>,
 ) -> Result<(), AllocError> {
+    // The value is in the words of the row from the word 2 on.
     let payload = payload_of(alloc, words, 2)?;
     let adb = match Adb::new(&payload) {
         Ok(adb) => adb,
