@@ -101,6 +101,7 @@ impl<'a> Db<'a> {
     pub fn open(alloc: Global, payload: &'a [u8]) -> Result<Db<'a>, AllocError>
         // The payload passes all tests of a database.
         requires { payload_fault Tables.Idb payload.now ≡ None }
+        // On Ok, the packages are those of the value at the root of the payload.
         ensures { IfOk result (λ db. packages_of db
             ≡ entries_at IDB_PACKAGES (root_value Tables.Idb payload.entry.now)) }
     {
@@ -118,6 +119,7 @@ impl<'a> Db<'a> {
 
     /// How many packages the database has.
     pub fn len(&self) -> usize
+        // The result is the number of packages.
         ensures value { result ≡ length (packages_of self.now) }
         // There are less than 2^32 packages.
         ensures small { result < 2 ^ 32 }
@@ -173,6 +175,7 @@ impl<'a> Db<'a> {
     /// Each path that a package of the database lists is a name, so that a file may be removed
     /// under it.
     pub fn listed_paths_are_names(&self)
+        // The path of each file that a package lists is a name.
         ensures { All (λ l. IsName l.path)
             (member_listings (members_of_kept (packages_of self.now))) }
     {}
@@ -180,6 +183,7 @@ impl<'a> Db<'a> {
     /// No path that a package of the database lists is reserved: so a change never removes one of
     /// the package manager's own files as a package's file.
     pub fn no_listed_path_is_reserved(&self)
+        // The path of no file that a package lists is reserved.
         ensures { All (λ l. is_reserved l.path ≡ false)
             (member_listings (members_of_kept (packages_of self.now))) }
     {}

@@ -15,6 +15,7 @@ use pkg_core::{DirInfo, FileInfo, List};
 
 /// Whether one of some folders lists a file with this path.
 pub(crate) fn is_path_listed<'a>(folders: &List<'a, DirInfo<'a>>, path: &[u8]) -> bool
+    // The result says whether the path is that of a file of one of the folders.
     ensures { result ≡ list_any (bytes_eq path.now)
         (flat_map paths_of_folder_files (list_of (entries_in (list_value folders.now)))) }
 {
@@ -30,6 +31,7 @@ pub(crate) fn is_path_listed<'a>(folders: &List<'a, DirInfo<'a>>, path: &[u8]) -
 fn is_path_in_folder<'a>(folders: &List<'a, DirInfo<'a>>, i: usize, path: &[u8]) -> bool
     // The index is that of an entry of the list.
     requires { i < count_of (entries_in (list_value folders.now)) }
+    // The result says whether the path is that of a file of this folder.
     ensures { result ≡ list_any (bytes_eq path.now)
         (paths_of_folder_files (entry_in (list_value folders.now) i)) }
 {
@@ -45,6 +47,7 @@ fn is_path_in_folder<'a>(folders: &List<'a, DirInfo<'a>>, i: usize, path: &[u8])
 
 /// Whether one of the files of the folder with the path `folder` has this path.
 fn is_path_of_any<'a>(files: &List<'a, FileInfo<'a>>, folder: &[u8], path: &[u8]) -> bool
+    // The result says whether the path is that of one of these files.
     ensures { result ≡ list_any (λ file. bytes_eq path.now (path_of folder.now (name_of file)))
         (list_of (entries_in (list_value files.now))) }
 {
@@ -60,6 +63,7 @@ fn is_path_of_any<'a>(files: &List<'a, FileInfo<'a>>, folder: &[u8], path: &[u8]
 fn is_path_of_file<'a>(files: &List<'a, FileInfo<'a>>, i: usize, folder: &[u8], path: &[u8]) -> bool
     // The index is that of an entry of the list.
     requires { i < count_of (entries_in (list_value files.now)) }
+    // The result says whether the path is that of this file.
     ensures { result ≡ bytes_eq path.now
         (path_of folder.now (name_of (entry_in (list_value files.now) i))) }
 {

@@ -50,6 +50,7 @@ impl<'a> Model for PackageWithId<'a> {
     // Contracts see a payload, the word of the package in it, and the id of an added package.
     ghost Value = { List ℕ × ℕ × Option (List ℕ) };
 
+    // The payload and the word are those of the view.
     ghost view = { λ e. (payload_of e.view.adb, e.view.word, e.id) };
 
     // The word refers to a package in the payload.
@@ -98,6 +99,7 @@ impl<'a> Members<'a> {
 
     /// A list without packages, for kept packages of a database and added ones.
     pub fn new(alloc: Global, db: &'a Db<'a>) -> Members<'a>
+        // There is no member yet.
         ensures none { members_of result ≡ [] }
         // The old packages are those of the given database.
         ensures before { packages_of_old_database result ≡ packages_of db.entry.now }
@@ -194,6 +196,7 @@ impl<'a> Members<'a> {
         // A place that is returned is that of a member.
         ensures within { IfSome result (λ i. i < length (members_of self.now)) }
     {
+        // The place of the first package whose name is not before the given one.
         let at = self.count_before(name);
         if at == self.len() {
             return None;
@@ -219,6 +222,7 @@ impl<'a> Members<'a> {
 
     /// How many packages there are.
     pub fn len(&self) -> usize
+        // The result is the number of members.
         ensures value { result ≡ length (members_of self.now) }
         // There are at most `MOST_MEMBERS` members.
         ensures few { result ≤ MOST_MEMBERS }
@@ -270,6 +274,7 @@ impl<'a> Members<'a> {
     /// A kept member lists no reserved path, since its database passed the tests; an added package
     /// may list one.
     pub fn no_kept_member_lists_a_reserved_path(&self)
+        // No path is reserved that a kept member lists.
         ensures { All (λ l. is_added l.member ≡ false → is_reserved l.path ≡ false)
             (member_listings (members_of self.now)) }
     {}

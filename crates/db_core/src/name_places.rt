@@ -30,6 +30,7 @@ pub(crate) fn sorted_names<'a>(
     alloc: Global,
     packages: &List<'a, PackageView<'a>>,
 ) -> Result<Vec<NamePlace<'a>>, AllocError>
+    // On Ok, the names and places are sorted in byte order of the names.
     ensures { IfOk result (λ names. map name_seen names.items
         ≡ placed_names_in_order (list_of (entries_in (list_value packages.now)))) }
 {
@@ -43,6 +44,7 @@ fn names_of<'a>(
     alloc: Global,
     packages: &List<'a, PackageView<'a>>,
 ) -> Result<Vec<NamePlace<'a>>, AllocError>
+    // On Ok, the names and places are in the order of the packages.
     ensures { IfOk result (λ names. map name_seen names.items
         ≡ placed_names_from 0 (list_of (entries_in (list_value packages.now)))) }
 {
@@ -72,6 +74,7 @@ fn name_at<'a>(packages: &List<'a, PackageView<'a>>, i: usize) -> &'a [u8]
 
 /// Sorts names with their places in byte order of the names. Equal names keep their order.
 fn sort_names(names: &mut Vec<NamePlace<'_>>) -> Result<(), AllocError>
+    // On Ok, the list is sorted by names, and equal names keep their order.
     ensures { IfOk result (λ _. map name_seen names.new.items
         ≡ sorted_by placed_name_cmp (map name_seen names.old.items)) }
 {
@@ -99,6 +102,7 @@ pub(crate) fn place_of(names: &[NamePlace<'_>], name: &[u8]) -> Option<usize>
     requires { IsSorted placed_name_cmp (map name_seen names.now) }
     ensures { result ≡ place_under_name name.now (map name_seen names.now) }
 {
+    // The index of the first name that is not before the given one.
     let at = count_before(names, name);
     if at == names.len() {
         return None;

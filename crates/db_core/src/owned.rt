@@ -18,8 +18,10 @@ pub struct Owned {
 impl Model for Owned {
     ghost use Rattle.std.specs.Prelude.{Bool, List};
 
+    // Contracts see the list of flags.
     ghost Value = { List Bool };
 
+    // The flags are the items of the vector.
     ghost view = { λ owned. owned.flags.items };
 }
 
