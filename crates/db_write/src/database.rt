@@ -76,6 +76,7 @@ fn write_database(
     members: &Members<'_>,
     flags: &[bool],
 ) -> Result<(), AllocError>
+    // On Ok, the value of the new database is added to the draft.
     ensures { OnOk result
         (draft.new ≡ draft_with (database_value (members_of members.now) flags.now) draft.old) }
 {

@@ -32,13 +32,13 @@ pub(crate) fn write_folders(
 ) -> Result<(), AllocError>
     // The word `pkg` refers to a package.
     requires sound { is_sound (payload_of adb) (Kinds.Obj Tables.Package) pkg ≡ true }
-    // What `known` remembers of texts of this payload is right for the draft.
+    // Each text of this payload that `known` remembers has the remembered word in the draft.
     requires known { AreRememberedBlobsOfDraft (payload_of adb) draft.old known.old }
     // On Ok, the array of the folders is added to the draft.
     ensures folders { OnOk result (draft.new
         ≡ draft_with (array_or_null (folders_in_new_database (folders_in
         (value_at (payload_of adb.entry) (Kinds.Obj Tables.Package) pkg)) flags.now)) draft.old) }
-    // On Ok, what `known` remembers is right for the new draft.
+    // On Ok, each remembered text has the remembered word in the new draft.
     ensures known { OnOk result (AreRememberedBlobsOfDraft
         (payload_of adb.entry) draft.new known.new) }
 {
@@ -50,6 +50,7 @@ pub(crate) fn write_folders(
 pub(crate) fn flags_behind<'f>(adb: Adb<'_>, pkg: Val, flags: &'f [bool]) -> &'f [bool]
     // The word `pkg` refers to a package.
     requires { is_sound (payload_of adb) (Kinds.Obj Tables.Package) pkg ≡ true }
+    // As many flags are dropped as the folders of the package have files.
     ensures { result.now ≡ drop (total_of file_count (folders_in
         (value_at (payload_of adb.entry) (Kinds.Obj Tables.Package) pkg))) flags.entry.now }
 {
@@ -69,14 +70,14 @@ fn write_folder_list<'a>(
     // Each entry of `folders` refers to a folder.
     requires sound { are_all_sound (payload_of adb) (Kinds.Obj Tables.Dir) (array_entries folders)
         ≡ true }
-    // What `known` remembers of texts of this payload is right for the draft.
+    // Each text of this payload that `known` remembers has the remembered word in the draft.
     requires known { AreRememberedBlobsOfDraft (payload_of adb) draft.old known.old }
     // On Ok, the array of the folders is added to the draft.
     ensures folders { OnOk result (draft.new
         ≡ draft_with (array_or_null (folders_in_new_database (list_of
         (entries_in (array_at (payload_of adb.entry) (Kinds.Obj Tables.Dir)
         (array_entries folders.entry)))) flags.now)) draft.old) }
-    // On Ok, what `known` remembers is right for the new draft.
+    // On Ok, each remembered text has the remembered word in the new draft.
     ensures known { OnOk result (AreRememberedBlobsOfDraft
         (payload_of adb.entry) draft.new known.new) }
 {
@@ -97,6 +98,7 @@ fn flags_after_folders<'a, 'f>(adb: Adb<'a>, folders: Arr<'a>, flags: &'f [bool]
     // Each entry of `folders` refers to a folder.
     requires { are_all_sound (payload_of adb) (Kinds.Obj Tables.Dir) (array_entries folders)
         ≡ true }
+    // As many flags are dropped as these folders have files.
     ensures { result.now ≡ drop (total_of file_count (list_of (entries_in
         (array_at (payload_of adb.entry) (Kinds.Obj Tables.Dir) (array_entries folders.entry)))))
         flags.entry.now }
@@ -113,6 +115,7 @@ fn flags_after_folders<'a, 'f>(adb: Adb<'a>, folders: Arr<'a>, flags: &'f [bool]
 fn flags_after_folder<'f>(adb: Adb<'_>, folder: Val, flags: &'f [bool]) -> &'f [bool]
     // The word `folder` refers to a folder.
     requires { is_sound (payload_of adb) (Kinds.Obj Tables.Dir) folder ≡ true }
+    // As many flags are dropped as the folder has files.
     ensures { result.now ≡ drop
         (file_count (value_at (payload_of adb.entry) (Kinds.Obj Tables.Dir) folder))
         flags.entry.now }
@@ -135,12 +138,12 @@ fn write_folder(
 ) -> Result<(), AllocError>
     // The word `folder` refers to a folder.
     requires sound { is_sound (payload_of adb) (Kinds.Obj Tables.Dir) folder ≡ true }
-    // What `known` remembers of texts of this payload is right for the draft.
+    // Each text of this payload that `known` remembers has the remembered word in the draft.
     requires known { AreRememberedBlobsOfDraft (payload_of adb) draft.old known.old }
     // On Ok, the folder is added to the draft, with the files whose flag is set.
     ensures folder { OnOk result (draft.new ≡ draft_with (folder_in_new_database
         (value_at (payload_of adb.entry) (Kinds.Obj Tables.Dir) folder) flags.now) draft.old) }
-    // On Ok, what `known` remembers is right for the new draft.
+    // On Ok, each remembered text has the remembered word in the new draft.
     ensures known { OnOk result (AreRememberedBlobsOfDraft
         (payload_of adb.entry) draft.new known.new) }
 {
@@ -165,13 +168,13 @@ fn write_files<'a>(
     // Each entry of `files` refers to a file.
     requires sound { are_all_sound (payload_of adb) (Kinds.Obj Tables.File) (array_entries files)
         ≡ true }
-    // What `known` remembers of texts of this payload is right for the draft.
+    // Each text of this payload that `known` remembers has the remembered word in the draft.
     requires known { AreRememberedBlobsOfDraft (payload_of adb) draft.old known.old }
     // On Ok, the array of the files whose flag is set is added to the draft.
     ensures files { OnOk result (draft.new ≡ draft_with (array_or_null (owned_entries (list_of
         (entries_in (array_at (payload_of adb.entry) (Kinds.Obj Tables.File)
         (array_entries files.entry)))) flags.now)) draft.old) }
-    // On Ok, what `known` remembers is right for the new draft.
+    // On Ok, each remembered text has the remembered word in the new draft.
     ensures known { OnOk result (AreRememberedBlobsOfDraft
         (payload_of adb.entry) draft.new known.new) }
 {

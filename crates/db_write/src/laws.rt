@@ -66,6 +66,7 @@ pub fn a_written_database_is_read_back()
 /// each kept member was read from a sound database, and each added one from a sound package with
 /// its id; members are in order, each owned path has one owner, and none is reserved.
 pub fn a_database_of_sound_packages_may_be_the_root()
+    // `flags` has one flag for each file that members list, and `bytes` is the written file.
     ensures { (members : List Member) (flags : List Bool) (bytes : List ℕ)
         → AreMembersOfSoundContainers members → AreMembersInNameOrder members
         → HaveOneOwnerAndNoReservedPath (owned_listings (member_listings members) flags)
@@ -182,6 +183,7 @@ pub fn a_package_keeps_its_scripts_and_its_priority()
 /// A law: a written database whose value may be at the root of a container is written again with
 /// the same bytes: it is read back, and nothing changes.
 pub fn a_written_database_is_written_again_alike()
+    // `bytes` is the written file; in its second writing each listed file is owned.
     ensures { (members : List Member) (flags : List Bool) (bytes : List ℕ)
         → IsValidRootValueOfTable Tables.Idb (database_value members flags)
         → database_of members flags ≡ Ok bytes

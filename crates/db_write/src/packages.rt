@@ -36,6 +36,7 @@ pub(crate) fn write_packages(
     members: &Members<'_>,
     flags: &[bool],
 ) -> Result<(), AllocError>
+    // On Ok, the array of the packages in the new database is added to the draft.
     ensures { OnOk result (draft.new
         ≡ draft_with (array_or_null (packages_in_new_database
         (members_of members.now) flags.now)) draft.old) }
@@ -55,6 +56,7 @@ pub(crate) fn write_packages(
 /// The flags that are left after those of the files of the member at a place, counted from 0.
 fn flags_after_member<'f>(members: &Members<'_>, i: usize, flags: &'f [bool]) -> &'f [bool]
     requires { i < length (members_of members.now) }
+    // As many flags are dropped as the member lists files.
     ensures { (m : Member) → slice_get (members_of members.now) i ≡ Some m
         → result.now ≡ drop (member_file_count m) flags.entry.now }
 {
@@ -63,8 +65,8 @@ fn flags_after_member<'f>(members: &Members<'_>, i: usize, flags: &'f [bool]) ->
 }
 
 /// Writes the member at a place, counted from 0, with the files whose flag is set, by the flags
-/// from its first file on. `known` has the long texts of the database that the draft has already;
-/// an added package is read from a payload of its own.
+/// from its first file on. `known` remembers long texts of the old database that the draft has
+/// already; an added package is read from a payload of its own.
 fn write_member(
     alloc: Global,
     draft: &mut Draft,
@@ -73,14 +75,15 @@ fn write_member(
     i: usize,
     flags: &[bool],
 ) -> Result<(), AllocError>
+    // The place is that of a member.
     requires within { i < length (members_of members.now) }
-    // What `known` remembers of texts of the old database is right for the draft.
+    // Each text of the old database that `known` remembers has the remembered word in the draft.
     requires known { AreRememberedBlobsOfDraft
         (payload_of_old_database members.now) draft.old known.old }
     // On Ok, the package of the member is added to the draft.
     ensures value { OnOk result ((m : Member) → slice_get (members_of members.now) i ≡ Some m
         → draft.new ≡ draft_with (package_in_new_database m flags.now) draft.old) }
-    // On Ok, what `known` remembers is right for the new draft.
+    // On Ok, each remembered text has the remembered word in the new draft.
     ensures known { OnOk result (AreRememberedBlobsOfDraft
         (payload_of_old_database members.now) draft.new known.new) }
 {
@@ -109,13 +112,13 @@ fn write_package(
 ) -> Result<(), AllocError>
     // The word `pkg` refers to a package.
     requires sound { is_sound (payload_of adb) (Kinds.Obj Tables.Package) pkg ≡ true }
-    // What `known` remembers of texts of this payload is right for the draft.
+    // Each text of this payload that `known` remembers has the remembered word in the draft.
     requires known { AreRememberedBlobsOfDraft (payload_of adb) draft.old known.old }
     // On Ok, the package is added to the draft, as it is in the new database.
     ensures value { OnOk result (draft.new ≡ draft_with (package_in_new_database
         (record { pkg = value_at (payload_of adb.entry) (Kinds.Obj Tables.Package) pkg; id = id })
         flags.now) draft.old) }
-    // On Ok, what `known` remembers is right for the new draft.
+    // On Ok, each remembered text has the remembered word in the new draft.
     ensures known { OnOk result (AreRememberedBlobsOfDraft
         (payload_of adb.entry) draft.new known.new) }
 {
@@ -142,13 +145,13 @@ fn write_member_info(
 ) -> Result<(), AllocError>
     // The word `pkg` refers to a package.
     requires sound { is_sound (payload_of adb) (Kinds.Obj Tables.Package) pkg ≡ true }
-    // What `known` remembers of texts of this payload is right for the draft.
+    // Each text of this payload that `known` remembers has the remembered word in the draft.
     requires known { AreRememberedBlobsOfDraft (payload_of adb) draft.old known.old }
     // On Ok, the information is added to the draft, as it is in the new database.
     ensures info { OnOk result (draft.new ≡ draft_with (info_in_new_database id (entry_in
         (value_at (payload_of adb.entry) (Kinds.Obj Tables.Package) pkg) PACKAGE_INFO))
         draft.old) }
-    // On Ok, what `known` remembers is right for the new draft.
+    // On Ok, each remembered text has the remembered word in the new draft.
     ensures known { OnOk result (AreRememberedBlobsOfDraft
         (payload_of adb.entry) draft.new known.new) }
 {
