@@ -9,7 +9,7 @@ use Rattle.adb_schema.specs.Texts.{Leaf, keeps_rule, field_number_of_leaf}
 
 -- `c` is the cause for the first of these leaves (numbers and texts) that breaks the rule of its field
 pub record IsFirstBadLeaf (all : List Leaf) (c : Cause) : Type 0 where
-  -- how many leaves precede it
+  -- how many leaves precede the leaf that is reported
   pub i : ℕ
   -- the leaf that breaks its rule
   pub leaf : Leaf

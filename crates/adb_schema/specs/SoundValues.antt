@@ -68,13 +68,12 @@ pub record IsSoundFolder (root : Which) (v : Plain) : Type 0 where
 
 -- a package `v` obeys the rules of its fields, in a container with the table `root` at its root
 pub record IsSoundPackage (root : Which) (v : Plain) : Type 0 where
-  -- its information obeys its rules
+  -- the information of the package obeys the rules of its fields
   pub info : IsSoundInformation root (entry_in v PACKAGE_INFO)
-  -- each of its folders obeys its rules
+  -- each folder of the package obeys the rules of its fields
   pub folders : Each (IsSoundFolder root) (entries_in (entry_in v PACKAGE_PATHS))
 
--- an index obeys its rules: the information of each of its packages does, and so does its pattern of
--- file names
+-- an index `v` obeys the rules of its fields
 pub record IsSoundIndex (v : Plain) : Type 0 where
   -- field 802: each entry, the information of a package, obeys the rules of table 3
   pub packages : Each (IsSoundInformation Index) (entries_in (entry_in v INDEX_PACKAGES))
@@ -85,7 +84,7 @@ pub record IsSoundIndex (v : Plain) : Type 0 where
 abbrev pub IsNameAllowedInIntent : Plain → Type 0
 IsNameAllowedInIntent v = is_name_allowed_in_intent (text_in v) ≡ true
 
--- a journal entry obeys its rules: a change may remove or write each of its names
+-- a journal entry `v` obeys the rules of its fields: a change may remove or write each of its names
 pub record IsSoundIntent (v : Plain) : Type 0 where
   -- field 1001: the names that the change removes
   pub removals : Each IsNameAllowedInIntent (entries_in (entry_in v INTENT_REMOVALS))

@@ -84,8 +84,8 @@ further_blocks_fault_unless_package which r = further_blocks_fault r
 
 -- ---- all tests in order
 
--- whether a file has the schema `word` of the wanted table; false if that table is no root and has
--- none
+-- whether `schema`, that of a file, is the schema `word` of a table; false for None, which a table has that is no
+-- root
 abbrev pub is_schema_wanted : Option ℕ → ℕ → Bool
 is_schema_wanted (Some word) schema = word == schema
 is_schema_wanted None schema = false

@@ -22,7 +22,7 @@ use adb_view::field_indexes::{
 use adb_view::{Adb, Shaped, Val, Which, entry_word};
 use std::alloc::Global;
 
-/// A payload of the shape of a table in which each text obeys the rule of its field.
+/// A payload of the shape of a table, in which each text and number obeys the rule of its field.
 #[derive(Clone, Copy)]
 pub struct Checked<'a> {
     /// The payload whose shape was tested.
@@ -38,8 +38,8 @@ impl<'a> Checked<'a> {
     ghost use Rattle.adb_schema.specs.ReadFaults.{IsReadFault};
     ghost use Rattle.adb_schema.specs.Views.{package_value, index_value, idb_value, intent_value};
 
-    /// Tests each text and number of a payload by the rule of its field; its shape was tested
-    /// before. Only long texts need memory; each is judged once.
+    /// Tests each text and number of `shaped`, a payload whose shape was tested, by the rule of its
+    /// field. Only long texts need memory; each is judged once.
     ///
     /// # Errors
     ///
@@ -278,7 +278,7 @@ impl<'a> IdbView<'a> {
         // The value is that of entry `i` of the database's packages.
         ensures value { package_value result
             ≡ entry_in (entry_in (idb_value self.now) IDB_PACKAGES) i }
-        // The payload of the result is the one from which it was read.
+        // The package is in the payload of the database.
         ensures lent { payload_of result.adb ≡ payload_of self.now.adb }
     {
         let entries = objects_field(

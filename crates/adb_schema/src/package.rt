@@ -146,16 +146,17 @@ impl<'a> FileInfo<'a> {
         int_field(self.adb, Which::File, self.word, FILE_MTIME)
     }
 
-    /// The digest of the file's bytes: SHA-1, SHA-256 or SHA-512, by its length; empty if it is
-    /// unknown.
+    /// The digest of the file's bytes: SHA-1, SHA-256 or SHA-512, by its length; empty if the
+    /// digest is unknown.
     pub fn hashes(&self) -> &'a [u8]
         ensures { result.now ≡ text_in (entry_in (file_value self.now) FILE_HASHES) }
     {
         hash_field(self.adb, Which::File, self.word, FILE_HASHES)
     }
 
-    /// The field *target*. For a link it has the two bytes `00 a0`, and then the text of the
-    /// target. For a regular file it is empty. The rule is 406 in `docs/formats.md`, "The texts".
+    /// The field *target*. For a link this field has the two bytes `00 a0`, and then the text of
+    /// the target. For a regular file this field is empty. The rule is 406 in `docs/formats.md`,
+    /// "The texts".
     pub fn target(&self) -> &'a [u8]
         ensures { result.now ≡ text_in (entry_in (file_value self.now) FILE_TARGET) }
     {
@@ -349,7 +350,7 @@ impl<'a> PackageView<'a> {
         // The value of the package is that of the word.
         ensures value { package_value result
             ≡ value_at (payload_of adb.entry) (Kinds.Obj Tables.Package) word }
-        // The payload of the result is the one from which it was read.
+        // The payload of the view is `adb`.
         ensures lent { payload_of result.adb ≡ payload_of adb.entry }
     {
         PackageView { adb, word }

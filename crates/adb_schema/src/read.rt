@@ -81,7 +81,8 @@ impl From<AllocError> for ReadFault {
     }
 }
 
-/// The schema in the header of a container with this table at its root, which is one of four.
+/// The schema in the header of a container with this table at its root; None for the six tables
+/// that are no root.
 pub fn schema_word(which: Which) -> Option<u32>
     ensures { result ≡ schema_word which }
 {
@@ -114,9 +115,9 @@ pub fn repeated(alloc: Global, checked: &Checked<'_>) -> Result<Option<Cause>, A
 }
 
 /// Reads a container (apk-v3(5)) with this table at its root. The tests are, in this order: the
-/// file's header, its schema, the first block's framing, its head, its shape, its texts, and
-/// repeated names. Then, except for a package, the framing of the further blocks, and that none of
-/// them has contents.
+/// header and the schema of the file; the framing, the head, the shape, the texts and the repeated
+/// names of the first block; then, except for a package, the framing of the further blocks, and
+/// that none of these blocks has contents.
 ///
 /// # Errors
 ///
@@ -130,7 +131,7 @@ pub fn read_adb<'a>(alloc: Global, bytes: &'a [u8], which: Which) -> Result<Chec
     // On Ok, the file passes all tests of a container of this table.
     ensures sound { IfOk result (λ _. container_fault_except_contents which bytes.entry.now
         ≡ None) }
-    // The values have the wanted table at their root.
+    // On Ok, the table at the root is `which`.
     ensures table { IfOk result (λ checked. table_of_checked checked ≡ which) }
     // The payload is that of the container's first block.
     ensures payload { IfOk result (λ checked. payload_of (adb_of checked.shaped)
@@ -170,7 +171,7 @@ fn read_first<'a>(
     // The error is the first failed test, or out of memory.
     ensures bad { IfErr result
         (λ fault. IsReadFault fault (first_block_fault which (block_stream_from blocks.old))) }
-    // The values have the wanted table at their root.
+    // On Ok, the table at the root is `which`.
     ensures table { IfOk result (λ checked. table_of_checked checked ≡ which) }
     // On Ok, the payload is that of the first block and passes its tests, and the blocks that are
     // left are those after the first.
@@ -197,7 +198,7 @@ fn check_payload<'a>(
         (λ fault. IsReadFault fault (payload_fault which payload.entry.now)) }
     // On Ok, the payload passes all its tests.
     ensures sound { IfOk result (λ _. payload_fault which payload.entry.now ≡ None) }
-    // The values have the wanted table at their root.
+    // On Ok, the table at the root is `which`.
     ensures table { IfOk result (λ checked. table_of_checked checked ≡ which) }
     // The payload is the given one.
     ensures payload { IfOk result (λ checked. payload_of (adb_of checked.shaped)
@@ -294,8 +295,8 @@ pub fn schema_words_are_as_listed()
 {}
 
 /// A law: a file that passes every test contains a value with the shape of its table, in which each
-/// text and number obeys the rule of its field and no name repeats. If it is read from bytes, it is
-/// normal. The body calls the laws that the proof needs.
+/// text and number obeys the rule of its field and no name repeats. If the payload consists of
+/// bytes, this value is normal. The body calls the laws that the proof needs.
 pub fn sound_containers_hold_sound_values()
     // The root of a sound container has a sound value.
     ensures value { (which : Which) (file : List ℕ)
