@@ -34,7 +34,7 @@ ends_with_byte c (d ∷ []) = c == d
 ends_with_byte c (d ∷ e ∷ ds) = ends_with_byte c (e ∷ ds)
 
 -- whether a text may be written as it is: each byte is printable, no space is first or last, no quote
--- is first, and it is not `null`
+-- is first, and the text is not `null`
 abbrev pub needs_no_quotes : List ℕ → Bool
 needs_no_quotes b =
     list_all is_printable b && not (begins_with_byte 0x20 b) && not (ends_with_byte 0x20 b)

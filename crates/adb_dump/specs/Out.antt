@@ -21,8 +21,8 @@ abbrev pub AreLineLengths : List ℕ → BTreeMap ℕ ℕ → Type 0
 AreLineLengths payload lens = (word len : ℕ) → get nat_cmp lens word ≡ Some len
     → len ≡ length (bare_or_quoted_text (text_in (value_at payload Text word)))
 
--- lengths that were right for a payload before a call are right after it, if the payload has this text
--- for the word
+-- remembered lengths that were right for a payload before a call (`old`) are right after the call (`new`), if the
+-- payload has the text `text` for the word
 abbrev pub KeepLineLengths : BTreeMap ℕ ℕ → BTreeMap ℕ ℕ → ℕ → List ℕ → Type 0
 KeepLineLengths old new word text = (payload : List ℕ)
     → text ≡ text_in (value_at payload Text word)

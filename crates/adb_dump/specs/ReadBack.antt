@@ -34,7 +34,7 @@ with_line_before_block l r = (l ∷ r.0, r.1)
 
 -- the block and the lines after it, from the line `l` on. If `l` is indented, its text after the
 -- spaces (`inner`) is put in front of the block `r.0` of the lines after it. Otherwise the block is
--- empty, and all lines are after it
+-- empty, and all lines are after the block
 abbrev pub end_block_or_add_line : Line → List Line → Option Line → List Line × List Line
     → List Line × List Line
 end_block_or_add_line l ls None r = ([], l ∷ ls)
@@ -147,12 +147,12 @@ entries_read f (suc n) [] = Ok none
 entries_read f (suc n) (l ∷ ls) =
     entries_from_dash_line f (entries_read f n) (block_and_lines_after ls) (strip_prefix (codes "- ") l)
 
--- the value of an array; one without an entry has no lines, so it cannot be read
+-- the array of these entries; an array without an entry has no lines, so it cannot be read
 abbrev pub array_unless_empty : Plains → ResultOrBadLine Plain
 array_unless_empty none = Err 0
 array_unless_empty (more v vs) = Ok (arr (more v vs))
 
--- the value of an object; one without a field has no lines, so it cannot be read
+-- the object of these fields; an object without a field has no lines, so it cannot be read
 abbrev pub object_unless_empty : Plains → ResultOrBadLine Plain
 object_unless_empty none = Err 0
 object_unless_empty (more v vs) = Ok (obj (more v vs))
@@ -223,7 +223,8 @@ unfoldable mutual
       (named_read s (fields_read fs) ls)
       (strip_prefix (name ++ codes ":") l)
 
--- the value of a table by the lines of a text after its first line; without lines it is Null
+-- the value of a table by the lines of a dump text after its first line, or the number of a bad line; without lines
+-- the value is Null
 abbrev pub value_read : Which → List Line → ResultOrBadLine Plain
 value_read which [] = Ok null
 value_read which (l ∷ ls) = block_read (shape_of (Obj which)) (l ∷ ls)

@@ -316,7 +316,8 @@ pub(crate) fn write_fields<O: BlobOut>(
     Ok(all_null)
 }
 
-/// Writes the lines of a field, and returns whether its value is Null: then it has no lines.
+/// Writes the lines of a field, and returns whether its value is Null. A field whose value is Null
+/// has no lines.
 #[cycle(block)]
 fn write_field<O: BlobOut>(
     out: &mut O,
@@ -350,8 +351,8 @@ fn write_field<O: BlobOut>(
     Ok(false)
 }
 
-/// Writes the line of a field with a text, and returns whether its value is Null: then it has no
-/// line. Most fields are texts, so the text is read only once.
+/// Writes the line of a field with a text, and returns whether its value is Null; then the field
+/// has no line. Most fields are texts, so here the text is read only once.
 #[inline(always)]
 fn write_text_field<O: BlobOut>(
     out: &mut O,

@@ -208,7 +208,7 @@ fn ends_with_byte(byte: u8, text: &[u8]) -> bool
 }
 
 /// How many bytes of a long text are tested at once. The compiler tests a constant number of bytes
-/// (this one, a half or a quarter of it) in a few steps.
+/// (16, 8 or 4) in a few steps.
 const WINDOW_LEN: usize = 16;
 
 /// Whether every byte of a text is printable. A long text is tested in windows of 16 bytes. Windows
@@ -336,7 +336,7 @@ fn write_levels<O: Out>(out: &mut O, levels: u32) -> Result<(), AllocError>
     Ok(())
 }
 
-/// Writes the missing spaces before an entry of an array, and its dash and a space.
+/// Writes the missing spaces before an entry of an array, and then a dash and a space.
 #[inline(always)]
 pub(crate) fn write_dash<O: Out>(out: &mut O, depth: u32, begun: bool) -> Result<(), AllocError>
     // On Ok, exactly the missing spaces, the dash and a space are written.

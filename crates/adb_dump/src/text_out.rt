@@ -80,18 +80,18 @@ impl Out for Vec<u8> {
 }
 
 impl BlobOut for Vec<u8> {
-    // Puts the text as its line has it.
+    // Appends the text as it is written in a line.
     fn put_text(&mut self, _adb: Adb<'_>, _word: Val, text: &[u8]) -> Result<(), AllocError> {
         write_text(self, text)
     }
 
-    // Puts the hash as its line has it.
+    // Appends the hash as it is written in a line.
     fn put_hash(&mut self, hash: &[u8]) -> Result<(), AllocError> {
         write_hex(self, hash)
     }
 }
 
-/// The bytes themselves, in a fixed amount of memory: it never grows.
+/// The bytes themselves, in a fixed amount of memory, which never grows.
 #[derive(Drop)]
 pub(crate) struct Room {
     /// The bytes that were written.
@@ -144,13 +144,13 @@ impl Out for Room {
 }
 
 impl BlobOut for Room {
-    // Puts the text as its line has it.
+    // Appends the text as it is written in a line.
     #[inline(always)]
     fn put_text(&mut self, _adb: Adb<'_>, _word: Val, text: &[u8]) -> Result<(), AllocError> {
         write_text(self, text)
     }
 
-    // Puts the hash as its line has it.
+    // Appends the hash as it is written in a line.
     fn put_hash(&mut self, hash: &[u8]) -> Result<(), AllocError> {
         write_hex(self, hash)
     }
@@ -227,7 +227,8 @@ impl Count {
     }
 
     /// Counts this many more bytes. After a certain count an allocation of that size is tried and
-    /// freed: if it fails, the count need not continue. It is tried again at twice the count.
+    /// freed: if the allocation fails, the count need not continue. The next allocation is tried at
+    /// twice the count.
     fn add(&mut self, bytes: usize) -> Result<(), AllocError>
         // On Ok, the count has risen by `bytes`.
         ensures len { OnOk result (self.new.len.bytes ≡ self.old.len.bytes + bytes) }
@@ -302,7 +303,7 @@ impl Out for Count {
 }
 
 impl BlobOut for Count {
-    /// Counts a text as its line has it: a short one at each place, a long one once.
+    /// Counts a text as it is written in a line. The bytes of a long text are read only once.
     fn put_text(&mut self, _adb: Adb<'_>, word: Val, text: &[u8]) -> Result<(), AllocError> {
         if text.len() <= SHORT {
             write_text(self, text)?;
@@ -315,7 +316,8 @@ impl BlobOut for Count {
 
     // Counts the digits of a hash.
     fn put_hash(&mut self, hash: &[u8]) -> Result<(), AllocError> {
-        // Two digits for each byte: their number cannot overflow if it is added in two steps.
+        // There are two digits for each byte. They are counted in two steps, so that `2 * len`
+        // cannot overflow.
         self.add(hash.len())?;
         self.add(hash.len())?;
         Ok(())
