@@ -20,8 +20,8 @@ use Rattle.gen_core.specs.declared.generate.GenFault.TheVariants.{Bad, TooLarge,
 abbrev pub TextLines : Type 0
 TextLines = List Line × List ℕ
 
--- the lines of a text with one byte more in front, which is no line end: it belongs to the first
--- line, or to the bytes after the last line end
+-- the lines of a text with one byte more in front, which is no line end. The byte belongs to the first line, or, if
+-- there is no whole line, to the bytes after the last line end
 abbrev pub lines_with_nonend_byte_in_front : ℕ → List Line → List ℕ → TextLines
 lines_with_nonend_byte_in_front c [] rest = ([], c ∷ rest)
 lines_with_nonend_byte_in_front c (l ∷ ls) rest = ((c ∷ l) ∷ ls, rest)

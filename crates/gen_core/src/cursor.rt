@@ -96,7 +96,7 @@ impl<'a> Cursor<'a> {
         }
     }
 
-    /// Reads the dash of an array's entry. `entry` is the rest of the line after the dash; it
+    /// Reads the dash of an array's entry. `entry` is the rest of the line after the dash, and
     /// counts as a line of this depth.
     pub(crate) fn read_dash(&mut self, entry: &'a [u8], depth: u32)
         ensures { self.new ≡ cursor_at_entry depth entry.entry.now self.old.lines self.old }
@@ -131,7 +131,7 @@ fn first_line(text: &[u8]) -> Option<(&[u8], &[u8])>
     }
 }
 
-/// A line without so many levels of two spaces in front, if it has them.
+/// A line without `levels` levels (of two spaces) in front; None if the line has fewer.
 fn without_levels(line: &[u8], levels: u32) -> Option<&[u8]>
     ensures { option_copied result ≡ strip_prefix (margin levels) line.entry.now }
 {
@@ -145,7 +145,7 @@ fn without_levels(line: &[u8], levels: u32) -> Option<&[u8]>
     Some(inner)
 }
 
-/// The rest of a line after a prefix, if the line begins with it.
+/// The rest of a line after a prefix, if the line begins with this prefix.
 pub(crate) fn without_prefix<'a>(line: &'a [u8], prefix: &[u8]) -> Option<&'a [u8]>
     ensures { option_copied result ≡ strip_prefix prefix.now line.entry.now }
 {

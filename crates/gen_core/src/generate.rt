@@ -140,7 +140,7 @@ fn schema_word_or_zero(which: Which) -> u32
 #[derive(Clone, Copy, Debug, PartialEq, Eq, Drop, Error)]
 pub enum GenFault {
     /// The number, from 1, of the first line that no dump text has after the lines before it. If
-    /// another line must follow, it is the number of lines plus 1. A last line without a line end
+    /// another line must follow, this is the number of lines plus 1. A last line without a line end
     /// is a bad line.
     #[error("bad line {line}")]
     Bad { line: u64 },

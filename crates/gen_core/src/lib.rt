@@ -1,5 +1,5 @@
-//! A dump text is read back: the text that `adbdump` prints goes in, and the container of its root
-//! comes out, in its canonical layout and without contents of files.
+//! Reads a dump text, the text that `adbdump` prints, and makes a container with the same root, in
+//! its canonical layout and without contents of files (`adbgen`).
 //!
 //! A text is read from front to end in one pass, by the tables of fields (`adb_schema`), and its
 //! values are written as they are read (`adb_values`). The first line that no dump has after the
