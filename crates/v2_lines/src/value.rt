@@ -120,7 +120,7 @@ fn read_twenty_bytes(alloc: Global, encoded: &[u8]) -> Result<Option<Vec<u8>>, A
 
 // A commit as a value: the bytes of pairs of hexadecimal digits; another text is dropped.
 fn read_commit<'a>(alloc: Global, text: &[u8]) -> Result<Option<Value<'a>>, AllocError>
-    // On Ok, the result has the bytes of the commit, or no value; it is never None.
+    // On Ok, the result has the bytes of the commit, or no value; no text is refused.
     ensures { IfOk result (λ found. option_map line_value_view found
         ≡ Some (commit_values (decode_of text.now))) }
 {
