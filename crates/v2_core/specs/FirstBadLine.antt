@@ -24,7 +24,7 @@ pub record BeginsText (front : List (List ℕ)) : Type 0 where
 pub record IsNumberOfReportedBadLine (lines : List (List ℕ)) (number : ℕ) : Type 0 where
   -- the lines up to the number
   pub front : List (List ℕ)
-  -- the lines after them
+  -- the lines after those up to the number
   pub rest : List (List ℕ)
   -- these lines and those after them are all lines of the text
   pub located : lines ≡ front ++ rest
