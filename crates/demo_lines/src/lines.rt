@@ -45,7 +45,7 @@ fn push_mkpkg(words: &mut Words, alloc: Global, i: u16) -> Result<(), AllocError
 
 // Adds the option with the dependency of package i, if the package has one.
 fn push_depends(words: &mut Words, alloc: Global, i: u16) -> Result<(), AllocError>
-    // The list is far from its limit.
+    // The list has so few words that more words can be added.
     requires { length words.old < 16 }
     ensures { OnOk result (words.new ≡ words.old ++ depends_words i) }
 {
@@ -57,7 +57,7 @@ fn push_depends(words: &mut Words, alloc: Global, i: u16) -> Result<(), AllocErr
 
 // Adds two arguments to a command line: an option, and its value.
 fn push_option(words: &mut Words, option: &[u8], value: &[u8]) -> Result<(), AllocError>
-    // The list is far from its limit.
+    // The list has so few words that more words can be added.
     requires { length words.old < 32 }
     ensures { OnOk result (words.new ≡ words.old ++ option.now ∷ value.now ∷ []) }
 {
@@ -97,7 +97,7 @@ pub fn mkndx_words(alloc: Global, n: u16) -> Result<Words, AllocError>
 
 // Adds the paths of packages 1 to n, as arguments of a command line.
 fn push_packages(words: &mut Words, alloc: Global, n: u16) -> Result<(), AllocError>
-    // The list is far from its limit.
+    // The list has so few words that more words can be added.
     requires { length words.old < 16 }
     ensures { OnOk result (words.new ≡ words.old ++ demo_package_paths n) }
 {
@@ -109,7 +109,7 @@ fn push_packages(words: &mut Words, alloc: Global, n: u16) -> Result<(), AllocEr
 
 // Adds the path of package i, as an argument of a command line.
 fn push_package(words: &mut Words, alloc: Global, i: u16) -> Result<(), AllocError>
-    // The list is far from its limit.
+    // The list has so few words that more words can be added.
     requires { length words.old < 100000 }
     ensures { OnOk result (words.new ≡ words.old ++ demo_package_path i ∷ []) }
 {
@@ -133,7 +133,7 @@ pub fn add_words(alloc: Global, n: u16) -> Result<Words, AllocError>
 // Adds the names of those of n packages on which no other one depends, as arguments of a command
 // line.
 fn push_top_names(words: &mut Words, alloc: Global, n: u16) -> Result<(), AllocError>
-    // The list is far from its limit.
+    // The list has so few words that more words can be added.
     requires { length words.old < 16 }
     ensures { OnOk result (words.new ≡ words.old ++ names_not_needed_by_first_n n n) }
 {
@@ -145,7 +145,7 @@ fn push_top_names(words: &mut Words, alloc: Global, n: u16) -> Result<(), AllocE
 
 // Adds the name of package i, if none of the n packages depends on package i.
 fn push_if_top(words: &mut Words, alloc: Global, n: u16, i: u16) -> Result<(), AllocError>
-    // The list is far from its limit.
+    // The list has so few words that more words can be added.
     requires { length words.old < 100000 }
     ensures { OnOk result (words.new ≡ words.old ++ name_unless_needed_by_first_n n i) }
 {
