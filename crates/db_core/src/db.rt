@@ -196,7 +196,7 @@ pub(crate) fn package_of_database<'a>(idb: &Option<IdbView<'a>>, i: usize) -> Pa
     // The result is the package at this index.
     ensures value { slice_get (packages_of_database_value (option_map idb_value idb.now)) i
         ≡ Some (package_value result) }
-    // The payload of the result is the one from which it was read.
+    // The package is in the payload of the database.
     ensures lent { payload_of result.adb ≡ payload_of_database idb.now }
 {
     match idb {
