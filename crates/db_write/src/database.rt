@@ -31,7 +31,7 @@ use std::alloc::{AllocError, Global};
 ///
 /// `TooLarge` if the database exceeds a limit of the writer, or `Memory`.
 pub fn write_db(alloc: Global, members: &Members<'_>, owned: &Owned) -> Result<Vec<u8>, WriteFault>
-    // The file is that of the definition, or too large as the definition says, or memory ran out.
+    // The file is that of the new database, or too large as the definition says, or memory ran out.
     ensures written { IsWrittenAs (λ file. file.items) result
         (database_of (members_of members.now) owned.now) }
     // The file passes all tests of a database if no path has two owners, and none is reserved.
@@ -58,7 +58,8 @@ fn database_payload(
     members: &Members<'_>,
     flags: &[bool],
 ) -> Result<Vec<u8>, WriteFault>
-    // The payload is that of the definition, or too large as it says, or memory ran out.
+    // The payload is that of the new database, or too large as the definition says, or memory
+    // ran out.
     ensures written { IsWrittenAs (λ payload. payload.items) result
         (payload_or_overflow (database_value (members_of members.now) flags.now)) }
     // The payload is within the limit of bytes.
