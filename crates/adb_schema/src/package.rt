@@ -261,7 +261,7 @@ impl<'a> ScriptsView<'a> {
     ghost use Rattle.adb_view.specs.Values.{entry_in, text_in};
     ghost use Rattle.adb_schema.specs.Views.{scripts_value};
 
-    /// The script for a change in a folder that `PackageView::triggers` watches.
+    /// The script for a change in a folder that matches a pattern of `PackageView::triggers`.
     pub fn trigger(&self) -> &'a [u8]
         ensures { result.now ≡ text_in (entry_in (scripts_value self.now) SCRIPTS_TRIGGER) }
     {

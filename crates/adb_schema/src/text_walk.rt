@@ -286,8 +286,10 @@ pub fn check_texts(alloc: Global, shaped: Shaped<'_>) -> Result<Option<Cause>, A
     }
 }
 
-/// Checks a value and the values below it, and returns the number of the first field that breaks
-/// its rule. (A cause has 150 bytes, too many to pass from value to value.)
+/// Checks a value and the values inside it, and returns the number of the first field that breaks
+/// its rule. `word` is the word of the value, `kind` its kind, `field_number` its field, and
+/// `around` its surroundings; `judged` remembers long texts. (A cause has 150 bytes, too many to
+/// pass from value to value.)
 #[cycle(check)]
 fn check_value<'a>(
     adb: Adb<'a>,
@@ -327,7 +329,8 @@ fn check_value<'a>(
     }
 }
 
-/// Checks the entries of an array; of adjacent equal words it checks only the first.
+/// Checks the entries of an array, as `check_value` does for one value; of adjacent equal words it
+/// checks only the first. `kind` is the kind of each entry, `field_number` the field of the array.
 #[cycle(check)]
 fn check_entries<'a>(
     adb: Adb<'a>,
