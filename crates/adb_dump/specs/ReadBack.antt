@@ -213,7 +213,8 @@ unfoldable mutual
       fields_read_with_value_below (λ ls. and_then (fields_read fs ls) object_unless_empty) g
       (block_and_lines_after ls) l
 
-  -- the fields of an object in order; a field whose name is not next is Null
+  -- the fields of an object by its lines, in the order of its table. A field is Null if the next line does not have
+  -- the name of this field. A line that is left after the last field is bad
   pub fields_read : Fields → List Line → ResultOrBadLine Plains
   fields_read no_fields [] = Ok none
   fields_read no_fields (l ∷ ls) = Err 0

@@ -145,7 +145,8 @@ fn write_schema<O: Out>(out: &mut O, which: Which) -> Result<(), AllocError>
     }
 }
 
-/// Writes the lines of the value to which the word refers; this value is not Null.
+/// Writes the lines of the value of this kind to which `word` refers in the payload of `adb`; it is
+/// not Null. `start` says how deep its lines are, and whether the first one is already begun.
 #[cycle(block)]
 #[tactic(auto, using(adb_view::proofs::WalkSteps::table_rank, crate::proofs::BlockLines::int_lines, crate::proofs::BlockLines::text_lines, crate::proofs::BlockLines::hash_lines, crate::proofs::BlockLines::texts_lines, crate::proofs::BlockLines::objects_lines, crate::proofs::BlockLines::object_lines))]
 #[inline(always)]
@@ -184,7 +185,8 @@ fn write_block<O: BlobOut>(
     }
 }
 
-/// Puts the entries of an array, each after a dash.
+/// Writes the entries of an array, each after a dash. `words` are the words of the entries, which
+/// have the kind `kind`; `start` says how the first line starts.
 #[cycle(block)]
 #[tactic(auto, using(crate::proofs::Turns::entry_here, crate::proofs::Turns::entries_later, crate::proofs::Turns::entry_turn, crate::proofs::Turns::entries_end))]
 fn write_entries<O: BlobOut>(
@@ -215,7 +217,7 @@ fn write_entries<O: BlobOut>(
 }
 
 /// Writes the lines of an entry of an array, after its dash; an entry that is Null has the line
-/// `null`.
+/// `null`. `word` is the word of the entry, and `depth` the depth of its lines.
 #[cycle(block)]
 #[tactic(auto, using(crate::proofs::Turns::null_entry, crate::proofs::Turns::some_entry))]
 fn write_entry<O: BlobOut>(
@@ -244,8 +246,8 @@ fn write_entry<O: BlobOut>(
     write_block(out, adb, kind, word, LineStart { depth, begun: true })
 }
 
-/// Writes the lines of an entry that is an object. Whether the object is Null is known only after
-/// its fields: if none was written, the line is `null`.
+/// Writes the lines of an entry that is an object of the table `which`. Whether the object is Null
+/// is known only after its fields: if no field was written, the line is `null`.
 #[cycle(block)]
 fn write_object_entry<O: BlobOut>(
     out: &mut O,
@@ -274,7 +276,8 @@ fn write_object_entry<O: BlobOut>(
 }
 
 /// Writes the fields of an object that are not Null, and returns whether all fields are Null.
-/// `words` are the words of the object; words past its fields are ignored.
+/// `words` are the words of the object; words past its fields are ignored. `start` says how the
+/// first line starts.
 #[cycle(block)]
 #[tactic(auto, using(adb_view::proofs::WalkSteps::field_rank, crate::proofs::Left::field_here, crate::proofs::Left::fields_later, crate::proofs::Turns::field_turn, crate::proofs::Turns::null_turn, crate::proofs::Turns::words_end, crate::proofs::Turns::fields_end))]
 pub(crate) fn write_fields<O: BlobOut>(
