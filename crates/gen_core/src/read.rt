@@ -49,7 +49,8 @@ pub(crate) fn read_root(
     read_object(draft, cursor, &mut scratch, which, 0)
 }
 
-/// Reads a block as a value of the kind.
+/// Reads the block of lines at the cursor that are indented by `depth` levels as a value of the
+/// kind, which is added to `draft`; `scratch` is memory for the bytes of a text or hash.
 #[cycle(block)]
 fn read_block(
     draft: &mut Draft,
@@ -79,7 +80,8 @@ fn read_block(
     }
 }
 
-/// Reads a block of one line as a value of the kind.
+/// Reads a block of one line, which is indented by `depth` levels, as a value of the kind, which is
+/// added to `draft`; `scratch` is memory for the bytes of a text or hash.
 fn read_only_line(
     draft: &mut Draft,
     cursor: &mut Cursor<'_>,
@@ -107,7 +109,8 @@ fn read_only_line(
     end_block(cursor, depth)
 }
 
-/// Reads the rest of the current line as a value of the kind, and goes to the next line.
+/// Reads the rest of the current line (`line`) as a value of the kind, which is added to `draft`,
+/// and goes to the next line; `scratch` is memory for the bytes of a text or hash.
 fn read_line(
     draft: &mut Draft,
     cursor: &mut Cursor<'_>,
@@ -130,8 +133,8 @@ fn read_line(
     Ok(())
 }
 
-/// Reads a line as a value of the kind, and adds the value to the draft; false if no value of the
-/// kind has this line.
+/// Reads a line as a value of the kind, and adds the value to `draft`; false if no value of the
+/// kind has this line. `scratch` is memory for the bytes of a text or hash.
 fn read_value(
     draft: &mut Draft,
     scratch: &mut Vec<u8>,
@@ -183,7 +186,8 @@ fn end_block(cursor: &Cursor<'_>, depth: u32) -> Result<(), GenFault>
     }
 }
 
-/// Reads a block as an array of values of the kind.
+/// Reads a block, whose lines are indented by `depth` levels, as an array of values of the kind,
+/// which is added to `draft`; `scratch` is memory for the bytes of a text or hash.
 #[cycle(block)]
 fn read_array(
     draft: &mut Draft,
@@ -214,7 +218,8 @@ fn read_array(
     Ok(())
 }
 
-/// Reads a block as values of the kind, each after a dash.
+/// Reads a block, whose lines are indented by `depth` levels, as values of the kind, each after a
+/// dash. They are added to `draft`; `scratch` is memory for the bytes of a text or hash.
 #[cycle(block)]
 fn read_entries(
     draft: &mut Draft,
@@ -248,7 +253,9 @@ fn read_entries(
     Ok(())
 }
 
-/// Reads a block as an entry of an array: `null`, or a value of the kind.
+/// Reads a block, whose lines are indented by `depth` levels, as an entry of an array: `null`, or a
+/// value of the kind. The entry is added to `draft`; `scratch` is memory for the bytes of a text or
+/// hash.
 #[cycle(block)]
 fn read_entry(
     draft: &mut Draft,
@@ -290,7 +297,8 @@ fn is_null_entry(cursor: &Cursor<'_>, depth: u32) -> bool
     }
 }
 
-/// Reads a block as an object of the table.
+/// Reads a block, whose lines are indented by `depth` levels, as an object of the table `which`,
+/// which is added to `draft`; `scratch` is memory for the bytes of a text or hash.
 #[cycle(block)]
 #[tactic(auto, using(adb_view::proofs::WalkSteps::table_rank))]
 fn read_object(
@@ -322,7 +330,9 @@ fn read_object(
     Ok(())
 }
 
-/// Reads a block as the fields of an object, in their order; a field without a line is Null.
+/// Reads a block, whose lines are indented by `depth` levels, as the fields of an object, in their
+/// order; a field without a line is Null. The fields are added to `draft`; `scratch` is memory for
+/// the bytes of a text or hash.
 #[cycle(block)]
 #[tactic(auto, using(adb_view::proofs::WalkSteps::field_rank))]
 fn read_fields(
@@ -375,7 +385,8 @@ fn after_name(line: &[u8], name: FieldName) -> Option<&[u8]>
 }
 
 /// Reads the value of a field. `value` is the rest of the field's first line after its name and
-/// colon; the value is there, or in the block below.
+/// colon; the value is there, or in the block below, one level deeper than `depth`. The value is
+/// added to `draft`; `scratch` is memory for the bytes of a text or hash.
 #[cycle(block)]
 fn read_named(
     draft: &mut Draft,
