@@ -86,7 +86,8 @@ fn write_info(draft: &mut Draft, info: &[InfoLine<'_>]) -> Result<(), AllocError
     draft.close_object()
 }
 
-// Writes the fields that these columns describe, one after the other.
+// Writes the fields that these columns describe, one after the other, by the lines `info` of a
+// record.
 fn write_columns(
     draft: &mut Draft,
     info: &[InfoLine<'_>],
@@ -103,7 +104,7 @@ fn write_columns(
     Ok(())
 }
 
-// Writes one field of the information.
+// Writes one field of the information, by the lines `info` of a record.
 fn write_column(draft: &mut Draft, info: &[InfoLine<'_>], column: Column) -> Result<(), AllocError>
     ensures { OnOk result (draft.new ≡ draft_with (value_of_column info.now column) draft.old) }
 {
