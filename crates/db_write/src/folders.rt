@@ -21,8 +21,9 @@ use adb_view::field_indexes::{DIR_ACL, DIR_FILES, DIR_NAME, PACKAGE_PATHS};
 use adb_view::{Adb, Arr, Val, Which, entry_word};
 use std::alloc::AllocError;
 
-/// Writes the folders of a package with the files whose flag is set, by one flag for each file of
-/// the package, in order.
+/// Writes the folders of the package with the word `pkg`, with the files whose flag is set: `flags`
+/// has one flag for each file of the package, in order. `known` remembers long texts that the draft
+/// has already.
 pub(crate) fn write_folders(
     draft: &mut Draft,
     adb: Adb<'_>,
@@ -128,7 +129,8 @@ fn flags_after_folder<'f>(adb: Adb<'_>, folder: Val, flags: &'f [bool]) -> &'f [
     &flags[count..]
 }
 
-/// Writes the folder with a word, with its access list and those of its files whose flag is set.
+/// Writes the folder with the word `folder`, with its access list and those of its files whose flag
+/// is set. `flags` are the flags from its first file on.
 fn write_folder(
     draft: &mut Draft,
     adb: Adb<'_>,

@@ -100,8 +100,9 @@ fn write_member(
     }
 }
 
-/// Writes the package with a word of a payload, with the files whose flag is set, by the flags from
-/// its first file on; an added package has an id.
+/// Writes the package with the word `pkg` in the payload of `adb`, with the files whose flag is
+/// set, by the flags from its first file on; an added package has an id. `known` remembers long
+/// texts of this payload that the draft has already.
 fn write_package(
     draft: &mut Draft,
     adb: Adb<'_>,
