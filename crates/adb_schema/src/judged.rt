@@ -104,7 +104,7 @@ impl<'a> Judged<'a> {
         requires { text.now ≡ text_at (payload_of self.old.adb) word }
         // On Ok, the result says whether the text obeys the rule.
         ensures value { IfOk result (λ kept. kept ≡ keeps_text_rule rule text.now) }
-        // The payload is unchanged.
+        // The payload of `self` is unchanged.
         ensures payload { self.new.adb ≡ self.old.adb }
     {
         // A short text is judged wherever it occurs.
@@ -142,7 +142,7 @@ impl<'a> Judged<'a> {
         requires { text.now ≡ text_at (payload_of self.old.adb) word }
         // On Ok, the result says whether the text obeys the rule.
         ensures value { IfOk result (λ kept. kept ≡ keeps_text_rule rule text.now) }
-        // The payload is unchanged.
+        // The payload of `self` is unchanged.
         ensures payload { self.new.adb ≡ self.old.adb }
     {
         match rule {
@@ -158,7 +158,7 @@ impl<'a> Judged<'a> {
         requires { text.now ≡ text_at (payload_of self.old.adb) word }
         // On Ok, the result says whether the text is a valid version or empty.
         ensures value { IfOk result (λ is. is ≡ is_version_or_empty text.now) }
-        // The payload is unchanged.
+        // The payload of `self` is unchanged.
         ensures payload { self.new.adb ≡ self.old.adb }
     {
         if text.is_empty() {
@@ -173,7 +173,7 @@ impl<'a> Judged<'a> {
         requires { text.now ≡ text_at (payload_of self.old.adb) word }
         // On Ok, the result says whether the text is a valid version.
         ensures value { IfOk result (λ is. is ≡ is_version text.now) }
-        // The payload is unchanged.
+        // The payload of `self` is unchanged.
         ensures payload { self.new.adb ≡ self.old.adb }
     {
         // A version is judged by where it is in the payload; a word without a blob has no such

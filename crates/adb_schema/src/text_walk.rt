@@ -208,7 +208,7 @@ fn keeps_rule_of_field(
     // On Ok, the result says whether the text obeys the rule of the field.
     ensures value { IfOk result (λ kept.
         kept ≡ is_allowed_text_of_field field_number (surroundings_of around.now) text.now) }
-    // The payload is unchanged.
+    // The payload of `judged` is unchanged.
     ensures payload { judged.new.adb ≡ judged.old.adb }
 {
     match field_number {
@@ -241,7 +241,7 @@ fn keeps_file_name(
     // On Ok, the result says whether the text is an allowed file name in this folder.
     ensures value { IfOk result (λ kept.
         kept ≡ is_allowed_file_name (surroundings_of around.now) text.now) }
-    // The payload is unchanged.
+    // The payload of `judged` is unchanged.
     ensures payload { judged.new.adb ≡ judged.old.adb }
 {
     if !judged.keeps(TextRule::OnePart, word, text)? {
@@ -257,7 +257,7 @@ fn keeps_change_name(judged: &mut Judged<'_>, word: Val, text: &[u8]) -> Result<
     requires { text.now ≡ text_at (payload_of judged.old.adb) word }
     // On Ok, the result says whether a change may remove or write a file of this name.
     ensures value { IfOk result (λ kept. kept ≡ is_name_allowed_in_intent text.now) }
-    // The payload is unchanged.
+    // The payload of `judged` is unchanged.
     ensures payload { judged.new.adb ≡ judged.old.adb }
 {
     if !judged.keeps(TextRule::Name, word, text)? {
@@ -307,7 +307,7 @@ fn check_value<'a>(
     ensures place { IfOk result (λ place. bad_text_at place
         ≡ first_bad_leaf (leaves (shape_of kind) field_number (surroundings_of around.now)
         (value_at (payload_of adb.entry) kind word))) }
-    // The payload is unchanged.
+    // The payload of `judged` is unchanged.
     ensures payload { judged.new.adb ≡ judged.old.adb }
 {
     match kind {
@@ -349,7 +349,7 @@ fn check_entries<'a>(
         ≡ first_bad_leaf (leaves_of_all_values (leaves (shape_of kind) field_number
         (surroundings_of around.now))
         (values_at (payload_of adb.entry) kind (array_entries entries.entry)))) }
-    // The payload is unchanged.
+    // The payload of `judged` is unchanged.
     ensures payload { judged.new.adb ≡ judged.old.adb }
 {
     for i in 0..entries.len() {
@@ -395,7 +395,7 @@ fn check_fields<'a>(
         ≡ first_bad_leaf (field_leaves (shapes_of (table which)) (100 * table_number which + 1)
         (surroundings_of around.now)
         (entries_in (value_at (payload_of adb.entry) (Kinds.Obj which) object)))) }
-    // The payload is unchanged.
+    // The payload of `judged` is unchanged.
     ensures payload { judged.new.adb ≡ judged.old.adb }
 {
     let words = object_words(adb, which, object);
@@ -493,7 +493,7 @@ fn check_text(
     // On Ok, the result is the number of the first field whose rule is broken, or None.
     ensures place { IfOk result (λ place. bad_text_at place
         ≡ first_bad_leaf (text_leaf field_number (surroundings_of around.now) text.now ∷ [])) }
-    // The payload is unchanged.
+    // The payload of `judged` is unchanged.
     ensures payload { judged.new.adb ≡ judged.old.adb }
 {
     if keeps_rule_of_field(judged, field_number, around, word, text)? {
