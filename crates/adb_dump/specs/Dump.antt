@@ -33,15 +33,15 @@ ends_with_byte c [] = false
 ends_with_byte c (d ∷ []) = c == d
 ends_with_byte c (d ∷ e ∷ ds) = ends_with_byte c (e ∷ ds)
 
--- whether a text may be written as it is: each byte is printable, no space is first or last, no quote
+-- whether a text may be written as it is: each byte is printable, no space (0x20) is first or last, no quote (0x22)
 -- is first, and the text is not `null`
 abbrev pub needs_no_quotes : List ℕ → Bool
 needs_no_quotes b =
     list_all is_printable b && not (begins_with_byte 0x20 b) && not (ends_with_byte 0x20 b)
     && not (begins_with_byte 0x22 b) && not (bytes_eq b (codes "null"))
 
--- how a byte of a text between quotes is written. A line end, a backslash and a quote are escapes; any
--- other printable byte is written as it is. The rest are `\x` and two hexadecimal digits
+-- how a byte of a text between quotes is written. A line end (0x0a), a backslash (0x5c) and a quote (0x22) are
+-- escapes; any other printable byte is written as it is. The rest are `\x` and two hexadecimal digits
 abbrev pub quoted_form_of_byte : ℕ → List ℕ
 quoted_form_of_byte c =
     if c == 0x0a then codes "\\n"

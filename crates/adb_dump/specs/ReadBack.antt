@@ -49,7 +49,7 @@ block_and_lines_after (l ∷ ls) =
 
 -- ---- a value on one line
 
--- the number that a lower-case hexadecimal digit represents
+-- the number that a lower-case hexadecimal digit represents: `0` to `9` are the bytes 0x30 to 0x39, and `a` is 0x61
 abbrev pub hex_digit_value_unchecked : ℕ → ℕ
 hex_digit_value_unchecked c = if nat_lt c 0x3a then c - 0x30 else c - 0x57
 
@@ -79,8 +79,8 @@ text_read_after_backslash f (d ∷ cs) =
     else if d == 0x78 then text_read_after_backslash_x f cs
     else None
 
--- the bytes of a text from after its first quote on, up to a quote that ends the line. The number `n`
--- bounds the recursion; the length of the text is enough
+-- the bytes of a text from after its first quote (0x22) on, up to a quote that ends the line; a backslash is 0x5c.
+-- The number `n` bounds the recursion; the length of the line is enough
 abbrev pub quoted_read : ℕ → List ℕ → Option (List ℕ)
 quoted_read zero cs = None
 quoted_read (suc n) [] = None
@@ -139,8 +139,8 @@ entries_from_dash_line f g r None = Err 0
 entries_from_dash_line f g r (Some l) =
     and_then (entry_read f l r.0) (λ v. mapped_or_bad_line_shifted_by (1 + length r.0) (more v) (g r.1))
 
--- the entries of an array by their lines; `f` reads one entry. The number `n` bounds the recursion;
--- the number of lines is enough
+-- the entries of an array by their lines; `f` reads the lines of one entry. The number `n` bounds the recursion; the
+-- number of lines is enough
 abbrev pub entries_read : (List Line → ResultOrBadLine Plain) → ℕ → List Line → ResultOrBadLine Plains
 entries_read f zero ls = Ok none
 entries_read f (suc n) [] = Ok none
