@@ -24,7 +24,7 @@ IsFormOf form true bytes l = (bytes ≢ []) × (form bytes ≡ l)
 IsFormOf form false bytes l =
     (other : List ℕ) → AllByRecursion (λ b. b < 256) other → other ≢ [] → form other ≢ l
 
--- the value of a shape that has one line; a shape of several lines has no such value
+-- the value of a shape that has this line; for a shape of several lines, the line is bad
 abbrev pub line_read : Shape → Line → ResultOrBadLine Plain
 line_read number l = value_if_printed_as_line int_line l (int_read l)
 line_read text l = value_if_printed_as_line text_line l (text_read l)
