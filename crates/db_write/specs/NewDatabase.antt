@@ -68,8 +68,8 @@ info_in_new_database id info =
     info_with_id_and_size info (unwrap_or id (text_in (entry_in info INFO_HASHES)))
     (int_in (entry_in info INFO_FILE_SIZE))
 
--- a package in the new database: its information, its folders, its scripts, its triggers, and its
--- priority in replacing
+-- a package in the new database, with the fields of table 7 in order: its information, its folders, its scripts, its
+-- triggers, and its priority in replacing
 abbrev pub package_in_new_database : Member → List Bool → Plain
 package_in_new_database m flags =
     trimmed_object_or_null (more (info_in_new_database m.id (entry_in m.pkg PACKAGE_INFO))
