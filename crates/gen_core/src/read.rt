@@ -366,6 +366,7 @@ fn read_fields(
                 read_named(draft, cursor, scratch, field.kind, value, depth)?;
                 next = cursor.at_depth(depth);
             }
+            // The line is that of a later field, so this field is Null.
             None => draft.null()?,
         }
     }
