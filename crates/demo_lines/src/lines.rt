@@ -175,6 +175,7 @@ fn number_of(text: &[u8]) -> u16
     requires { IsTrue (is_demo_number text.now) }
     ensures { result ≡ digits_value 10 text.now }
 {
+    // By the contract the text is such a number, so neither of the two calls fails.
     match str::from_utf8(text) {
         Ok(digits) => match digits.parse::<u32>() {
             Ok(number) => number as u16,
