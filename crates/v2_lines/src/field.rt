@@ -76,6 +76,7 @@ static FIELDS: [InfoField; 18] = [
     InfoField::License,
     InfoField::Origin,
     InfoField::Maintainer,
+    // The fields of lines I, t, k, q, c, and D, p, r, i.
     InfoField::InstalledSize,
     InfoField::BuildTime,
     InfoField::ProviderPriority,
@@ -110,6 +111,7 @@ impl InfoField {
             InfoField::License => b'L',
             InfoField::Origin => b'o',
             InfoField::Maintainer => b'm',
+            // Each line of the field begins with this letter.
             InfoField::InstalledSize => b'I',
             InfoField::BuildTime => b't',
             InfoField::ProviderPriority => b'k',
