@@ -33,15 +33,15 @@ ends_with_byte c [] = false
 ends_with_byte c (d ∷ []) = c == d
 ends_with_byte c (d ∷ e ∷ ds) = ends_with_byte c (e ∷ ds)
 
--- whether a text may be written as it is: each byte is printable, no space is first or last, no quote
--- is first, and it is not `null`
+-- whether a text may be written as it is: each byte is printable, no space (0x20) is first or last, no quote (0x22)
+-- is first, and the text is not `null`
 abbrev pub needs_no_quotes : List ℕ → Bool
 needs_no_quotes b =
     list_all is_printable b && not (begins_with_byte 0x20 b) && not (ends_with_byte 0x20 b)
     && not (begins_with_byte 0x22 b) && not (bytes_eq b (codes "null"))
 
--- how a byte of a text between quotes is written. A line end, a backslash and a quote are escapes; any
--- other printable byte is written as it is. The rest are `\x` and two hexadecimal digits
+-- how a byte of a text between quotes is written. A line end (0x0a), a backslash (0x5c) and a quote (0x22) are
+-- escapes; any other printable byte is written as it is. The rest are `\x` and two hexadecimal digits
 abbrev pub quoted_form_of_byte : ℕ → List ℕ
 quoted_form_of_byte c =
     if c == 0x0a then codes "\\n"
@@ -84,13 +84,13 @@ abbrev pub lines_with_dash_before_first : List Line → List Line
 lines_with_dash_before_first [] = []
 lines_with_dash_before_first (l ∷ ls) = (codes "- " ++ l) ∷ indent ls
 
--- the lines of an entry of an array: Null has the line `null`, so that the positions of entries are
--- unchanged
+-- the lines of an entry of an array, which has the lines `ls` if it is not Null: Null has the line `null`, so that
+-- the positions of entries are unchanged
 abbrev pub entry_lines_or_null_line : Plain → List Line → List Line
 entry_lines_or_null_line null ls = codes "null" ∷ []
 entry_lines_or_null_line v ls = ls
 
--- the lines of an array: each entry after a dash
+-- the lines of an array: each entry after a dash; `f` gives the lines of an entry
 abbrev pub array_lines : (Plain → List Line) → Plains → List Line
 array_lines f none = []
 array_lines f (more v vs) =
@@ -105,7 +105,7 @@ named_line name l = (name ++ (codes ": " ++ l)) ∷ []
 abbrev pub name_line_above_indented_lines : List ℕ → List Line → List Line
 name_line_above_indented_lines name ls = (name ++ codes ":") ∷ indent ls
 
--- the lines of a field; none if its value is Null
+-- the lines `ls` of a field, by its value; none if the value is Null
 abbrev pub field_lines_unless_null : Plain → List Line → List Line
 field_lines_unless_null null ls = []
 field_lines_unless_null v ls = ls

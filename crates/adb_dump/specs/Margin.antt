@@ -9,12 +9,14 @@ abbrev pub margin : ℕ → List ℕ
 margin zero = []
 margin (suc depth) = codes "  " ++ margin depth
 
--- the spaces that are still missing before the next line: none if the line has begun
+-- the spaces that are still missing before the next line: none if the line has begun, that is, if its spaces and a
+-- dash or the name of a field are written already
 abbrev pub margin_unless_begun : ℕ → Bool → List ℕ
 margin_unless_begun depth true = []
 margin_unless_begun depth false = margin depth
 
--- the bytes of lines at a depth, of which the first may have begun
+-- the bytes of lines at a depth, each with its spaces and its line end; `begun` says whether the first line has
+-- begun, and so needs no spaces
 abbrev pub indented_lines_text : ℕ → Bool → List Line → List ℕ
 indented_lines_text depth begun [] = []
 indented_lines_text depth begun (l ∷ ls) =

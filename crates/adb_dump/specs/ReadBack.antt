@@ -22,7 +22,7 @@ abbrev pub mapped_or_bad_line_shifted_by : {A B : Type 0} → ℕ → (A → B) 
 mapped_or_bad_line_shifted_by n f (Ok x) = Ok (f x)
 mapped_or_bad_line_shifted_by n f (Err k) = Err (n + k)
 
--- the rest of a line after a prefix, if the line begins with that
+-- the rest of a line (the second argument) after a prefix, if the line begins with this prefix
 abbrev pub strip_prefix : List ℕ → List ℕ → Option (List ℕ)
 strip_prefix [] l = Some l
 strip_prefix (p ∷ ps) [] = None
@@ -34,7 +34,7 @@ with_line_before_block l r = (l ∷ r.0, r.1)
 
 -- the block and the lines after it, from the line `l` on. If `l` is indented, its text after the
 -- spaces (`inner`) is put in front of the block `r.0` of the lines after it. Otherwise the block is
--- empty, and all lines are after it
+-- empty, and all lines are after the block
 abbrev pub end_block_or_add_line : Line → List Line → Option Line → List Line × List Line
     → List Line × List Line
 end_block_or_add_line l ls None r = ([], l ∷ ls)
@@ -49,7 +49,7 @@ block_and_lines_after (l ∷ ls) =
 
 -- ---- a value on one line
 
--- the number that a lower-case hexadecimal digit represents
+-- the number that a lower-case hexadecimal digit represents: `0` to `9` are the bytes 0x30 to 0x39, and `a` is 0x61
 abbrev pub hex_digit_value_unchecked : ℕ → ℕ
 hex_digit_value_unchecked c = if nat_lt c 0x3a then c - 0x30 else c - 0x57
 
@@ -79,8 +79,8 @@ text_read_after_backslash f (d ∷ cs) =
     else if d == 0x78 then text_read_after_backslash_x f cs
     else None
 
--- the bytes of a text from after its first quote on, up to a quote that ends the line. The number `n`
--- bounds the recursion; the length of the text is enough
+-- the bytes of a text from after its first quote (0x22) on, up to a quote that ends the line; a backslash is 0x5c.
+-- The number `n` bounds the recursion; the length of the line is enough
 abbrev pub quoted_read : ℕ → List ℕ → Option (List ℕ)
 quoted_read zero cs = None
 quoted_read (suc n) [] = None
@@ -89,7 +89,7 @@ quoted_read (suc n) (c ∷ cs) =
     else if c == 0x5c then text_read_after_backslash (quoted_read n) cs
     else option_map (λ b. c ∷ b) (quoted_read n cs)
 
--- the value of a text; an empty one has none, since no line represents it
+-- the value of a text; an empty text has no value, since no line represents it
 abbrev pub blob_unless_empty : List ℕ → Option Plain
 blob_unless_empty [] = None
 blob_unless_empty (c ∷ cs) = Some (blob (c ∷ cs))
@@ -98,13 +98,13 @@ blob_unless_empty (c ∷ cs) = Some (blob (c ∷ cs))
 abbrev pub int_read : Line → Option Plain
 int_read l = if nat_lt (digits_value 10 l) (2 ^ 64) then Some (int (digits_value 10 l)) else None
 
--- the value of a text, between quotes or as it is
+-- the value of a text, between quotes or as it is; *value_if_printed_as_line* tests which form it must have
 abbrev pub text_read : Line → Option Plain
 text_read l =
     if begins_with_byte 0x22 l then option_and_then blob_unless_empty (quoted_read (length l) (drop 1 l))
     else blob_unless_empty l
 
--- the value of a hash, by its digits
+-- the value of a hash, by its hexadecimal digits; *value_if_printed_as_line* tests that the line has nothing else
 abbrev pub hash_read : Line → Option Plain
 hash_read l = blob_unless_empty (bytes_of_hex_digits l)
 
@@ -114,7 +114,8 @@ abbrev pub value_if_printed_as_line : (Plain → Line) → Line → Option Plain
 value_if_printed_as_line form l None = Err 0
 value_if_printed_as_line form l (Some v) = if bytes_eq (form v) l then Ok v else Err 0
 
--- A value on one line. A second line is bad, and is reported as line 1 (lines count from 0).
+-- the value of a block that has one line, which `f` reads. A second line is bad, and is reported as line 1 (lines
+-- count from 0)
 abbrev pub single_line_value : (Line → ResultOrBadLine Plain) → List Line → ResultOrBadLine Plain
 single_line_value f [] = Err 0
 single_line_value f (l ∷ []) = f l
@@ -122,14 +123,15 @@ single_line_value f (l ∷ m ∷ ls) = and_then (f l) (λ v. Err 1)
 
 -- ---- lists
 
--- an entry of an array by its lines, which `f` reads; its first line is `l`, without the dash. If that
--- is `null`, the entry is Null, and any further line is bad
+-- an entry of an array by its lines, which `f` reads: the first line `l`, without the dash, and the further lines
+-- `ls`. If the first line is `null`, the entry is Null, and any further line is bad
 abbrev pub entry_read : (List Line → ResultOrBadLine Plain) → Line → List Line → ResultOrBadLine Plain
 entry_read f l ls =
     if bytes_eq l (codes "null") then single_line_value (λ x. Ok null) (l ∷ ls) else f (l ∷ ls)
 
--- an entry of an array, which `f` reads, and the entries after it, which `g` reads; `l` is the first
--- line without its dash. A line without a dash (None) is bad
+-- an entry of an array, which `f` reads, and the entries after it, which `g` reads. The pair `r` has the further
+-- lines of the entry, and the lines after it; `l` is its first line without the dash. A line without a dash (None)
+-- is bad
 abbrev pub entries_from_dash_line : (List Line → ResultOrBadLine Plain)
     → (List Line → ResultOrBadLine Plains)
     → List Line × List Line → Option Line → ResultOrBadLine Plains
@@ -137,20 +139,20 @@ entries_from_dash_line f g r None = Err 0
 entries_from_dash_line f g r (Some l) =
     and_then (entry_read f l r.0) (λ v. mapped_or_bad_line_shifted_by (1 + length r.0) (more v) (g r.1))
 
--- the entries of an array by their lines; `f` reads one entry. The number `n` bounds the recursion;
--- the number of lines is enough
+-- the entries of an array by their lines; `f` reads the lines of one entry. The number `n` bounds the recursion; the
+-- number of lines is enough
 abbrev pub entries_read : (List Line → ResultOrBadLine Plain) → ℕ → List Line → ResultOrBadLine Plains
 entries_read f zero ls = Ok none
 entries_read f (suc n) [] = Ok none
 entries_read f (suc n) (l ∷ ls) =
     entries_from_dash_line f (entries_read f n) (block_and_lines_after ls) (strip_prefix (codes "- ") l)
 
--- the value of an array; one without an entry has no lines, so it cannot be read
+-- the array of these entries; an array without an entry has no lines, so it cannot be read
 abbrev pub array_unless_empty : Plains → ResultOrBadLine Plain
 array_unless_empty none = Err 0
 array_unless_empty (more v vs) = Ok (arr (more v vs))
 
--- the value of an object; one without a field has no lines, so it cannot be read
+-- the object of these fields; an object without a field has no lines, so it cannot be read
 abbrev pub object_unless_empty : Plains → ResultOrBadLine Plain
 object_unless_empty none = Err 0
 object_unless_empty (more v vs) = Ok (obj (more v vs))
@@ -174,15 +176,15 @@ fields_read_with_value_below f g r [] =
     (λ v. mapped_or_bad_line_shifted_by (1 + length r.0) (more v) (g r.1))
 fields_read_with_value_below f g r (c ∷ cs) = Err 0
 
--- the fields from a line on: if the line does not have the name of this field, those after it
--- (`other`), else this one (`this`, of the text after `name:`)
+-- the fields from a line on, by the text after `name:` on this line. If the line has another name (None), they are
+-- `other`, the fields after this one; otherwise `this` reads this field and those after it
 abbrev pub fields_read_by_name_match :
     ResultOrBadLine Plains → (Line → ResultOrBadLine Plains) → Option Line → ResultOrBadLine Plains
 fields_read_by_name_match other this None = other
 fields_read_by_name_match other this (Some rest) = this rest
 
 unfoldable mutual
-  -- the value of a shape with exactly these lines
+  -- the value of the shape that has exactly these lines; or the number of the first bad line
   pub block_read : Shape → List Line → ResultOrBadLine Plain
   block_read number ls = single_line_value (λ l. value_if_printed_as_line int_line l (int_read l)) ls
   block_read text ls = single_line_value (λ l. value_if_printed_as_line text_line l (text_read l)) ls
@@ -211,7 +213,8 @@ unfoldable mutual
       fields_read_with_value_below (λ ls. and_then (fields_read fs ls) object_unless_empty) g
       (block_and_lines_after ls) l
 
-  -- the fields of an object in order; a field whose name is not next is Null
+  -- the fields of an object by its lines, in the order of its table. A field is Null if the next line does not have
+  -- the name of this field. A line that is left after the last field is bad
   pub fields_read : Fields → List Line → ResultOrBadLine Plains
   fields_read no_fields [] = Ok none
   fields_read no_fields (l ∷ ls) = Err 0
@@ -221,7 +224,8 @@ unfoldable mutual
       (named_read s (fields_read fs) ls)
       (strip_prefix (name ++ codes ":") l)
 
--- the value of a table by the lines of a text after its first line; without lines it is Null
+-- the value of a table by the lines of a dump text after its first line, or the number of a bad line; without lines
+-- the value is Null
 abbrev pub value_read : Which → List Line → ResultOrBadLine Plain
 value_read which [] = Ok null
 value_read which (l ∷ ls) = block_read (shape_of (Obj which)) (l ∷ ls)

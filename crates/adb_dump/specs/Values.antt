@@ -9,7 +9,7 @@ use Rattle.adb_view.specs.declared.tables.Which.{Which}
 use Rattle.adb_view.specs.declared.tables.Kind.TheVariants.{Obj}
 
 unfoldable mutual
-  -- whether the blobs in a value are bytes
+  -- each blob in the value consists of bytes (numbers below 256)
   pub IsOfBytes : Plain → Type 0
   IsOfBytes null = Unit {0}
   IsOfBytes (int n) = Unit {0}
@@ -17,11 +17,11 @@ unfoldable mutual
   IsOfBytes (arr vs) = AreOfBytes vs
   IsOfBytes (obj vs) = AreOfBytes vs
 
-  -- whether the blobs in the entries of an array or an object are bytes
+  -- each blob in the entries of an array or an object consists of bytes
   pub AreOfBytes : Plains → Type 0
   AreOfBytes none = Unit {0}
   AreOfBytes (more v vs) = IsOfBytes v × AreOfBytes vs
 
--- whether a value is a normal one of this table
+-- the value is normal and has the shape of the table
 abbrev pub IsNormalValueOfTable : Which → Plain → Type 0
 IsNormalValueOfTable which v = IsNormal v × HasShape (shape_of (Obj which)) v

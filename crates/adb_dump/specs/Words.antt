@@ -17,15 +17,16 @@ abbrev pub are_null : Plains → Bool
 are_null none = true
 are_null (more v vs) = is_null v && are_null vs
 
--- whether each word of an object that has a field has a plain value
+-- whether each word of an object in the payload `p` that has a field refers to a value of the kind of this field, or
+-- is NULL. Words after the last field do not count
 unfoldable pub fields_sound : List ℕ → List Field → List ℕ → Bool
 fields_sound p fields words = is_some (plains_of p (shapes_of fields) words)
 
--- the plain values of the words of an object that have a field
+-- the plain values of those words of an object in the payload `p` that have a field
 unfoldable pub fields_at : List ℕ → List Field → List ℕ → Plains
 fields_at p fields words = unwrap_or (plains_of p (shapes_of fields) words) none
 
--- whether a value of the kind is on the line of its field's name, and not below it
+-- whether a value of the kind is on the same line as its field's name, and not below this line
 abbrev pub has_one_line : Kind → Bool
 has_one_line Int = true
 has_one_line Text = true

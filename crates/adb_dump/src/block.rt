@@ -32,13 +32,14 @@ use adb_view::{Adb, Arr, Val, entry_word};
 use base_core::Text;
 use std::alloc::{AllocError, Global};
 
-/// The text of a payload that was walked as a package, an index, an installed database or a journal
+/// The text of a payload with the shape of a package, an index, an installed database or a journal
 /// entry: a line for its schema, and then the fields of its root that are not Null. A text of at
 /// most four times the payload's bytes is written at once. The bytes of a longer one are counted
 /// first, and its memory is allocated once.
 pub fn dump(alloc: Global, shaped: &Shaped<'_>) -> Result<Text, AllocError>
-    // The table is one of the four that a root may have.
+    // The table is one of the four that a container may have at its root.
     requires { is_some (schema_word (table_of shaped.now)) ≡ true }
+    // On Ok, the text is the dump text of the value at the root.
     ensures { IfOk result
         (λ text. text ≡ dump_text (table_of shaped.now) (shaped_value shaped.now)) }
 {
@@ -56,11 +57,13 @@ const MOST_TEXT_PER_PAYLOAD_BYTE: usize = 4;
 /// The text of a payload, if it has at most `MOST_TEXT_PER_PAYLOAD_BYTE` as many bytes as the
 /// payload, and there is memory for that.
 fn short_dump(alloc: Global, shaped: &Shaped<'_>) -> Result<Text, AllocError>
-    // The table is one of the four that a root may have.
+    // The table is one of the four that a container may have at its root.
     requires { is_some (schema_word (table_of shaped.now)) ≡ true }
+    // On Ok, the text is the dump text of the value at the root.
     ensures { IfOk result
         (λ text. text ≡ dump_text (table_of shaped.now) (shaped_value shaped.now)) }
 {
+    // The most bytes that this text may have.
     let room = shaped
         .adb()
         .payload()
@@ -73,8 +76,9 @@ fn short_dump(alloc: Global, shaped: &Shaped<'_>) -> Result<Text, AllocError>
 
 /// The text of a payload, whose bytes are counted first.
 fn counted_dump(alloc: Global, shaped: &Shaped<'_>) -> Result<Text, AllocError>
-    // The table is one of the four that a root may have.
+    // The table is one of the four that a container may have at its root.
     requires { is_some (schema_word (table_of shaped.now)) ≡ true }
+    // On Ok, the text is the dump text of the value at the root.
     ensures { IfOk result
         (λ text. text ≡ dump_text (table_of shaped.now) (shaped_value shaped.now)) }
 {
@@ -89,8 +93,9 @@ fn counted_dump(alloc: Global, shaped: &Shaped<'_>) -> Result<Text, AllocError>
 
 /// How many bytes the text of a payload has.
 fn dump_len(alloc: Global, shaped: &Shaped<'_>) -> Result<usize, AllocError>
-    // The table is one of the four that a root may have.
+    // The table is one of the four that a container may have at its root.
     requires { is_some (schema_word (table_of shaped.now)) ≡ true }
+    // On Ok, the result is the length of the dump text.
     ensures { IfOk result
         (λ len. len ≡ length (dump_text (table_of shaped.now) (shaped_value shaped.now))) }
 {
@@ -102,8 +107,9 @@ fn dump_len(alloc: Global, shaped: &Shaped<'_>) -> Result<usize, AllocError>
 /// Puts the text of a payload into an output: the line of the schema, and then the lines of the
 /// root.
 fn write_dump<O: BlobOut>(out: &mut O, shaped: &Shaped<'_>) -> Result<(), AllocError>
-    // The table is one of the four that a root may have.
+    // The table is one of the four that a container may have at its root.
     requires { is_some (schema_word (table_of shaped.now)) ≡ true }
+    // On Ok, exactly the dump text is written.
     ensures { OnOk result (Puts (O.holds (payload_of (adb_of shaped.now))) out.old out.new
         (dump_text (table_of shaped.now) (shaped_value shaped.now))) }
 {
@@ -121,8 +127,9 @@ fn write_dump<O: BlobOut>(out: &mut O, shaped: &Shaped<'_>) -> Result<(), AllocE
 
 /// Writes the first line of a text, with the schema of its root.
 fn write_schema<O: Out>(out: &mut O, which: Which) -> Result<(), AllocError>
-    // The table is one of the four that a root may have.
+    // The table is one of the four that a container may have at its root.
     requires { is_some (schema_word which) ≡ true }
+    // On Ok, exactly the line of the schema is written, with its line end.
     ensures { OnOk result (PutsForAnyPayload O.holds out.old out.new
         (schema_line (schema_word which) ++ codes "\n")) }
 {
@@ -138,7 +145,8 @@ fn write_schema<O: Out>(out: &mut O, which: Which) -> Result<(), AllocError>
     }
 }
 
-/// Writes the lines of the value of a word that is not Null.
+/// Writes the lines of the value of this kind to which `word` refers in the payload of `adb`; it is
+/// not Null. `start` says how deep its lines are, and whether the first one is already begun.
 #[cycle(block)]
 #[tactic(auto, using(adb_view::proofs::WalkSteps::table_rank, crate::proofs::BlockLines::int_lines, crate::proofs::BlockLines::text_lines, crate::proofs::BlockLines::hash_lines, crate::proofs::BlockLines::texts_lines, crate::proofs::BlockLines::objects_lines, crate::proofs::BlockLines::object_lines))]
 #[inline(always)]
@@ -149,12 +157,13 @@ fn write_block<O: BlobOut>(
     word: Val,
     start: LineStart,
 ) -> Result<(), AllocError>
-    // The word has a plain value of its kind.
+    // The word refers to a value of this kind, or is NULL.
     requires sound { is_sound (payload_of adb) kind word ≡ true }
     // The value is not Null.
     requires some { is_null (value_at (payload_of adb) kind word) ≡ false }
-    // No value is so deep that its lines exceed the greatest depth.
+    // No line of the value is deeper than the limit, 100 levels, so no depth overflows.
     requires deep { start.depth + rank kind ≤ DEPTH_LIMIT }
+    // On Ok, exactly the lines of the value are written.
     ensures { OnOk result (Puts (O.holds (payload_of adb.entry)) out.old out.new
         (indented_lines_text start.depth start.begun
         (block_lines (shape_of kind) (value_at (payload_of adb.entry) kind word)))) }
@@ -176,7 +185,8 @@ fn write_block<O: BlobOut>(
     }
 }
 
-/// Puts the entries of an array, each after a dash.
+/// Writes the entries of an array, each after a dash. `words` are the words of the entries, which
+/// have the kind `kind`; `start` says how the first line starts.
 #[cycle(block)]
 #[tactic(auto, using(crate::proofs::Turns::entry_here, crate::proofs::Turns::entries_later, crate::proofs::Turns::entry_turn, crate::proofs::Turns::entries_end))]
 fn write_entries<O: BlobOut>(
@@ -186,15 +196,17 @@ fn write_entries<O: BlobOut>(
     words: Arr<'_>,
     start: LineStart,
 ) -> Result<(), AllocError>
-    // Each word has a plain value of its kind.
+    // Each word refers to a value of this kind, or is NULL.
     requires sound { are_all_sound (payload_of adb) kind (array_entries words) ≡ true }
-    // No value is so deep that its lines exceed the greatest depth.
+    // No line of the value is deeper than the limit, 100 levels, so no depth overflows.
     requires deep { start.depth + rank kind < DEPTH_LIMIT }
+    // On Ok, exactly the lines of the array are written.
     ensures { OnOk result (Puts (O.holds (payload_of adb.entry)) out.old out.new
         (indented_lines_text start.depth start.begun
         (array_lines (block_lines (shape_of kind))
         (values_at (payload_of adb.entry) kind (array_entries words.entry))))) }
 {
+        // Only the first line may be begun already.
     let mut begun = start.begun;
     for i in 0..words.len() {
         write_dash(out, start.depth, begun)?;
@@ -205,7 +217,7 @@ fn write_entries<O: BlobOut>(
 }
 
 /// Writes the lines of an entry of an array, after its dash; an entry that is Null has the line
-/// `null`.
+/// `null`. `word` is the word of the entry, and `depth` the depth of its lines.
 #[cycle(block)]
 #[tactic(auto, using(crate::proofs::Turns::null_entry, crate::proofs::Turns::some_entry))]
 fn write_entry<O: BlobOut>(
@@ -215,10 +227,11 @@ fn write_entry<O: BlobOut>(
     word: Val,
     depth: u32,
 ) -> Result<(), AllocError>
-    // The word has a plain value of its kind.
+    // The word refers to a value of this kind, or is NULL.
     requires sound { is_sound (payload_of adb) kind word ≡ true }
-    // No value is so deep that its lines exceed the greatest depth.
+    // No line of the value is deeper than the limit, 100 levels, so no depth overflows.
     requires deep { depth + rank kind ≤ DEPTH_LIMIT }
+    // On Ok, exactly the lines of the entry are written; its first line is already begun.
     ensures { OnOk result (Puts (O.holds (payload_of adb.entry)) out.old out.new
         (indented_lines_text depth true
         (entry_lines_or_null_line (value_at (payload_of adb.entry) kind word)
@@ -233,8 +246,8 @@ fn write_entry<O: BlobOut>(
     write_block(out, adb, kind, word, LineStart { depth, begun: true })
 }
 
-/// Writes the lines of an entry that is an object. Whether the object is Null is known only after
-/// its fields: if none was written, the line is `null`.
+/// Writes the lines of an entry that is an object of the table `which`. Whether the object is Null
+/// is known only after its fields: if no field was written, the line is `null`.
 #[cycle(block)]
 fn write_object_entry<O: BlobOut>(
     out: &mut O,
@@ -243,10 +256,11 @@ fn write_object_entry<O: BlobOut>(
     word: Val,
     depth: u32,
 ) -> Result<(), AllocError>
-    // The word has a plain value of its kind.
+    // The word refers to an object of this table, or is NULL.
     requires sound { is_sound (payload_of adb) (Kinds.Obj which) word ≡ true }
-    // No value is so deep that its lines exceed the greatest depth.
+    // No line of the value is deeper than the limit, 100 levels, so no depth overflows.
     requires deep { depth + rank (Kinds.Obj which) ≤ DEPTH_LIMIT }
+    // On Ok, exactly the lines of the entry are written; its first line is already begun.
     ensures { OnOk result (Puts (O.holds (payload_of adb.entry)) out.old out.new
         (indented_lines_text depth true
         (entry_lines_or_null_line (value_at (payload_of adb.entry) (Kinds.Obj which) word)
@@ -261,8 +275,9 @@ fn write_object_entry<O: BlobOut>(
     Ok(())
 }
 
-/// Writes the fields of an object that are not Null, and returns whether all of them are. Words
-/// past the object's fields are ignored.
+/// Writes the fields of an object that are not Null, and returns whether all fields are Null.
+/// `words` are the words of the object; words past its fields are ignored. `start` says how the
+/// first line starts.
 #[cycle(block)]
 #[tactic(auto, using(adb_view::proofs::WalkSteps::field_rank, crate::proofs::Left::field_here, crate::proofs::Left::fields_later, crate::proofs::Turns::field_turn, crate::proofs::Turns::null_turn, crate::proofs::Turns::words_end, crate::proofs::Turns::fields_end))]
 pub(crate) fn write_fields<O: BlobOut>(
@@ -272,19 +287,20 @@ pub(crate) fn write_fields<O: BlobOut>(
     words: Arr<'_>,
     start: LineStart,
 ) -> Result<bool, AllocError>
-    // Each word has a plain value of its kind.
+    // Each word refers to a value of the kind of its field, or is NULL.
     requires sound { fields_sound (payload_of adb) fields.now (array_entries words) ≡ true }
-    // No value is so deep that its lines exceed the greatest depth.
+    // No line of the value is deeper than the limit, 100 levels, so no depth overflows.
     requires deep { start.depth + rank_of_all fields.now < DEPTH_LIMIT }
-    // On Ok, the result says whether all these values are Null.
+    // On Ok, the result says whether the values of all fields are Null.
     ensures null { IfOk result (λ null. null
         ≡ are_null (fields_at (payload_of adb.entry) fields.now (array_entries words.entry))) }
-    // On Ok, exactly the lines of the value are written.
+    // On Ok, exactly the lines of the fields that are not Null are written.
     ensures put { IfOk result (λ _. Puts (O.holds (payload_of adb.entry)) out.old out.new
         (indented_lines_text start.depth start.begun
         (fields_lines (shapes_of fields.now)
         (fields_at (payload_of adb.entry) fields.now (array_entries words.entry))))) }
 {
+        // Only the first line may be begun already.
     let mut begun = start.begun;
     let mut all_null = true;
     for (i, field) in fields.iter().enumerate() {
@@ -303,7 +319,8 @@ pub(crate) fn write_fields<O: BlobOut>(
     Ok(all_null)
 }
 
-/// Writes the lines of a field, and returns whether its value is Null: then it has no lines.
+/// Writes the lines of a field, and returns whether its value is Null. A field whose value is Null
+/// has no lines.
 #[cycle(block)]
 fn write_field<O: BlobOut>(
     out: &mut O,
@@ -312,14 +329,14 @@ fn write_field<O: BlobOut>(
     word: Val,
     start: LineStart,
 ) -> Result<bool, AllocError>
-    // The word has a plain value of its kind.
+    // The word refers to a value of the field's kind, or is NULL.
     requires sound { is_sound (payload_of adb) field.kind word ≡ true }
-    // No value is so deep that its lines exceed the greatest depth.
+    // No line of the value is deeper than the limit, 100 levels, so no depth overflows.
     requires deep { start.depth + rank field.kind < DEPTH_LIMIT }
     // On Ok, the result says whether the value is Null.
     ensures null { IfOk result (λ null. null
         ≡ is_null (value_at (payload_of adb.entry) field.kind word)) }
-    // On Ok, exactly the lines of the value are written.
+    // On Ok, exactly the lines of the field are written: none if its value is Null.
     ensures put { IfOk result (λ _. Puts (O.holds (payload_of adb.entry)) out.old out.new
         (indented_lines_text start.depth start.begun
         (field_lines_unless_null (value_at (payload_of adb.entry) field.kind word)
@@ -337,8 +354,8 @@ fn write_field<O: BlobOut>(
     Ok(false)
 }
 
-/// Writes the line of a field with a text, and returns whether its value is Null: then it has no
-/// line. Most fields are texts, so the text is read only once.
+/// Writes the line of a field with a text, and returns whether its value is Null; then the field
+/// has no line. Most fields are texts, so here the text is read only once.
 #[inline(always)]
 fn write_text_field<O: BlobOut>(
     out: &mut O,
@@ -352,7 +369,7 @@ fn write_text_field<O: BlobOut>(
     // On Ok, the result says whether the value is Null.
     ensures null { IfOk result (λ null. null
         ≡ is_null (value_at (payload_of adb.entry) Kinds.Text word)) }
-    // On Ok, exactly the lines of the value are written.
+    // On Ok, exactly the lines of the field are written: none if its value is Null.
     ensures put { IfOk result (λ _. Puts (O.holds (payload_of adb.entry)) out.old out.new
         (indented_lines_text start.depth start.begun
         (field_lines_unless_null (value_at (payload_of adb.entry) Kinds.Text word)
@@ -364,13 +381,15 @@ fn write_text_field<O: BlobOut>(
         // An empty text is Null, and has no line.
         return Ok(true);
     }
+    // The value is on the line that the name has begun.
     let LineStart { depth, .. } = start;
     write_name(out, start, name)?;
     write_text_line(out, LineStart { depth, begun: true }, adb, word, text)?;
     Ok(false)
 }
 
-/// Writes the lines of a field whose value is not Null: after its name, or below it.
+/// Writes the lines of a field whose value is not Null: the value follows the name on its line, or
+/// is below it, one level deeper.
 #[cycle(block)]
 #[tactic(auto, using(crate::proofs::Turns::field_after, crate::proofs::Turns::fields_read_with_value_below))]
 #[inline(always)]
@@ -381,12 +400,13 @@ fn write_named<O: BlobOut>(
     word: Val,
     start: LineStart,
 ) -> Result<(), AllocError>
-    // The word has a plain value of its kind.
+    // The word refers to a value of the field's kind, or is NULL.
     requires sound { is_sound (payload_of adb) field.kind word ≡ true }
     // The value is not Null.
     requires some { is_null (value_at (payload_of adb) field.kind word) ≡ false }
-    // No value is so deep that its lines exceed the greatest depth.
+    // No line of the value is deeper than the limit, 100 levels, so no depth overflows.
     requires deep { start.depth + rank field.kind < DEPTH_LIMIT }
+    // On Ok, exactly the lines of the field are written.
     ensures { OnOk result (Puts (O.holds (payload_of adb.entry)) out.old out.new
         (indented_lines_text start.depth start.begun
         (named_lines (shape_of field.kind) (field_name_text field.name)
@@ -411,7 +431,7 @@ fn write_named<O: BlobOut>(
     }
 }
 
-/// Whether a value of the kind is on the line of its field's name, and not below it.
+/// Whether a value of the kind is on the same line as its field's name, and not below this line.
 pub fn has_one_line(kind: Kind) -> bool
     ensures { result ≡ has_one_line kind }
 {

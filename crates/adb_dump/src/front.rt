@@ -1,9 +1,9 @@
-//! The front of a line, before its value, and after the spaces of eight levels. A line of depth
-//! eight or less begins with a suffix of a front, which has its own spaces, and is written by one
-//! call. For a deeper line the spaces are written first, level by level. The rule is in
-//! `docs/formats.md`, "Dump text": two spaces for each level, `name: ` before a value, `- ` before
-//! an entry; the names are those of "Schemas". The eight levels in each front only save time. In
-//! the clauses 8 is `FRONT_LEVELS`.
+//! The fronts of lines: what precedes a value on its line, after the spaces of eight levels. A line
+//! of depth eight or less begins with a suffix of a front, which has as many spaces as the line
+//! needs, and is written by one call. For a deeper line the spaces are written first, level by
+//! level. The rule is in `docs/formats.md`, "Dump text": two spaces for each level, `name: ` before
+//! a value, `- ` before an entry; the names are those of "Schemas". The eight levels in each front
+//! only save time. In the clauses 8 is `FRONT_LEVELS`.
 
 ghost use Rattle.std.specs.Prelude.{◌≡◌, ◌++◌, codes};
 ghost use Rattle.adb_dump.specs.Margin.{margin};
@@ -18,21 +18,22 @@ pub(crate) const FRONT_LEVELS: u32 = 8;
 /// How many spaces each front has: two for each level.
 pub(crate) const FRONT_LEN: usize = 16;
 
-/// The front of a line that has only spaces before its value.
+/// The front of a line that has only spaces before its value: sixteen spaces.
 pub(crate) fn blank_front() -> &'static [u8]
     ensures { result.now ≡ margin 8 }
 {
     b"                "
 }
 
-/// The front of an entry of an array: a dash and a space.
+/// The front of an entry of an array: sixteen spaces, a dash and a space.
 pub(crate) fn dash_front() -> &'static [u8]
     ensures { result.now ≡ margin 8 ++ codes "- " }
 {
     b"                - "
 }
 
-/// The front of a field whose value is on its line: the field's name, a colon and a space.
+/// The front of a field whose value is on its line: sixteen spaces, the field's name, a colon and a
+/// space.
 pub(crate) fn name_front(name: FieldName) -> &'static [u8]
     ensures { result.now ≡ margin 8 ++ field_name_text name ++ codes ": " }
 {
@@ -45,6 +46,7 @@ pub(crate) fn name_front(name: FieldName) -> &'static [u8]
         FieldName::Group => b"                group: ",
         FieldName::Xattrs => b"                xattrs: ",
         FieldName::Hashes => b"                hashes: ",
+        // Sixteen spaces, the name of the field, a colon and a space.
         FieldName::Description => b"                description: ",
         FieldName::Arch => b"                arch: ",
         FieldName::License => b"                license: ",
@@ -52,6 +54,7 @@ pub(crate) fn name_front(name: FieldName) -> &'static [u8]
         FieldName::Maintainer => b"                maintainer: ",
         FieldName::Url => b"                url: ",
         FieldName::RepoCommit => b"                repo-commit: ",
+        // Sixteen spaces, the name of the field, a colon and a space.
         FieldName::BuildTime => b"                build-time: ",
         FieldName::InstalledSize => b"                installed-size: ",
         FieldName::FileSize => b"                file-size: ",
@@ -59,6 +62,7 @@ pub(crate) fn name_front(name: FieldName) -> &'static [u8]
         FieldName::Depends => b"                depends: ",
         FieldName::Provides => b"                provides: ",
         FieldName::Replaces => b"                replaces: ",
+        // Sixteen spaces, the name of the field, a colon and a space.
         FieldName::InstallIf => b"                install-if: ",
         FieldName::Recommends => b"                recommends: ",
         FieldName::Layer => b"                layer: ",
@@ -66,6 +70,7 @@ pub(crate) fn name_front(name: FieldName) -> &'static [u8]
         FieldName::Unused => b"                unused: ",
         FieldName::Acl => b"                acl: ",
         FieldName::Size => b"                size: ",
+        // Sixteen spaces, the name of the field, a colon and a space.
         FieldName::Mtime => b"                mtime: ",
         FieldName::Target => b"                target: ",
         FieldName::Files => b"                files: ",
@@ -73,12 +78,14 @@ pub(crate) fn name_front(name: FieldName) -> &'static [u8]
         FieldName::PreInstall => b"                pre-install: ",
         FieldName::PostInstall => b"                post-install: ",
         FieldName::PreDeinstall => b"                pre-deinstall: ",
+        // Sixteen spaces, the name of the field, a colon and a space.
         FieldName::PostDeinstall => b"                post-deinstall: ",
         FieldName::PreUpgrade => b"                pre-upgrade: ",
         FieldName::PostUpgrade => b"                post-upgrade: ",
         FieldName::Info => b"                info: ",
         FieldName::Paths => b"                paths: ",
         FieldName::Scripts => b"                scripts: ",
+        // Sixteen spaces, the name of the field, a colon and a space.
         FieldName::Triggers => b"                triggers: ",
         FieldName::ReplacesPriority => b"                replaces-priority: ",
         FieldName::Packages => b"                packages: ",

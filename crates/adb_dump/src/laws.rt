@@ -13,29 +13,30 @@ ghost use Rattle.adb_dump.specs.Values.{IsOfBytes, IsNormalValueOfTable};
 
 use adb_view::{values_are_normal, values_have_their_shape};
 
-/// Two normal values of one table with the same text are equal.
+/// A law: two normal values of one table that have the same dump text are equal.
 pub fn values_of_one_text_are_equal()
     ensures { (which : Which) (v u : Plain)
         → IsNormalValueOfTable which v → IsOfBytes v → IsNormalValueOfTable which u → IsOfBytes u
         → dump_text which v ≡ dump_text which u → v ≡ u }
 {}
 
-/// The lines of each normal value of a table are read back as the value.
+/// A law: the lines of each normal value of a table are read back as this value.
 pub fn lines_of_values_are_read_back()
     ensures { (which : Which) (v : Plain) → IsNormalValueOfTable which v → IsOfBytes v
         → value_read which (value_lines which v) ≡ Ok v }
 {}
 
-/// Only the lines of normal values of the table are read.
+/// A law: if lines are read as a value of a table, this value is a normal one of the table, and the
+/// lines are those of this value.
 pub fn only_lines_of_values_are_read()
     ensures { (which : Which) (ls : List Line) (v : Plain) → value_read which ls ≡ Ok v
         → (value_lines which v ≡ ls) × IsNormalValueOfTable which v }
 {}
 
-/// The text of a normal value is split into exactly its lines, and the lines that a text is split
-/// into make up that text.
+/// A law: the text of a normal value is split into exactly its lines, and the lines that a text is
+/// split into make up that text.
 pub fn texts_are_split_into_their_lines()
-    // A text of a normal value is split into its lines.
+    // The text of a normal value is split into the lines of this value.
     ensures split { (which : Which) (v : Plain) → IsNormal v
         → lines_of_text_if_all_ended (dump_text which v) ≡ Some (dump_lines which v) }
     // The lines into which a text is split make up the text.
@@ -43,9 +44,9 @@ pub fn texts_are_split_into_their_lines()
         → dump_text_of_lines ls ≡ text }
 {}
 
-/// Each plain value that is read from bytes, as an object of a table, is a normal value of that
-/// table and of bytes. So two payloads that are walked as one table and have the same text have the
-/// same value.
+/// A law: each plain value that is read from bytes, as an object of a table, is a normal value of
+/// that table, and its blobs are bytes. So two payloads that have the same table and the same text
+/// have the same value.
 pub fn values_found_in_bytes_are_of_their_table()
     ensures { (payload : List ℕ) → All (λ b. b < 256) payload → (which : Which) (word : ℕ)
         → IfSome (plain_of payload (shape_of (Kinds.Obj which)) word)

@@ -1,19 +1,20 @@
 //! The text of a container's values, for a person to read and for a program to read back.
 //!
-//! From a walked payload the crate writes its text: `#%SCHEMA: ` and the schema in eight
-//! hexadecimal digits, and then the fields of the root that are not Null, in the order of their
-//! table (apk-v3(5)).
+//! Of a payload with a known shape (`Shaped`) the crate writes the text: `#%SCHEMA: ` and the
+//! schema in eight hexadecimal digits, and then the fields of the root that are not Null, in the
+//! order of their table (apk-v3(5)).
 //!
 //! - `name: ` precedes an integer in decimal digits, a hash in hexadecimal digits, or a text.
 //! - An object and an array are below `name:`, two spaces deeper. Each entry of an array is after
 //!   `- `, and a Null entry is `- null`.
-//! - A text is written as it is if that is plain, and else between quotes with the escapes `\n`,
+//! - A text is written as it is if it needs no quotes, and else between quotes with the escapes
+//! `\n`,
 //!   `\\`, `\"` and `\x`.
 //!
 //! So a text is that of exactly one value.
 //!
 //! The values are read in place, and the text is written from front to end, into memory for four
-//! times the payload's bytes. If that does not suffice it is written twice: first its bytes are
+//! times the payload's bytes. A longer text is written twice: first its bytes are
 //! counted, for which each long text is read once, and then it is written into memory of that size.
 //! The contracts cite `Dump` (the lines of a value, and the text), `Values` (the values that a text
 //! can represent) and `ReadBack` (the value of lines) of `specs/`; `Words`, `Margin` and `Out`

@@ -1,6 +1,6 @@
-//! Lines: their fronts, names of fields, and values on one line. The rules are in
-//! `docs/formats.md`, "Dump text": the table, and the paragraph on texts as they are or between
-//! quotes.
+//! Lines: what precedes a value on its line (the front), and values on one line. `block.rt` calls
+//! these functions for each line. The rules are in `docs/formats.md`, "Dump text": the table, and
+//! the paragraph on texts as they are or between quotes.
 
 ghost use Rattle.std.specs.Prelude.{◌≡◌, ◌+◌, ◌≤◌, [], ◌∷◌, ◌++◌, OnOk, codes, drop, length};
 ghost use Rattle.std.specs.Fmt.{decimal};
@@ -31,6 +31,7 @@ pub(crate) fn write_number_line<O: Out>(
     start: LineStart,
     number: u64,
 ) -> Result<(), AllocError>
+    // On Ok, one line is put, with its line end, without its margin if the line is already begun.
     ensures { OnOk result (PutsForAnyPayload O.holds out.old out.new
         (indented_lines_text start.depth start.begun (decimal number ∷ []))) }
 {
@@ -40,7 +41,7 @@ pub(crate) fn write_number_line<O: Out>(
     Ok(())
 }
 
-/// Writes the line of a text, which is that of the word.
+/// Writes the line of `text`, which is the text of the word.
 #[inline(always)]
 pub(crate) fn write_text_line<O: BlobOut>(
     out: &mut O,
@@ -51,6 +52,7 @@ pub(crate) fn write_text_line<O: BlobOut>(
 ) -> Result<(), AllocError>
     // These bytes are the text of the word.
     requires { text.now ≡ text_in (value_at (payload_of adb) Kinds.Text word) }
+    // On Ok, one line is put, with its line end, without its margin if the line is already begun.
     ensures { OnOk result (Puts (O.holds (payload_of adb.entry)) out.old out.new
         (indented_lines_text start.depth start.begun (bare_or_quoted_text text.now ∷ []))) }
 {
@@ -60,12 +62,13 @@ pub(crate) fn write_text_line<O: BlobOut>(
     Ok(())
 }
 
-/// Puts the line of a hash.
+/// Puts the line of a hash, in hexadecimal digits.
 pub(crate) fn write_hash_line<O: BlobOut>(
     out: &mut O,
     start: LineStart,
     hash: &[u8],
 ) -> Result<(), AllocError>
+    // On Ok, one line is put, with its line end, without its margin if the line is already begun.
     ensures { OnOk result (PutsForAnyPayload O.holds out.old out.new
         (indented_lines_text start.depth start.begun (encode_lower hash.now ∷ []))) }
 {
@@ -99,7 +102,7 @@ pub(crate) fn write_hex<O: Out>(out: &mut O, bytes: &[u8]) -> Result<(), AllocEr
 
 /// The digits of as many bytes as a SHA-256 has, two for each.
 fn hash_digits(hash: &[u8]) -> [u8; 2 * HASH_LEN]
-    // As many as `HASH_LEN`.
+    // The hash has as many bytes as a SHA-256 (`HASH_LEN`).
     requires { length hash.now ≡ 32 }
     ensures { result ≡ encode_lower hash.now }
 {
@@ -117,9 +120,10 @@ fn hex_digits(byte: u8) -> [u8; 2]
     digits
 }
 
-/// Writes a text as it is if it is bare, else between quotes.
+/// Writes a text as it is if it needs no quotes, else between quotes.
 #[inline(always)]
 pub(crate) fn write_text<O: Out>(out: &mut O, text: &[u8]) -> Result<(), AllocError>
+    // On Ok, exactly the text is written, with quotes if it needs them.
     ensures { OnOk result (PutsForAnyPayload O.holds out.old out.new
         (bare_or_quoted_text text.now)) }
 {
@@ -204,11 +208,11 @@ fn ends_with_byte(byte: u8, text: &[u8]) -> bool
 }
 
 /// How many bytes of a long text are tested at once. The compiler tests a constant number of bytes
-/// (this one, a half or a quarter of it) in a few steps.
+/// (16, 8 or 4) in a few steps.
 const WINDOW_LEN: usize = 16;
 
-/// Whether every byte of a text is printable. Bytes in two windows are tested twice, which is
-/// faster than testing a rest shorter than a window byte by byte.
+/// Whether every byte of a text is printable. A long text is tested in windows of 16 bytes. Windows
+/// may overlap, which is faster than testing the rest of the text byte by byte.
 fn is_printable(text: &[u8]) -> bool
     ensures { result ≡ list_all is_printable text.now }
 {
@@ -225,13 +229,14 @@ fn is_printable(text: &[u8]) -> bool
     is_window_printable(text)
 }
 
-/// Whether every byte of a text is printable that is at least as long as a window. It is tested
-/// window by window, and the last one ends with the text.
+/// Whether every byte of a text of at least 16 bytes is printable. The text is tested window by
+/// window, and the last window ends with the text.
 fn is_long_printable(text: &[u8]) -> bool
-    // As many as `WINDOW_LEN`.
+    // The text is at least as long as a window (`WINDOW_LEN`).
     requires { 16 ≤ length text.now }
     ensures { result ≡ list_all is_printable text.now }
 {
+    // The index at which the last window begins.
     let last = text.len() - WINDOW_LEN;
     let mut at = 0;
     while at < last {
@@ -243,19 +248,23 @@ fn is_long_printable(text: &[u8]) -> bool
     is_window_printable(&text[last..last + WINDOW_LEN])
 }
 
-/// Whether every byte of a text is printable that consists of its first and last `len` bytes.
+/// Whether every byte of a text is printable, by its first `len` bytes and its last `len` bytes,
+/// which together are all of its bytes.
 #[inline(always)]
 fn are_ends_printable(text: &[u8], len: usize) -> bool
+    // The text has at least `len` bytes.
     requires within { len ≤ length text.now }
+    // The text has at most twice `len` bytes.
     requires all { length text.now ≤ len + len }
     ensures { result ≡ list_all is_printable text.now }
 {
+    // The index at which the last `len` bytes begin.
     let last = text.len() - len;
     is_window_printable(&text[..len]) & is_window_printable(&text[last..last + len])
 }
 
-/// Whether every byte of a window is printable. It never returns early, so the compiler can test
-/// all bytes at once if it knows their number.
+/// Whether every byte of a window (a part of a text) is printable. The loop never ends early, so
+/// the compiler can test all bytes at once if it knows their number.
 #[inline(always)]
 #[tactic(auto, using(crate::proofs::Pieces::printable_next, crate::proofs::Pieces::printable_over))]
 fn is_window_printable(window: &[u8]) -> bool
@@ -275,12 +284,12 @@ fn is_printable_byte(byte: u8) -> bool
     byte >= 0x20 && byte <= 0x7e
 }
 
-/// The start of the next line.
+/// How the next line starts: how deep it is, and whether it is already begun.
 #[derive(Clone, Copy)]
 pub(crate) struct LineStart {
     /// The depth of the line, in levels of two spaces.
     pub(crate) depth: u32,
-    /// Whether the front of the line is already written.
+    /// Whether the line is already begun: its spaces, and a dash or a field's name, are written.
     pub(crate) begun: bool,
 }
 
@@ -293,19 +302,21 @@ impl LineStart {
     }
 }
 
-/// Writes the missing spaces of the next line, and then the part of a front after its eight levels
-/// of spaces: both at once, unless the line is deeper.
+/// Writes the missing spaces of the next line, and then what `front` has after its sixteen spaces.
+/// Both are written by one call, unless the line is deeper than eight levels.
 #[inline(always)]
 fn write_front<O: Out>(out: &mut O, start: LineStart, front: &[u8]) -> Result<(), AllocError>
-    // Eight levels (`FRONT_LEVELS`) are sixteen spaces (`FRONT_LEN`).
+    // The front begins with eight levels (`FRONT_LEVELS`), which are sixteen spaces (`FRONT_LEN`).
     requires spaces { front.now ≡ margin 8 ++ drop 16 front.now }
+    // The front has at least these spaces.
     requires len { 16 ≤ length front.now }
+    // On Ok, the missing spaces are written, and what the front has after its sixteen spaces.
     ensures { OnOk result (PutsForAnyPayload O.holds out.old out.new
         (margin_unless_begun start.depth start.begun ++ drop 16 front.now)) }
 {
     let levels = start.levels();
     if levels <= FRONT_LEVELS {
-        // The end of the front that has as many spaces as the line.
+        // Of the sixteen spaces only as many are written as the line still needs.
         return out.put(&front[FRONT_LEN - 2 * levels as usize..]);
     }
     write_levels(out, levels)?;
@@ -325,36 +336,39 @@ fn write_levels<O: Out>(out: &mut O, levels: u32) -> Result<(), AllocError>
     Ok(())
 }
 
-/// Writes the missing spaces before an entry of an array, and its dash and a space.
+/// Writes the missing spaces before an entry of an array, and then a dash and a space.
 #[inline(always)]
 pub(crate) fn write_dash<O: Out>(out: &mut O, depth: u32, begun: bool) -> Result<(), AllocError>
+    // On Ok, exactly the missing spaces, the dash and a space are written.
     ensures { OnOk result (PutsForAnyPayload O.holds out.old out.new
         (margin_unless_begun depth begun ++ codes "- ")) }
 {
     write_front(out, LineStart { depth, begun }, dash_front())
 }
 
-/// Writes the missing spaces before a field, its name, a colon and a space: its value follows on
-/// the line.
+/// Writes the missing spaces before a field, the field's name, a colon and a space. The value of
+/// the field follows on this line.
 #[inline(always)]
 pub(crate) fn write_name<O: Out>(
     out: &mut O,
     start: LineStart,
     name: FieldName,
 ) -> Result<(), AllocError>
+    // On Ok, exactly the missing spaces, the name, the colon and the space are written.
     ensures { OnOk result (PutsForAnyPayload O.holds out.old out.new
         (margin_unless_begun start.depth start.begun ++ field_name_text name ++ codes ": ")) }
 {
     write_front(out, start, name_front(name))
 }
 
-/// Writes the missing spaces before a field, its name, a colon and a line end: its value follows
-/// below.
+/// Writes the missing spaces before a field, the field's name, a colon and a line end. The value of
+/// the field follows below this line.
 pub(crate) fn write_name_line<O: Out>(
     out: &mut O,
     start: LineStart,
     name: FieldName,
 ) -> Result<(), AllocError>
+    // On Ok, exactly the missing spaces, the name, the colon and the line end are written.
     ensures { OnOk result (PutsForAnyPayload O.holds out.old out.new
         (margin_unless_begun start.depth start.begun ++ field_name_text name ++ codes ":\n")) }
 {
@@ -364,8 +378,9 @@ pub(crate) fn write_name_line<O: Out>(
     Ok(())
 }
 
-/// Writes the missing front of the next line: its spaces, or nothing if the line has begun.
+/// Writes the spaces before the next line, or nothing if the line is already begun.
 fn write_lead<O: Out>(out: &mut O, start: LineStart) -> Result<(), AllocError>
+    // On Ok, exactly the missing spaces are written.
     ensures { OnOk result (PutsForAnyPayload O.holds out.old out.new
         (margin_unless_begun start.depth start.begun)) }
 {

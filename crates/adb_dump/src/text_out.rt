@@ -1,6 +1,7 @@
-//! The outputs of a text: its bytes, or only their count. The README of this crate says when a text
-//! is counted first; no document has a rule for it. The contracts are those of `Out` and `BlobOut`.
-//! The form of a text or a hash in its line is defined in `docs/formats.md`, "Dump text".
+//! The outputs to which `block.rt` and `line.rt` write a text: its bytes, or only their count. The
+//! README of this crate says when a text is counted first; no document has a rule for it. The
+//! contracts are those of `Out` and `BlobOut`. The form of a text or a hash in its line is defined
+//! in `docs/formats.md`, "Dump text".
 
 ghost use Rattle.std.specs.Prelude.{◌≡◌, ℕ, ◌+◌, ◌-◌, List, [], ◌∷◌, IfOk, OnOk, length};
 ghost use Rattle.std.specs.Vec.{vec_capacity};
@@ -18,38 +19,43 @@ use adb_view::{Adb, Val};
 use std::alloc::{AllocError, Global};
 use std::collections::BTreeMap;
 
-/// The longest text whose length in a line is counted wherever it occurs, so that it takes no
-/// memory. Any number is correct; with a greater one counting takes more time, with a smaller one
-/// more memory.
+/// The most bytes of a text whose length in a line is counted wherever it occurs; that of a longer
+/// text is remembered. Any number is correct; with a greater number counting takes more time, with
+/// a smaller one more memory.
 const SHORT: usize = 64;
 
 /// An output, to which bytes are appended.
 pub(crate) trait Out {
     ghost use Rattle.std.specs.Prelude.{ℕ, List};
 
-    /// Whether exactly these bytes were written, if texts are those of the payload.
+    /// `holds payload out bytes`: exactly `bytes` were written to `out`, if texts are those of this
+    /// payload.
     ghost holds: { List ℕ → Self → List ℕ → Type 0 };
 
     /// Appends bytes.
     fn put(&mut self, bytes: &[u8]) -> Result<(), AllocError>
+        // On Ok, these bytes are added to those that were written.
         ensures { OnOk result (PutsForAnyPayload holds self.old self.new bytes.now) };
 
     /// Appends a byte.
     fn put_byte(&mut self, byte: u8) -> Result<(), AllocError>
+        // On Ok, this byte is added to those that were written.
         ensures { OnOk result (PutsForAnyPayload holds self.old self.new (byte ∷ [])) };
 }
 
-/// An output for the blobs of a payload, in their form in lines.
+/// An output for texts and hashes of a payload, as they are written in a line.
 pub(crate) trait BlobOut: Out {
-    /// Appends the text of a word in its form in a line.
+    /// Appends the text of a word as it is written in a line: with quotes if it needs them.
     fn put_text(&mut self, adb: Adb<'_>, word: Val, text: &[u8]) -> Result<(), AllocError>
         // These bytes are the text of the word.
         requires { text.now ≡ text_in (value_at (payload_of adb) Kinds.Text word) }
+        // On Ok, the form of the text in a line is added to what was written.
         ensures { OnOk result (Puts (Self.holds (payload_of adb.entry)) self.old self.new
             (bare_or_quoted_text text.now)) };
 
     /// Puts a hash as it is in a line, in hexadecimal digits.
     fn put_hash(&mut self, hash: &[u8]) -> Result<(), AllocError>
+        // On Ok, two digits for each byte are added to what was written.
         ensures { OnOk result (PutsForAnyPayload Self.holds self.old self.new
             (encode_lower hash.now)) };
 }
@@ -58,6 +64,7 @@ pub(crate) trait BlobOut: Out {
 impl Out for Vec<u8> {
     ghost use Rattle.std.specs.Prelude.{◌≡◌};
 
+    // What was written are the items of the vector.
     ghost holds = { λ _ out bytes. out.items ≡ bytes };
 
     /// Appends bytes; memory grows if there is no room for them.
@@ -73,18 +80,18 @@ impl Out for Vec<u8> {
 }
 
 impl BlobOut for Vec<u8> {
-    // Puts the text as its line has it.
+    // Appends the text as it is written in a line.
     fn put_text(&mut self, _adb: Adb<'_>, _word: Val, text: &[u8]) -> Result<(), AllocError> {
         write_text(self, text)
     }
 
-    // Puts the hash as its line has it.
+    // Appends the hash as it is written in a line.
     fn put_hash(&mut self, hash: &[u8]) -> Result<(), AllocError> {
         write_hex(self, hash)
     }
 }
 
-/// The bytes themselves, in a fixed amount of memory: it never grows.
+/// The bytes themselves, in a fixed amount of memory, which never grows.
 #[derive(Drop)]
 pub(crate) struct Room {
     /// The bytes that were written.
@@ -113,6 +120,7 @@ impl Room {
 impl Out for Room {
     ghost use Rattle.std.specs.Prelude.{◌≡◌};
 
+    // What was written are the bytes of `Room`.
     ghost holds = { λ _ out bytes. out.bytes.items ≡ bytes };
 
     /// Appends bytes, and fails as out of memory if there is no room for them.
@@ -136,13 +144,13 @@ impl Out for Room {
 }
 
 impl BlobOut for Room {
-    // Puts the text as its line has it.
+    // Appends the text as it is written in a line.
     #[inline(always)]
     fn put_text(&mut self, _adb: Adb<'_>, _word: Val, text: &[u8]) -> Result<(), AllocError> {
         write_text(self, text)
     }
 
-    // Puts the hash as its line has it.
+    // Appends the hash as it is written in a line.
     fn put_hash(&mut self, hash: &[u8]) -> Result<(), AllocError> {
         write_hex(self, hash)
     }
@@ -151,7 +159,7 @@ impl BlobOut for Room {
 /// The number of bytes that were written, without the bytes.
 #[derive(Drop)]
 pub(crate) struct Length {
-    /// The count; if it would overflow, the call fails as out of memory.
+    /// The number of bytes; a call that would make it overflow fails as out of memory.
     pub(crate) bytes: usize,
 }
 
@@ -168,6 +176,7 @@ impl Length {
 impl Out for Length {
     ghost use Rattle.std.specs.Prelude.{◌≡◌, length};
 
+    // Only the number of bytes that were written is known.
     ghost holds = { λ _ out bytes. out.bytes ≡ length bytes };
 
     // Counts bytes.
@@ -182,16 +191,16 @@ impl Out for Length {
 }
 
 /// How many bytes are counted before an allocation of that size is tried: 1 GiB. Any number is
-/// correct; it bounds how long a text is counted that no memory can hold.
+/// correct. If the allocation fails, a text that no memory can hold is not counted further.
 const MUCH: usize = 1 << 30;
 
-/// The number of bytes that were written, and the lengths of the long texts in lines, by their
-/// words. Many places may share a text, so a long one is counted once.
+/// The number of bytes that were written, and the lengths of long texts as they are written in
+/// lines, by their words. Many fields may share a text, so the bytes of a long text are read once.
 #[derive(Drop)]
 pub(crate) struct Count {
     /// The number of bytes that were written.
     pub(crate) len: Length,
-    /// The length of a text in its line, by its word.
+    /// The length of each long text as it is written in a line, by the word of the text.
     lens: BTreeMap<u32, usize>,
     /// The allocator.
     alloc: Global,
@@ -204,6 +213,7 @@ impl Count {
 
     /// A count of no bytes.
     pub(crate) fn new(alloc: Global) -> Count
+        // No byte is counted yet.
         ensures none { result.len.bytes ≡ 0 }
         // No length is remembered yet, so that each remembered one is right.
         ensures lens { (payload : List ℕ) → AreLineLengths payload result.lens }
@@ -217,10 +227,12 @@ impl Count {
     }
 
     /// Counts this many more bytes. After a certain count an allocation of that size is tried and
-    /// freed: if it fails, the count need not continue. It is tried again at twice the count.
+    /// freed: if the allocation fails, the count need not continue. The next allocation is tried at
+    /// twice the count.
     fn add(&mut self, bytes: usize) -> Result<(), AllocError>
-        // On Ok, the count of bytes has risen by these.
+        // On Ok, the count has risen by `bytes`.
         ensures len { OnOk result (self.new.len.bytes ≡ self.old.len.bytes + bytes) }
+        // The remembered lengths of texts are unchanged.
         ensures lens { self.new.lens ≡ self.old.lens }
     {
         self.len.add(bytes)?;
@@ -231,15 +243,17 @@ impl Count {
         Ok(())
     }
 
-    /// The length of a word's text in a line. The length is remembered, for each place with the
-    /// word.
+    /// The length of a word's text as it is written in a line. The length is remembered for the
+    /// word, which may occur again.
     fn line_len(&mut self, word: Val, text: &[u8]) -> Result<usize, AllocError>
-        // On Ok, the result is the length of the text's form, if all remembered lengths are right.
+        // On Ok, the result is the length of the text in a line, if the remembered lengths are
+        // right for a payload that has this text for the word.
         ensures len { IfOk result (λ len. (payload : List ℕ)
             → text.now ≡ text_in (value_at payload Kinds.Text word)
             → AreLineLengths payload self.old.lens → len ≡ length (bare_or_quoted_text text.now)) }
-        // The other remembered lengths are right too, if they were.
+        // If the remembered lengths were right for such a payload, they are right after the call.
         ensures kept { KeepLineLengths self.old.lens self.new.lens word text.now }
+        // The text itself is not counted yet.
         ensures put { self.new.len ≡ self.old.len }
     {
         if let Some(len) = self.kept_len(word) {
@@ -258,7 +272,7 @@ impl Count {
     }
 }
 
-/// How long a text is in a line, counted byte by byte.
+/// How many bytes a text has as it is written in a line, counted byte by byte.
 fn line_len(text: &[u8]) -> Result<usize, AllocError>
     ensures { IfOk result (λ len. len ≡ length (bare_or_quoted_text text.now)) }
 {
@@ -271,6 +285,7 @@ impl Out for Count {
     ghost use Rattle.std.specs.Prelude.{◌≡◌, length};
     ghost use Rattle.adb_dump.specs.Out.{AreLineLengths};
 
+    // The number of bytes is right, and so is each remembered length of a text of the payload.
     ghost holds = { λ payload out bytes. (out.len.bytes ≡ length bytes)
         × AreLineLengths payload out.lens };
 
@@ -288,7 +303,7 @@ impl Out for Count {
 }
 
 impl BlobOut for Count {
-    /// Counts a text as its line has it: a short one at each place, a long one once.
+    /// Counts a text as it is written in a line. The bytes of a long text are read only once.
     fn put_text(&mut self, _adb: Adb<'_>, word: Val, text: &[u8]) -> Result<(), AllocError> {
         if text.len() <= SHORT {
             write_text(self, text)?;
@@ -301,7 +316,8 @@ impl BlobOut for Count {
 
     // Counts the digits of a hash.
     fn put_hash(&mut self, hash: &[u8]) -> Result<(), AllocError> {
-        // Two digits for each byte: their number cannot overflow if it is added in two steps.
+        // There are two digits for each byte. They are counted in two steps, so that `2 * len`
+        // cannot overflow.
         self.add(hash.len())?;
         self.add(hash.len())?;
         Ok(())

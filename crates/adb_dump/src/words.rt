@@ -15,12 +15,13 @@ ghost use Rattle.adb_view.specs.declared.tables.Kind.TheVariants as Kinds;
 use adb_schema::{Field, Kind, Which, fields_of, hash_word, objects_word, text_word, texts_word};
 use adb_view::{Adb, Arr, Val, entry_word};
 
-/// The words of an object's entries, those past its fields too; NULL has none.
+/// The words of an object of the table `which`, also those past the fields of the table. For NULL
+/// there are none.
 #[tactic(auto, using(crate::proofs::WordReads::object_value_is, crate::proofs::WordReads::object_sound, adb_fields::proofs::FieldReads::object_runs, adb_fields::proofs::FieldReads::read_ok))]
 pub(crate) fn field_words<'a>(adb: Adb<'a>, which: Which, word: Val) -> Arr<'a>
-    // The word has a plain value of its kind.
+    // The word refers to an object of this table, or is NULL.
     requires { is_sound (payload_of adb) (Kinds.Obj which) word ≡ true }
-    // Each of the words of the object has a plain value of its field's kind.
+    // Each of these words that has a field refers to a value of the kind of this field, or is NULL.
     ensures sound { fields_sound (payload_of adb.entry) (table which) (array_entries result)
         ≡ true }
     // The object's value consists of the values of these words.
@@ -41,7 +42,7 @@ pub(crate) fn field_words<'a>(adb: Adb<'a>, which: Which, word: Val) -> Arr<'a>
 #[tactic(auto, using(adb_view::proofs::WalkSteps::table_rank, crate::proofs::Nulls::text_null, crate::proofs::Nulls::hash_null, crate::proofs::Nulls::arr_null, crate::proofs::Nulls::obj_null))]
 #[inline(always)]
 pub(crate) fn is_null(adb: Adb<'_>, kind: Kind, word: Val) -> bool
-    // The word has a plain value of its kind.
+    // The word refers to a value of this kind, or is NULL.
     requires { is_sound (payload_of adb) kind word ≡ true }
     ensures { result ≡ is_null (value_at (payload_of adb.entry) kind word) }
 {
@@ -55,12 +56,13 @@ pub(crate) fn is_null(adb: Adb<'_>, kind: Kind, word: Val) -> bool
     }
 }
 
-/// Whether each word of an object that has a field is Null.
+/// Whether the value of each field of an object is Null. `words` are the words of the object.
 #[cycle(null)]
 #[tactic(auto, using(adb_view::proofs::WalkSteps::field_rank, crate::proofs::Left::field_here, crate::proofs::Left::fields_later, crate::proofs::Left::null_next, crate::proofs::Left::null_stop, crate::proofs::Left::null_done, crate::proofs::Left::null_over))]
 fn are_null(adb: Adb<'_>, fields: &[Field], words: Arr<'_>) -> bool
-    // Each word of the object has a plain value of its field's kind.
+    // Each word refers to a value of the kind of its field, or is NULL.
     requires { fields_sound (payload_of adb) fields.now (array_entries words) ≡ true }
+    // The result says whether the values of all fields are Null.
     ensures { result
         ≡ are_null (fields_at (payload_of adb.entry) fields.now (array_entries words.entry)) }
 {
@@ -76,10 +78,10 @@ fn are_null(adb: Adb<'_>, fields: &[Field], words: Arr<'_>) -> bool
     true
 }
 
-/// Whether a word is Null as an integer: only NULL is.
+/// Whether the value of a word is Null as an integer: only that of NULL is, and a stored 0 is not.
 #[tactic(auto, using(crate::proofs::Nulls::null_test, crate::proofs::Nulls::int_is_null))]
 fn is_null_int(adb: Adb<'_>, word: Val) -> bool
-    // The word has a plain value of its kind.
+    // The word refers to an integer, or is NULL.
     requires { is_sound (payload_of adb) Kinds.Int word ≡ true }
     ensures { result ≡ is_null (value_at (payload_of adb.entry) Kinds.Int word) }
 {

@@ -7,19 +7,19 @@ use Rattle.base_core.specs.declared.cause.Cause.{Cause}
 use Rattle.base_core.specs.declared.cause.Cause.TheVariants.{BadText}
 use Rattle.adb_schema.specs.Texts.{Leaf, keeps_rule, field_number_of_leaf}
 
--- a number or a text (a leaf) breaks the rule of its field, and none before it does
+-- `c` is the cause for the first of these leaves (numbers and texts) that breaks the rule of its field
 pub record IsFirstBadLeaf (all : List Leaf) (c : Cause) : Type 0 where
-  -- how many leaves precede it
+  -- how many leaves precede the leaf that is reported
   pub i : ℕ
   -- the leaf that breaks its rule
   pub leaf : Leaf
-  -- it is the leaf with the index i
+  -- this leaf has the index i, counted from 0
   pub at : slice_get all i ≡ Some leaf
-  -- it breaks the rule of its field
+  -- the leaf breaks the rule of its field
   pub broken : keeps_rule leaf ≡ false
-  -- the cause has the number of its field
+  -- the cause has the number of the leaf's field
   pub cause : c ≡ BadText (field_number_of_leaf leaf)
-  -- each leaf before it obeys its rule
+  -- each leaf before this one obeys the rule of its field
   pub before : (j : ℕ) → (other : Leaf) → j < i → slice_get all j ≡ Some other → keeps_rule other
       ≡ true
 

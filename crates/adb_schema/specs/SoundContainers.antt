@@ -11,16 +11,16 @@ use Rattle.adb_fields.specs.Once.{HasNoRepeatedName}
 use Rattle.adb_schema.specs.SoundValues.{ObeysFieldRulesOfTable}
 use Rattle.adb_schema.specs.Soundness.{container_fault_except_contents}
 
--- the value may be that of a sound container with this table at its root: by its shape, its rules, and
--- its names
+-- the value `v` may be that of a sound container with the table `which` at its root
 pub record IsSoundValue (which : Which) (v : Plain) : Type 0 where
-  -- it has the shape of the table
+  -- the value has the shape of the table
   pub shape : HasShape (shape_of (Obj which)) v
   -- each text and number obeys the rule of its field
   pub rules : ObeysFieldRulesOfTable which v
-  -- no name repeats
+  -- no name repeats that must be unique, such as the path of a folder in a package
   pub once : HasNoRepeatedName which v
 
--- a file passes every test as a container with this table at its root
+-- a file passes every test as a container with this table at its root; a package may still have wrong
+-- contents of files, after its first block
 abbrev pub IsSoundContainer : Which → List ℕ → Type 0
 IsSoundContainer which file = container_fault_except_contents which file ≡ None

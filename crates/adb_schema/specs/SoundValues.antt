@@ -17,23 +17,23 @@ use Rattle.adb_schema.specs.Texts.{is_package_hash_length, is_file_with_contents
 
 -- a dependency in a tested container: a name, a version or none, and a match number with an operator
 pub record IsSoundDependency (v : Plain) : Type 0 where
-  -- the rule of field 101
+  -- field 101: the name of the dependency
   pub name : is_dep_name (text_in (entry_in v DEP_NAME)) ≡ true
-  -- the rule of field 102
+  -- field 102: a version, or empty
   pub version : is_version_or_empty (text_in (entry_in v DEP_VERSION)) ≡ true
-  -- the rule of field 103
+  -- field 103: the match number
   pub matching : is_match_number (int_in (entry_in v DEP_MATCH)) ≡ true
 
--- the information of a package obeys its rules, in a container with this table at its root: in an index
--- it has its hash
+-- the information `v` of a package obeys the rules of its fields, in a container with the table `root` at its
+-- root: in an index it has a hash
 pub record IsSoundInformation (root : Which) (v : Plain) : Type 0 where
-  -- the rule of field 301
+  -- field 301: the name of a package
   pub name : is_package_name (text_in (entry_in v INFO_NAME)) ≡ true
-  -- the rule of field 302
+  -- field 302: a version
   pub version : is_version (text_in (entry_in v INFO_VERSION)) ≡ true
-  -- the rule of field 303
+  -- field 303: the length of the hash; in an index it may not be 0
   pub hash : is_package_hash_length root (length (text_in (entry_in v INFO_HASHES))) ≡ true
-  -- the rules of fields 315 to 319: lists of dependencies
+  -- field 315: each entry obeys the rules of a dependency, as in the next four fields
   pub depends : Each IsSoundDependency (entries_in (entry_in v INFO_DEPENDS))
   -- field 316
   pub provides : Each IsSoundDependency (entries_in (entry_in v INFO_PROVIDES))
@@ -44,52 +44,51 @@ pub record IsSoundInformation (root : Which) (v : Plain) : Type 0 where
   -- field 319
   pub recommends : Each IsSoundDependency (entries_in (entry_in v INFO_RECOMMENDS))
 
--- a file of the folder with this name obeys its rules; if it has contents, it has their hash, which may
--- be missing in a database
+-- the entry `v` of a file obeys the rules of its fields, in a folder with the path `folder` and a container
+-- with the table `root` at its root. A file with contents has their hash, which may be missing in a database
 pub record IsSoundFileInFolder (root : Which) (folder : List ℕ) (v : Plain) : Type 0 where
-  -- the rule of field 401
+  -- field 401: one part of a path, short enough for a file in this folder
   pub name : is_valid_file_name_in_folder folder (text_in (entry_in v FILE_NAME)) ≡ true
-  -- the rule of field 401 for a database
+  -- field 401 again: a database lists no file under a reserved name
   pub listed : can_root_table_list_path root (path_of folder (text_in (entry_in v FILE_NAME))) ≡ true
-  -- the rule of field 405
+  -- field 405: the length of the hash, which may be 0 if no hash is needed
   pub hash : (if needs_file_hash root (is_file_with_contents v)
       then is_digest_length (length (text_in (entry_in v FILE_HASHES)))
       else is_digest_length_or_none (length (text_in (entry_in v FILE_HASHES)))) ≡ true
-  -- the rule of field 406
+  -- field 406: the target of a link, or empty
   pub target : is_link_target_or_none (text_in (entry_in v FILE_TARGET)) ≡ true
 
--- a folder obeys its rules: its name is a path or empty, and each of its files obeys its own
+-- a folder `v` obeys the rules of its fields, in a container with the table `root` at its root
 pub record IsSoundFolder (root : Which) (v : Plain) : Type 0 where
-  -- the rule of field 501
+  -- field 501: the path of the folder, or empty
   pub name : is_folder_name (text_in (entry_in v DIR_NAME)) ≡ true
   -- each file obeys the rules of fields 401 to 406
   pub files : Each (IsSoundFileInFolder root (text_in (entry_in v DIR_NAME)))
       (entries_in (entry_in v DIR_FILES))
 
--- a package obeys its rules: its information and its folders do
+-- a package `v` obeys the rules of its fields, in a container with the table `root` at its root
 pub record IsSoundPackage (root : Which) (v : Plain) : Type 0 where
-  -- its information obeys its rules
+  -- the information of the package obeys the rules of its fields
   pub info : IsSoundInformation root (entry_in v PACKAGE_INFO)
-  -- each of its folders obeys its rules
+  -- each folder of the package obeys the rules of its fields
   pub folders : Each (IsSoundFolder root) (entries_in (entry_in v PACKAGE_PATHS))
 
--- an index obeys its rules: the information of each of its packages does, and so does its pattern of
--- file names
+-- an index `v` obeys the rules of its fields
 pub record IsSoundIndex (v : Plain) : Type 0 where
-  -- the rule of field 802: its entries obey the rules of table 3
+  -- field 802: each entry, the information of a package, obeys the rules of table 3
   pub packages : Each (IsSoundInformation Index) (entries_in (entry_in v INDEX_PACKAGES))
-  -- the rule of field 803
+  -- field 803: the pattern of file names
   pub pattern : is_supported_pkgname_spec (text_in (entry_in v INDEX_PKGNAME_SPEC)) ≡ true
 
 -- the text is a name that a change may remove or write
 abbrev pub IsNameAllowedInIntent : Plain → Type 0
 IsNameAllowedInIntent v = is_name_allowed_in_intent (text_in v) ≡ true
 
--- a journal entry obeys its rules: a change may remove or write each of its names
+-- a journal entry `v` obeys the rules of its fields: a change may remove or write each of its names
 pub record IsSoundIntent (v : Plain) : Type 0 where
-  -- the rule of field 1001
+  -- field 1001: the names that the change removes
   pub removals : Each IsNameAllowedInIntent (entries_in (entry_in v INTENT_REMOVALS))
-  -- the rule of field 1002
+  -- field 1002: the names that the change writes
   pub writes : Each IsNameAllowedInIntent (entries_in (entry_in v INTENT_WRITES))
 
 -- the value of a payload with this table at its root obeys the rules of its fields

@@ -56,8 +56,8 @@ contents_positions payload = (
   from_le_bytes w32 (take 4 (drop 4 payload)),
 )
 
--- the cause for a block of contents that is not allowed. Either it is too short for its two positions
--- (8 bytes), or it has the positions of a file, while (0, 0) was expected, which is no file
+-- the cause for a block of contents that is not allowed, at the offset `at` of the file. Either it is too short
+-- for its two positions (8 bytes), or it has the positions of a file, while (0, 0) was expected, which is no file
 abbrev pub unexpected_contents_cause : List ℕ → ℕ → Cause
 unexpected_contents_cause payload at = if nat_lt (length payload) 8 then Truncated at
     else DataOrder (0, 0) (contents_positions payload)
@@ -84,8 +84,8 @@ further_blocks_fault_unless_package which r = further_blocks_fault r
 
 -- ---- all tests in order
 
--- whether a file has the schema `word` of the wanted table; false if that table is no root and has
--- none
+-- whether `schema`, that of a file, is the schema `word` of a table; false for None, which a table has that is no
+-- root
 abbrev pub is_schema_wanted : Option ℕ → ℕ → Bool
 is_schema_wanted (Some word) schema = word == schema
 is_schema_wanted None schema = false
@@ -95,16 +95,16 @@ abbrev pub schema_fault : Which → ℕ → Option Cause
 schema_fault which schema = if is_schema_wanted (schema_word which) schema then None
     else Some (WrongSchema schema)
 
--- the first fault of the blocks of a file: of the first block, or of the blocks after it. `rest` tests
--- those, by the value of the first block
+-- the first fault of the blocks of a file: of the first block, or of the blocks after it. `rest` tests the
+-- blocks after the first, by the value of the first block
 abbrev pub blocks_fault : (Plain → Reading → Option Cause) → Which → Reading → Option Cause
 blocks_fault rest which done = None
 blocks_fault rest which (fault c) = Some c
 blocks_fault rest which (more b at r) = option_or (payload_fault which b.payload)
     (rest (root_value which b.payload) r)
 
--- the first fault of a file with this result for its header: of the header, of the schema, or of the
--- blocks
+-- the first fault of a file: of its header, of its schema, or of its blocks. The last argument is what the
+-- header gives: the schema, or the cause for which the header is refused
 abbrev pub file_fault_after_header : (Plain → Reading → Option Cause) → Which → List ℕ → Result ℕ Cause
     → Option Cause
 file_fault_after_header rest which file (Err c) = Some c
@@ -115,8 +115,8 @@ file_fault_after_header rest which file (Ok schema) = option_or (schema_fault wh
 abbrev pub file_fault_with_rest_test : (Plain → Reading → Option Cause) → Which → List ℕ → Option Cause
 file_fault_with_rest_test rest which file = file_fault_after_header rest which file (schema_of_header file)
 
--- the first failed test of a file as a container of this table; for a package, without the contents
--- after its first block
+-- the first failed test of a file as a container with this table at its root. For a package, the blocks after
+-- the first, which have the contents of files, are not tested here
 unfoldable pub container_fault_except_contents : Which → List ℕ → Option Cause
 container_fault_except_contents which file =
     file_fault_with_rest_test (λ v r. further_blocks_fault_unless_package which r) which file
@@ -129,7 +129,8 @@ first_block_payload done = []
 first_block_payload (fault c) = []
 first_block_payload (more b at r) = b.payload
 
--- the payload of the first block after a header; empty if the header has a fault
+-- the payload of the first block of a file, by what its header gives: the schema, or a cause; empty if the
+-- header is refused
 abbrev pub payload_after_header : List ℕ → Result ℕ Cause → List ℕ
 payload_after_header file (Ok schema) =
     first_block_payload (block_stream_from (first_block_position schema file))

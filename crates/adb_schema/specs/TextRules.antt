@@ -1,5 +1,5 @@
--- The rules that read only the bytes of a text, and the texts that are known to obey one. The rules are
--- in the table of `docs/formats.md`, "The texts".
+-- The rules that read only the bytes of a text, and the texts that are known to obey such a rule. The rules
+-- are in the table of `docs/formats.md`, "The texts".
 use Rattle.std.specs.Prelude.{◌≡◌, ℕ, Bool, true, List}
 use Rattle.base_core.specs.Name.{is_name}
 use Rattle.version_core.specs.Order.{is_version}
@@ -26,6 +26,6 @@ keeps_text_rule Target bytes = is_link_target_or_none bytes
 abbrev pub text_at : List ℕ → ℕ → List ℕ
 text_at payload word = text_in (value_at payload Text word)
 
--- the text of a word of the payload obeys a rule (a pair of the rule and the word)
+-- the text of a word of the payload obeys a rule; `text` is a pair of the rule and the word
 abbrev pub KeepsTextRule : List ℕ → TextRule × ℕ → Type 0
 KeepsTextRule payload text = keeps_text_rule text.0 (text_at payload text.1) ≡ true

@@ -14,11 +14,11 @@ abbrev pub bad_text_at : Option ℕ → Option Cause
 bad_text_at None = None
 bad_text_at (Some place) = Some (BadText place)
 
--- the entry with index i is the same word as the one before it
+-- the entry of an array with the index i (from 0) is the same word as the entry before it
 pub record IsSameWordAsPrevious (words : List ℕ) (i : ℕ) : Type 0 where
-  -- it is not the first entry
+  -- the entry is not the first one
   pub behind : 0 < i
-  -- it equals the entry before it
+  -- the entry equals the entry before it
   pub same : slice_index words i ≡ slice_index words (i - 1)
 
 -- no text breaks the rule of the field with this number, whatever its surroundings
@@ -26,7 +26,7 @@ abbrev pub AllowsEachText : ℕ → Type 0
 AllowsEachText field_number = (around : Surroundings) (text : List ℕ)
     → is_allowed_text_of_field field_number around text ≡ true
 
--- no value of the kind breaks a rule as the field with this number, whatever its surroundings
+-- no value of the kind breaks a rule if it is the value of the field with this number, whatever its surroundings
 abbrev pub AllowsEachValueOfKind : Kind → ℕ → Type 0
 AllowsEachValueOfKind kind field_number = (around : Surroundings) (v : Plain)
     → first_bad_leaf (leaves (shape_of kind) field_number around v) ≡ None

@@ -20,14 +20,13 @@ use Rattle.adb_view.specs.declared.tables.Which.{Which}
 use Rattle.adb_view.specs.declared.tables.Which.TheVariants.{Dep, PkgInfo, File, Dir, Index, Idb, Intent}
 use Rattle.adb_view.specs.declared.tables.Kind.TheVariants.{Obj}
 
--- the surroundings of a value that some rule depends on: the table of the container's root, the name of
--- the folder, and whether the file has contents
+-- where in a container a value is, as far as the rule of some field depends on it
 pub record Surroundings : Type 0 where
   -- the table of the container's root
   pub root : Which
-  -- the name of the folder; empty outside of folders, and in the root folder
+  -- the path of the folder that the value is in; empty outside of folders, and in the root folder
   pub folder : List ℕ
-  -- whether the file has contents; false outside of files
+  -- whether the file that the value is in has contents; false outside of files
   pub has_contents : Bool
 
 -- ---- rules that depend on the surroundings
@@ -64,8 +63,8 @@ is_file_hash_length around len =
 
 -- ---- the rule of each field
 
--- whether a number obeys the rule of the field with the number `place`, which is 100 times that of its
--- table plus its own. Only the match number of a dependency has a rule
+-- whether the number `n` obeys the rule of the field with the number `place`, which is 100 times that of the
+-- field's table plus the field's own. Only the match number of a dependency has a rule
 abbrev pub is_allowed_number_of_field : ℕ → ℕ → Bool
 is_allowed_number_of_field place n = if place == field_number Dep DEP_MATCH then is_match_number n else true
 
@@ -89,7 +88,8 @@ is_allowed_text_of_field place around bytes =
 
 -- ---- the leaves of the walk, in order
 
--- a number or a text in the walk, with the number of its field; a Null is 0 or empty
+-- a leaf: a number with the number of its field (`number_leaf field n`), or a text with the number of its
+-- field and its surroundings (`text_leaf field around bytes`). A Null is the number 0 or an empty text
 pub data Leaf : Type 0 where
   number_leaf : ℕ → ℕ → Leaf
   text_leaf : ℕ → Surroundings → List ℕ → Leaf
@@ -109,7 +109,8 @@ abbrev pub is_file_with_contents : Plain → Bool
 is_file_with_contents file = (length (text_in (entry_in file FILE_TARGET)) == 0)
     && nat_lt 0 (int_in (entry_in file FILE_SIZE))
 
--- the surroundings of an object's fields, by the number of its table and the surroundings of the object
+-- the surroundings of the fields of the object `v`, by the number of its table (`schema`) and the surroundings
+-- of the object (`around`). A folder sets the path, and a file sets whether there are contents
 abbrev pub surroundings_of_fields : ℕ → Surroundings → Plain → Surroundings
 surroundings_of_fields schema around v = record {
   root = around.root;
@@ -134,7 +135,8 @@ unfoldable mutual
   leaves (object schema fs) field_number around v = field_leaves fs (100 * schema + 1)
       (surroundings_of_fields schema around v) (entries_in v)
 
-  -- the numbers and texts of the fields of an object, the first of which has this number
+  -- the numbers and texts of the fields of an object. The first field has the number `field_number`, and
+  -- `around` are the surroundings of each field
   pub field_leaves : Fields → ℕ → Surroundings → Plains → List Leaf
   field_leaves no_fields field_number around vs = []
   field_leaves (field name s fs) field_number around none = leaves s field_number around null
@@ -152,8 +154,8 @@ leaves_of which v = leaves (shape_of (Obj which)) 0 (surroundings_of_root which)
 
 -- ---- the first fault
 
--- the cause of the first number or text that breaks its rule, with the number of its field; None if
--- each obeys its own
+-- the cause for the first leaf that breaks the rule of its field, with the number of this field; None if each
+-- leaf obeys its rule
 abbrev pub first_bad_leaf : List Leaf → Option Cause
 first_bad_leaf [] = None
 first_bad_leaf (leaf ∷ others) = if keeps_rule leaf then first_bad_leaf others

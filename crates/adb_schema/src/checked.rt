@@ -22,7 +22,7 @@ use adb_view::field_indexes::{
 use adb_view::{Adb, Shaped, Val, Which, entry_word};
 use std::alloc::Global;
 
-/// A payload of the shape of a table in which each text obeys the rule of its field.
+/// A payload of the shape of a table, in which each text and number obeys the rule of its field.
 #[derive(Clone, Copy)]
 pub struct Checked<'a> {
     /// The payload whose shape was tested.
@@ -38,8 +38,8 @@ impl<'a> Checked<'a> {
     ghost use Rattle.adb_schema.specs.ReadFaults.{IsReadFault};
     ghost use Rattle.adb_schema.specs.Views.{package_value, index_value, idb_value, intent_value};
 
-    /// Tests each text and number of a walked payload by the rule of its field. Only long texts
-    /// need memory; each is judged once.
+    /// Tests each text and number of `shaped`, a payload whose shape was tested, by the rule of its
+    /// field. Only long texts need memory; each is judged once.
     ///
     /// # Errors
     ///
@@ -50,14 +50,14 @@ impl<'a> Checked<'a> {
         ensures bad { IfErr result (λ fault.
             IsReadFault fault (text_or_number_fault (table_of shaped.entry)
             (shaped_value shaped.entry))) }
-        // On Ok, none of these tests failed.
+        // On Ok, each text and number obeys the rule of its field.
         ensures sound { IfOk result (λ _.
             text_or_number_fault (table_of shaped.entry) (shaped_value shaped.entry) ≡ None) }
-        // The table at the root is unchanged.
+        // On Ok, the table at the root is that of `shaped`.
         ensures which { IfOk result (λ checked. table_of_checked checked ≡ table_of shaped.entry) }
-        // The value is that of the walked payload.
+        // On Ok, the value at the root is that of `shaped`.
         ensures value { IfOk result (λ checked. checked_value checked ≡ shaped_value shaped.entry) }
-        // The payload is the walked one.
+        // On Ok, the payload is that of `shaped`.
         ensures payload { IfOk result (λ checked. adb_of checked.shaped ≡ adb_of shaped.entry) }
     {
         match check_texts(alloc, shaped)? {
@@ -66,7 +66,7 @@ impl<'a> Checked<'a> {
         }
     }
 
-    /// The payload as it was walked, before its texts were tested.
+    /// The payload with its table, as known before its texts were tested.
     pub(crate) fn shaped(&self) -> Shaped<'a>
         ensures { result ≡ self.now.shaped }
     {
@@ -131,6 +131,7 @@ pub struct IndexView<'a> {
     word: u32,
     // The word has a plain value, an index.
     ghost sound: { is_sound (payload_of adb) (Kinds.Obj Tables.Index) word ≡ true },
+    // Each text and number of the index obeys the rule of its field.
     ghost texts: { is_none (text_or_number_fault Tables.Index
         (value_at (payload_of adb) (Kinds.Obj Tables.Index) word)) ≡ true },
 }
@@ -144,11 +145,12 @@ impl<'a> IndexView<'a> {
 
     /// The view of a word that is an index whose texts obey their rules.
     pub fn of(adb: Adb<'a>, word: Val) -> IndexView<'a>
-        // The word has a plain value of its kind.
+        // The word refers to an index in this payload.
         requires sound { is_sound (payload_of adb) (Kinds.Obj Tables.Index) word ≡ true }
         // Each text and number of the index obeys the rule of its field.
         requires texts { is_none (text_or_number_fault Tables.Index
             (value_at (payload_of adb) (Kinds.Obj Tables.Index) word)) ≡ true }
+        // The value of the view is that of the word.
         ensures { index_value result
             ≡ value_at (payload_of adb.entry) (Kinds.Obj Tables.Index) word }
     {
@@ -175,8 +177,9 @@ impl<'a> IndexView<'a> {
 
     /// The word of the index in the payload.
     pub fn word(&self) -> Val
+        // The result is the word of the view.
         ensures is { result ≡ self.now.word }
-        // The word has a plain value of its kind.
+        // The word refers to an index in the payload of the view.
         ensures sound { is_sound (payload_of self.now.adb) (Kinds.Obj Tables.Index) result
             ≡ true }
     {
@@ -209,7 +212,7 @@ impl<'a> IndexView<'a> {
         List::of(self.adb, entries)
     }
 
-    /// How the files of its packages are named: empty, or `${name}-${version}.apk`.
+    /// How the files of the index's packages are named: empty, or `${name}-${version}.apk`.
     pub fn pkgname_spec(&self) -> &'a [u8]
         ensures { result.now ≡ text_in (entry_in (index_value self.now) INDEX_PKGNAME_SPEC) }
     {
@@ -234,10 +237,12 @@ pub struct IdbView<'a> {
 }
 
 impl<'a> Kinded for IdbView<'a> {
+    // What a word of this kind refers to: an installed database.
     ghost kind = { Kinds.Obj Tables.Idb };
 }
 
 impl<'a> View<'a> for IdbView<'a> {
+    // A view shows the value to which its word refers in its payload.
     ghost shows = { λ view. value_at (payload_of view.adb) (Kinds.Obj Tables.Idb) view.word };
 
     // The view of a word that is sound as a database.
@@ -268,12 +273,12 @@ impl<'a> IdbView<'a> {
 
     /// The package at a place, counted from 0, which is read from the payload of the database.
     pub fn package_at(&self, i: usize) -> PackageView<'a>
-        // The index is one of the database's packages.
+        // `i` is the index of one of the database's packages.
         requires { i < count_of (entries_in (entry_in (idb_value self.now) IDB_PACKAGES)) }
         // The value is that of entry `i` of the database's packages.
         ensures value { package_value result
             ≡ entry_in (entry_in (idb_value self.now) IDB_PACKAGES) i }
-        // The payload of the result is the one from which it was read.
+        // The package is in the payload of the database.
         ensures lent { payload_of result.adb ≡ payload_of self.now.adb }
     {
         let entries = objects_field(
@@ -299,10 +304,12 @@ pub struct IntentView<'a> {
 }
 
 impl<'a> Kinded for IntentView<'a> {
+    // What a word of this kind refers to: an intent (journal entry).
     ghost kind = { Kinds.Obj Tables.Intent };
 }
 
 impl<'a> View<'a> for IntentView<'a> {
+    // A view shows the value to which its word refers in its payload.
     ghost shows = { λ view. value_at (payload_of view.adb) (Kinds.Obj Tables.Intent) view.word };
 
     // The view of a word that is sound as a journal entry.
@@ -317,7 +324,7 @@ impl<'a> IntentView<'a> {
     ghost use Rattle.adb_schema.specs.Views.{intent_value};
     ghost use Rattle.adb_fields.specs.ListValue.{list_value};
 
-    /// The paths to be removed.
+    /// The paths of the files that the change removes.
     pub fn removals(&self) -> List<'a, &'a [u8]>
         ensures { list_value result ≡ entry_in (intent_value self.now) INTENT_REMOVALS }
     {
@@ -327,7 +334,7 @@ impl<'a> IntentView<'a> {
         )
     }
 
-    /// The paths to be written.
+    /// The paths of the files that the change writes.
     pub fn writes(&self) -> List<'a, &'a [u8]>
         ensures { list_value result ≡ entry_in (intent_value self.now) INTENT_WRITES }
     {

@@ -1,6 +1,6 @@
 //! The rules that read each byte of a text, and the long texts of a payload that are known to obey
-//! one. Many places may share a text, so a long one is judged once (`Judged::keeps` in the README
-//! of this crate). The rules are in the table of `docs/formats.md`, "The texts".
+//! such a rule. Many fields may share a text, so a long text is judged once (`Judged::keeps` in the
+//! README of this crate). The rules are in the table of `docs/formats.md`, "The texts".
 
 ghost use Rattle.std.specs.Prelude.{◌≡◌, All, IfOk};
 ghost use Rattle.std.specs.Bool.{OnTrue};
@@ -104,12 +104,14 @@ impl<'a> Judged<'a> {
         requires { text.now ≡ text_at (payload_of self.old.adb) word }
         // On Ok, the result says whether the text obeys the rule.
         ensures value { IfOk result (λ kept. kept ≡ keeps_text_rule rule text.now) }
-        // The payload is unchanged.
+        // The payload of `self` is unchanged.
         ensures payload { self.new.adb ≡ self.old.adb }
     {
+        // A short text is judged wherever it occurs.
         if text.len() <= LONGEST_SHORT_TEXT {
             return Ok(rule.is_kept_by(text));
         }
+        // A long text that was found to obey the rule before is not read again.
         if self.is_good(rule, word) {
             return Ok(true);
         }
@@ -127,8 +129,9 @@ impl<'a> Judged<'a> {
         self.good.contains(&(rule, word.word()))
     }
 
-    /// Whether a long text, which is the text of a word, obeys a rule. It is judged here. A version
-    /// has no limit of length, and many may overlap.
+    /// Whether a long text, which is the text of a word, obeys a rule; the text is read here. A
+    /// version has no limit of length, and many may overlap, so bytes that they share are read
+    /// once.
     fn long_text_keeps(
         &mut self,
         rule: TextRule,
@@ -139,7 +142,7 @@ impl<'a> Judged<'a> {
         requires { text.now ≡ text_at (payload_of self.old.adb) word }
         // On Ok, the result says whether the text obeys the rule.
         ensures value { IfOk result (λ kept. kept ≡ keeps_text_rule rule text.now) }
-        // The payload is unchanged.
+        // The payload of `self` is unchanged.
         ensures payload { self.new.adb ≡ self.old.adb }
     {
         match rule {
@@ -155,7 +158,7 @@ impl<'a> Judged<'a> {
         requires { text.now ≡ text_at (payload_of self.old.adb) word }
         // On Ok, the result says whether the text is a valid version or empty.
         ensures value { IfOk result (λ is. is ≡ is_version_or_empty text.now) }
-        // The payload is unchanged.
+        // The payload of `self` is unchanged.
         ensures payload { self.new.adb ≡ self.old.adb }
     {
         if text.is_empty() {
@@ -170,9 +173,11 @@ impl<'a> Judged<'a> {
         requires { text.now ≡ text_at (payload_of self.old.adb) word }
         // On Ok, the result says whether the text is a valid version.
         ensures value { IfOk result (λ is. is ≡ is_version text.now) }
-        // The payload is unchanged.
+        // The payload of `self` is unchanged.
         ensures payload { self.new.adb ≡ self.old.adb }
     {
+        // A version is judged by where it is in the payload; a word without a blob has no such
+        // range.
         match self.adb.blob_range(word) {
             Ok((from, end)) => self.versions.is_version(from, end),
             Err(_) => Ok(is_version(text)),

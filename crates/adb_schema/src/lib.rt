@@ -1,11 +1,11 @@
 //! The containers (apk-v3(5)): the reader of whole containers, views of what was tested, and the
 //! rules for single texts and numbers (apk-package(5)).
 //!
-//! `shape` makes a `Shaped` of a payload, and `Checked::new` makes a `Checked` of that. Its four
-//! views borrow from the payload; they have one method per field, which cannot fail. `check_texts`
-//! tests each text and number of a walked payload by the rule of its field. `repeated` finds
-//! repeated names. `read_adb` reads a file and makes all of these tests. `is_reserved` and its like
-//! decide which names below a root no database may list as files.
+//! `shape` makes a `Shaped` of a payload, and `Checked::new` makes a `Checked` of a `Shaped`. The
+//! views of a `Checked` borrow from the payload; they have one method per field, which cannot fail.
+//! `check_texts` tests each text and number of a `Shaped` by the rule of its field. `repeated`
+//! finds repeated names. `read_adb` reads a file and makes all of these tests. `is_reserved` and
+//! similar functions decide which names below a root no database may list as files.
 //!
 //! The contracts cite these modules of `specs/`, and definitions of `adb_view` and `adb_fields`:
 //!

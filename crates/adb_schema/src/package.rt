@@ -32,10 +32,12 @@ pub struct AclView<'a> {
 }
 
 impl<'a> Kinded for AclView<'a> {
+    // What a word of this kind refers to: an access list.
     ghost kind = { Kinds.Obj Tables.Acl };
 }
 
 impl<'a> View<'a> for AclView<'a> {
+    // A view shows the value to which its word refers in its payload.
     ghost shows = { λ view. value_at (payload_of view.adb) (Kinds.Obj Tables.Acl) view.word };
 
     // The view of a word that is sound as an access list.
@@ -94,10 +96,12 @@ pub struct FileInfo<'a> {
 }
 
 impl<'a> Kinded for FileInfo<'a> {
+    // What a word of this kind refers to: the entry of a file.
     ghost kind = { Kinds.Obj Tables.File };
 }
 
 impl<'a> View<'a> for FileInfo<'a> {
+    // A view shows the value to which its word refers in its payload.
     ghost shows = { λ view. value_at (payload_of view.adb) (Kinds.Obj Tables.File) view.word };
 
     // The view of a word that is sound as a file.
@@ -142,16 +146,17 @@ impl<'a> FileInfo<'a> {
         int_field(self.adb, Which::File, self.word, FILE_MTIME)
     }
 
-    /// The digest of the file's bytes: SHA-1, SHA-256 or SHA-512, by its length; empty if it is
-    /// unknown.
+    /// The digest of the file's bytes: SHA-1, SHA-256 or SHA-512, by its length; empty if the
+    /// digest is unknown.
     pub fn hashes(&self) -> &'a [u8]
         ensures { result.now ≡ text_in (entry_in (file_value self.now) FILE_HASHES) }
     {
         hash_field(self.adb, Which::File, self.word, FILE_HASHES)
     }
 
-    /// The field *target*. For a link it has the two bytes `00 a0`, and then the text of the
-    /// target. For a regular file it is empty. The rule is 406 in `docs/formats.md`, "The texts".
+    /// The field *target*. For a link this field has the two bytes `00 a0`, and then the text of
+    /// the target. For a regular file this field is empty. The rule is 406 in `docs/formats.md`,
+    /// "The texts".
     pub fn target(&self) -> &'a [u8]
         ensures { result.now ≡ text_in (entry_in (file_value self.now) FILE_TARGET) }
     {
@@ -178,10 +183,12 @@ pub struct DirInfo<'a> {
 }
 
 impl<'a> Kinded for DirInfo<'a> {
+    // What a word of this kind refers to: a folder.
     ghost kind = { Kinds.Obj Tables.Dir };
 }
 
 impl<'a> View<'a> for DirInfo<'a> {
+    // A view shows the value to which its word refers in its payload.
     ghost shows = { λ view. value_at (payload_of view.adb) (Kinds.Obj Tables.Dir) view.word };
 
     // The view of a word that is sound as a folder.
@@ -235,10 +242,12 @@ pub struct ScriptsView<'a> {
 }
 
 impl<'a> Kinded for ScriptsView<'a> {
+    // What a word of this kind refers to: the scripts of a package.
     ghost kind = { Kinds.Obj Tables.Scripts };
 }
 
 impl<'a> View<'a> for ScriptsView<'a> {
+    // A view shows the value to which its word refers in its payload.
     ghost shows = { λ view. value_at (payload_of view.adb) (Kinds.Obj Tables.Scripts) view.word };
 
     // The view of a word that is sound as scripts.
@@ -252,49 +261,49 @@ impl<'a> ScriptsView<'a> {
     ghost use Rattle.adb_view.specs.Values.{entry_in, text_in};
     ghost use Rattle.adb_schema.specs.Views.{scripts_value};
 
-    /// Runs if a watched folder has changed.
+    /// The script for a change in a folder that matches a pattern of `PackageView::triggers`.
     pub fn trigger(&self) -> &'a [u8]
         ensures { result.now ≡ text_in (entry_in (scripts_value self.now) SCRIPTS_TRIGGER) }
     {
         text_field(self.adb, Which::Scripts, self.word, SCRIPTS_TRIGGER)
     }
 
-    /// Runs before an installation.
+    /// The script for before an installation of the package.
     pub fn pre_install(&self) -> &'a [u8]
         ensures { result.now ≡ text_in (entry_in (scripts_value self.now) SCRIPTS_PRE_INSTALL) }
     {
         text_field(self.adb, Which::Scripts, self.word, SCRIPTS_PRE_INSTALL)
     }
 
-    /// Runs after an installation.
+    /// The script for after an installation of the package.
     pub fn post_install(&self) -> &'a [u8]
         ensures { result.now ≡ text_in (entry_in (scripts_value self.now) SCRIPTS_POST_INSTALL) }
     {
         text_field(self.adb, Which::Scripts, self.word, SCRIPTS_POST_INSTALL)
     }
 
-    /// Runs before a removal.
+    /// The script for before a removal of the package.
     pub fn pre_deinstall(&self) -> &'a [u8]
         ensures { result.now ≡ text_in (entry_in (scripts_value self.now) SCRIPTS_PRE_DEINSTALL) }
     {
         text_field(self.adb, Which::Scripts, self.word, SCRIPTS_PRE_DEINSTALL)
     }
 
-    /// Runs after a removal.
+    /// The script for after a removal of the package.
     pub fn post_deinstall(&self) -> &'a [u8]
         ensures { result.now ≡ text_in (entry_in (scripts_value self.now) SCRIPTS_POST_DEINSTALL) }
     {
         text_field(self.adb, Which::Scripts, self.word, SCRIPTS_POST_DEINSTALL)
     }
 
-    /// Runs before an upgrade.
+    /// The script for before an upgrade of the package.
     pub fn pre_upgrade(&self) -> &'a [u8]
         ensures { result.now ≡ text_in (entry_in (scripts_value self.now) SCRIPTS_PRE_UPGRADE) }
     {
         text_field(self.adb, Which::Scripts, self.word, SCRIPTS_PRE_UPGRADE)
     }
 
-    /// Runs after an upgrade.
+    /// The script for after an upgrade of the package.
     pub fn post_upgrade(&self) -> &'a [u8]
         ensures { result.now ≡ text_in (entry_in (scripts_value self.now) SCRIPTS_POST_UPGRADE) }
     {
@@ -314,10 +323,12 @@ pub struct PackageView<'a> {
 }
 
 impl<'a> Kinded for PackageView<'a> {
+    // What a word of this kind refers to: a package.
     ghost kind = { Kinds.Obj Tables.Package };
 }
 
 impl<'a> View<'a> for PackageView<'a> {
+    // A view shows the value to which its word refers in its payload.
     ghost shows = { λ view. value_at (payload_of view.adb) (Kinds.Obj Tables.Package) view.word };
 
     // The view of a word that is sound as a package.
@@ -334,12 +345,12 @@ impl<'a> PackageView<'a> {
 
     /// The view of a word that is sound as a package, read from this payload.
     pub(crate) fn at(adb: Adb<'a>, word: Val) -> PackageView<'a>
-        // The word has a plain value of its kind.
+        // The word refers to a package in this payload.
         requires { is_sound (payload_of adb) (Kinds.Obj Tables.Package) word ≡ true }
         // The value of the package is that of the word.
         ensures value { package_value result
             ≡ value_at (payload_of adb.entry) (Kinds.Obj Tables.Package) word }
-        // The payload of the result is the one from which it was read.
+        // The payload of the view is `adb`.
         ensures lent { payload_of result.adb ≡ payload_of adb.entry }
     {
         PackageView { adb, word }
@@ -354,8 +365,9 @@ impl<'a> PackageView<'a> {
 
     /// The word of the package in the payload.
     pub fn word(&self) -> Val
+        // The result is the word of the view.
         ensures is { result ≡ self.now.word }
-        // The word has a plain value of its kind.
+        // The word refers to a package in the payload of the view.
         ensures sound { is_sound (payload_of self.now.adb) (Kinds.Obj Tables.Package) result
             ≡ true }
     {
@@ -396,7 +408,7 @@ impl<'a> PackageView<'a> {
         )
     }
 
-    /// The patterns of the folders whose changes run its trigger.
+    /// The patterns of the folders that the package's trigger script watches.
     pub fn triggers(&self) -> List<'a, &'a [u8]>
         ensures { list_value result ≡ entry_in (package_value self.now) PACKAGE_TRIGGERS }
     {
@@ -406,8 +418,8 @@ impl<'a> PackageView<'a> {
         )
     }
 
-    /// Its priority in replacing. If two packages list one path and each names the other in
-    /// `replaces`, the one with the greater priority owns the path.
+    /// The priority of the package in replacing. If two packages list one path and each names the
+    /// other in `replaces`, the one with the greater priority owns the path.
     pub fn replaces_priority(&self) -> u64
         ensures { result ≡ int_in (entry_in (package_value self.now) PACKAGE_REPLACES_PRIORITY) }
     {

@@ -31,10 +31,12 @@ pub struct DepView<'a> {
 }
 
 impl<'a> Kinded for DepView<'a> {
+    // What a word of this kind refers to: a dependency.
     ghost kind = { Kinds.Obj Tables.Dep };
 }
 
 impl<'a> View<'a> for DepView<'a> {
+    // A view shows the value to which its word refers in its payload.
     ghost shows = { λ view. value_at (payload_of view.adb) (Kinds.Obj Tables.Dep) view.word };
 
     // The view of a word that is sound as a dependency.
@@ -83,10 +85,12 @@ pub struct PkgInfo<'a> {
 }
 
 impl<'a> Kinded for PkgInfo<'a> {
+    // What a word of this kind refers to: the information of a package.
     ghost kind = { Kinds.Obj Tables.PkgInfo };
 }
 
 impl<'a> View<'a> for PkgInfo<'a> {
+    // A view shows the value to which its word refers in its payload.
     ghost shows = { λ view. value_at (payload_of view.adb) (Kinds.Obj Tables.PkgInfo) view.word };
 
     // The view of a word that is sound as the information of a package.
@@ -113,8 +117,9 @@ impl<'a> PkgInfo<'a> {
 
     /// The word of the information in the payload.
     pub fn word(&self) -> Val
+        // The result is the word of the view.
         ensures is { result ≡ self.now.word }
-        // The word has a plain value of its kind.
+        // The word refers to a package's information in the payload of the view.
         ensures sound { is_sound (payload_of self.now.adb) (Kinds.Obj Tables.PkgInfo) result
             ≡ true }
     {
@@ -135,8 +140,8 @@ impl<'a> PkgInfo<'a> {
         text_field(self.adb, Which::PkgInfo, Val::of(self.word), INFO_VERSION)
     }
 
-    /// A digest. In an index it is the package's id or the first 20 bytes of it; empty if it is
-    /// unknown.
+    /// A digest of the package. In an index it is the package's id or the first 20 bytes of the id;
+    /// elsewhere it may be empty.
     pub fn hashes(&self) -> &'a [u8]
         ensures { result.now ≡ text_in (entry_in (info_value self.now) INFO_HASHES) }
     {
@@ -155,21 +160,21 @@ impl<'a> PkgInfo<'a> {
         )
     }
 
-    /// The architecture.
+    /// The architecture of the machines that the package is for.
     pub fn arch(&self) -> &'a [u8]
         ensures { result.now ≡ text_in (entry_in (info_value self.now) INFO_ARCH) }
     {
         text_field(self.adb, Which::PkgInfo, Val::of(self.word), INFO_ARCH)
     }
 
-    /// The license.
+    /// The license of the package.
     pub fn license(&self) -> &'a [u8]
         ensures { result.now ≡ text_in (entry_in (info_value self.now) INFO_LICENSE) }
     {
         text_field(self.adb, Which::PkgInfo, Val::of(self.word), INFO_LICENSE)
     }
 
-    /// The package that it was built from.
+    /// The name of the source package that the package was built from.
     pub fn origin(&self) -> &'a [u8]
         ensures { result.now ≡ text_in (entry_in (info_value self.now) INFO_ORIGIN) }
     {
@@ -188,7 +193,7 @@ impl<'a> PkgInfo<'a> {
         )
     }
 
-    /// Where to read of the package.
+    /// The address of a page about the package.
     pub fn url(&self) -> &'a [u8]
         ensures { result.now ≡ text_in (entry_in (info_value self.now) INFO_URL) }
     {
@@ -219,7 +224,7 @@ impl<'a> PkgInfo<'a> {
         )
     }
 
-    /// The size of its installed files in bytes.
+    /// The size of the package's installed files in bytes.
     pub fn installed_size(&self) -> u64
         ensures { result ≡ int_in (entry_in (info_value self.now) INFO_INSTALLED_SIZE) }
     {

@@ -59,6 +59,7 @@ impl From<Cause> for ReadFault {
     ghost use Rattle.std.specs.Prelude.{◌≡◌};
     ghost use Rattle.adb_schema.specs.declared.read.ReadFault.TheVariants.{Bad};
 
+    // The fault has this cause.
     ghost from_gives = { λ cause fault. fault ≡ Bad cause };
 
     // The first failed test as the fault of a read.
@@ -71,6 +72,7 @@ impl From<AllocError> for ReadFault {
     ghost use Rattle.std.specs.Prelude.{◌≡◌};
     ghost use Rattle.adb_schema.specs.declared.read.ReadFault.TheVariants.{Memory};
 
+    // The fault is `Memory`.
     ghost from_gives = { λ _ fault. fault ≡ Memory };
 
     // Out of memory, as the fault of a read.
@@ -79,7 +81,8 @@ impl From<AllocError> for ReadFault {
     }
 }
 
-/// The schema in the header of a container with this table at its root, which is one of four.
+/// The schema in the header of a container with this table at its root; None for the six tables
+/// that are no root.
 pub fn schema_word(which: Which) -> Option<u32>
     ensures { result ≡ schema_word which }
 {
@@ -93,7 +96,7 @@ pub fn schema_word(which: Which) -> Option<u32>
 }
 
 /// Searches a checked container for a repeated name. It returns the cause `Repeated`, or None if
-/// and only if no name repeats. The kinds are searched in this order:
+/// and only if no name repeats. These kinds of repeated names are searched in this order:
 ///
 /// - in a package and in a database, a folder that a package lists twice, over all packages;
 /// - then a file that a folder lists twice;
@@ -104,6 +107,7 @@ pub fn schema_word(which: Which) -> Option<u32>
 /// The first kind with a repeated name is reported, by the pair with the smallest second position,
 /// and among those the one with the smallest first position.
 pub fn repeated(alloc: Global, checked: &Checked<'_>) -> Result<Option<Cause>, AllocError>
+    // On Ok, the result is the cause of the definition, or None.
     ensures { IfOk result (λ cause. cause
         ≡ repeated_fault (table_of_checked checked.now) (checked_value checked.now)) }
 {
@@ -111,9 +115,9 @@ pub fn repeated(alloc: Global, checked: &Checked<'_>) -> Result<Option<Cause>, A
 }
 
 /// Reads a container (apk-v3(5)) with this table at its root. The tests are, in this order: the
-/// file's header, its schema, the first block's framing, its head, its shape, its texts, and
-/// repeated names. Then, except for a package, the framing of the further blocks, and that none of
-/// them has contents.
+/// header and the schema of the file; the framing, the head, the shape, the texts and the repeated
+/// names of the first block; then, except for a package, the framing of the further blocks, and
+/// that none of these blocks has contents.
 ///
 /// # Errors
 ///
@@ -124,10 +128,10 @@ pub fn read_adb<'a>(alloc: Global, bytes: &'a [u8], which: Which) -> Result<Chec
     // The error is the first failed test, or out of memory.
     ensures bad { IfErr result (λ fault. IsReadFault fault
         (container_fault_except_contents which bytes.entry.now)) }
-    // On Ok, none of these tests failed.
+    // On Ok, the file passes all tests of a container of this table.
     ensures sound { IfOk result (λ _. container_fault_except_contents which bytes.entry.now
         ≡ None) }
-    // The values have the wanted table at their root.
+    // On Ok, the table at the root is `which`.
     ensures table { IfOk result (λ checked. table_of_checked checked ≡ which) }
     // The payload is that of the container's first block.
     ensures payload { IfOk result (λ checked. payload_of (adb_of checked.shaped)
@@ -167,9 +171,10 @@ fn read_first<'a>(
     // The error is the first failed test, or out of memory.
     ensures bad { IfErr result
         (λ fault. IsReadFault fault (first_block_fault which (block_stream_from blocks.old))) }
-    // The values have the wanted table at their root.
+    // On Ok, the table at the root is `which`.
     ensures table { IfOk result (λ checked. table_of_checked checked ≡ which) }
-    // The blocks that are left are those after the first one.
+    // On Ok, the payload is that of the first block and passes its tests, and the blocks that are
+    // left are those after the first.
     ensures behind { IfOk result
         (λ checked. IsAfterFirstBlock which (payload_of (adb_of checked.shaped)) (block_stream_from
         blocks.old)
@@ -177,6 +182,7 @@ fn read_first<'a>(
 {
     match blocks.next()? {
         Some(block) => check_payload(alloc, block.payload, which),
+        // A file with a header has a first block, or the framing of that block is refused.
         None => unreachable!(),
     }
 }
@@ -190,9 +196,9 @@ fn check_payload<'a>(
     // The error is the first failed test, or out of memory.
     ensures bad { IfErr result
         (λ fault. IsReadFault fault (payload_fault which payload.entry.now)) }
-    // On Ok, none of these tests failed.
+    // On Ok, the payload passes all its tests.
     ensures sound { IfOk result (λ _. payload_fault which payload.entry.now ≡ None) }
-    // The values have the wanted table at their root.
+    // On Ok, the table at the root is `which`.
     ensures table { IfOk result (λ checked. table_of_checked checked ≡ which) }
     // The payload is the given one.
     ensures payload { IfOk result (λ checked. payload_of (adb_of checked.shaped)
@@ -210,6 +216,7 @@ fn check_payload<'a>(
 /// Tests the blocks after the first. In a package nothing is tested here: `pkg_core` tests them
 /// against the files that the package lists.
 fn check_rest(blocks: &mut Blocks<'_>, which: Which) -> Result<(), Cause>
+    // The result is the first fault of these blocks, or Ok.
     ensures { result_err result
         ≡ further_blocks_fault_unless_package which (block_stream_from blocks.old) }
 {
@@ -219,7 +226,8 @@ fn check_rest(blocks: &mut Blocks<'_>, which: Which) -> Result<(), Cause>
     }
 }
 
-/// Tests the blocks after the first of a container without files, if it needs no contents.
+/// Tests the blocks after the first, in a container that is no package: they are framed rightly,
+/// and none has contents.
 #[tactic(auto, unfolding(crate::specs::Soundness::further_blocks_fault))]
 fn check_further(blocks: &mut Blocks<'_>) -> Result<(), Cause>
     ensures { result_err result ≡ further_blocks_fault (block_stream_from blocks.old) }
@@ -234,7 +242,8 @@ fn check_further(blocks: &mut Blocks<'_>) -> Result<(), Cause>
     }
 }
 
-/// Why a block is not allowed after the first, if it is not.
+/// Why a block is not allowed after the first block of a container that is no package: it has
+/// contents. None for a block of another kind.
 fn unexpected_contents_block_fault(block: &Block<'_>) -> Option<Cause>
     ensures { result
         ≡ unexpected_contents_block_fault block.now.kind block.now.payload.now block.now.at }
@@ -245,8 +254,9 @@ fn unexpected_contents_block_fault(block: &Block<'_>) -> Option<Cause>
     }
 }
 
-/// The cause for contents that are not allowed. Contents shorter than their two positions (8 bytes)
-/// are reported as too short; others as a file where none (0.0) was expected.
+/// The cause for contents that are not allowed, in a block at the offset `at`. Contents shorter
+/// than their two positions (8 bytes) are too short; others are a file where none, (0, 0), was
+/// expected.
 fn unexpected_contents_cause(payload: &[u8], at: u64) -> Cause
     ensures { result ≡ unexpected_contents_cause payload.now at }
 {
@@ -259,8 +269,8 @@ fn unexpected_contents_cause(payload: &[u8], at: u64) -> Cause
     }
 }
 
-/// The two numbers at the front of contents (apk-v3(5)): the positions of the folder and of its
-/// file, which count from 1.
+/// The two numbers at the beginning of a block of contents (apk-v3(5)): the position of the folder
+/// in its package, and that of the file in this folder. Both count from 1.
 pub fn contents_positions(payload: &[u8]) -> (u32, u32)
     // The payload has at least the 8 bytes of the two positions.
     requires { 8 ≤ length payload.now }
@@ -272,17 +282,21 @@ pub fn contents_positions(payload: &[u8]) -> (u32, u32)
     )
 }
 
-/// A law: the words of the four schemas are spelled so in a file's header.
+/// A law: in the header of a file, the schemas of the four roots are these four bytes.
 pub fn schema_words_are_as_listed()
+    // The schema of a package.
     ensures package { to_le_bytes w32 PACKAGE_WORD ≡ codes "pckg" }
+    // The schema of an index.
     ensures index { to_le_bytes w32 INDEX_WORD ≡ codes "indx" }
+    // The schema of an installed database.
     ensures database { to_le_bytes w32 IDB_WORD ≡ codes "idb\0" }
+    // The schema of an intent (journal entry).
     ensures intent { to_le_bytes w32 INTENT_WORD ≡ codes "intt" }
 {}
 
 /// A law: a file that passes every test contains a value with the shape of its table, in which each
-/// text and number obeys the rule of its field and no name repeats. If it is read from bytes, it is
-/// normal. The body calls the laws that the proof needs.
+/// text and number obeys the rule of its field and no name repeats. If the payload consists of
+/// bytes, this value is normal. The body calls the laws that the proof needs.
 pub fn sound_containers_hold_sound_values()
     // The root of a sound container has a sound value.
     ensures value { (which : Which) (file : List ℕ)

@@ -63,14 +63,15 @@ pub(crate) fn is_version_or_empty(text: &[u8]) -> bool
     text.is_empty() || is_version(text)
 }
 
-/// Whether the number is a dependency's match number: below 32, and its low four bits are an
-/// operator.
+/// Whether the number is a dependency's match number: its low four bits are an operator, and only
+/// the next bit (16, a conflict) may be set besides them.
 pub(crate) fn is_match_number(number: u64) -> bool
     ensures { result ≡ is_match_number number }
 {
     if number >= 32 {
         return false;
     }
+    // The low four bits are the comparison results that the operator accepts.
     match Op::of((number % 16) as u8) {
         Some(_) => true,
         None => false,
@@ -84,7 +85,7 @@ pub fn is_folder_name(name: &[u8]) -> bool
     name.is_empty() || is_name(name)
 }
 
-/// Whether the bytes are one part of a path.
+/// Whether the bytes are one part of a path: a name without a slash.
 pub fn is_one_part(name: &[u8]) -> bool
     ensures { result ≡ is_one_part name.now }
 {
@@ -98,6 +99,7 @@ pub(crate) fn fits_in(folder: &[u8], name: &[u8]) -> bool
     if folder.is_empty() {
         return name.len() <= MOST;
     }
+    // The path is the folder, a slash and the name: at most 1,024 bytes together.
     name.len() < MOST && folder.len() < MOST - name.len()
 }
 
@@ -108,7 +110,7 @@ pub(crate) fn is_link_target_or_none(bytes: &[u8]) -> bool
     bytes.is_empty() || is_link_target(bytes)
 }
 
-/// Whether bytes are the mark of a link and after it a text, which is not empty.
+/// Whether bytes are the two bytes `LINK` and after them a UTF-8 text that is not empty.
 fn is_link_target(bytes: &[u8]) -> bool
     ensures { result ≡ is_link_target bytes.now }
 {
@@ -182,13 +184,16 @@ fn is_file_at_or_below(top: &[u8], folder: &[u8], name: &[u8]) -> bool
     if folder.is_empty() {
         return is_at_or_below(top, name);
     }
+    // Either `top` begins with the folder, and then `rest` is compared with the slash and the name;
+    // or the file is at or below `top` only if its folder is.
     match top.strip_prefix(folder) {
         Some(rest) => is_at_or_below_slash(rest, name),
         None => is_at_or_below(top, folder),
     }
 }
 
-/// Whether a slash and a name are at or below `top`, which is the rest of a name after a folder.
+/// Whether the path `/NAME` is `top`, or a path below `top`. Here `top` is what is left of a
+/// reserved name after the folder with which it begins.
 fn is_at_or_below_slash(top: &[u8], name: &[u8]) -> bool
     ensures { result ≡ is_at_or_below top.now (47 ∷ name.now) }
 {

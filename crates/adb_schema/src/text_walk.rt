@@ -1,6 +1,7 @@
-//! The text walk: each number and text of a walked payload is tested by the rule of its field. The
-//! order and the rules are in `docs/formats.md`, "The texts". Each call that borrows a `Judged`
-//! leaves its payload unchanged (clause `payload`), so the verdicts on its words stay true.
+//! The text walk, which `Checked::new` calls: it tests each number and text of a payload whose
+//! shape was tested (`Shaped`) by the rule of its field. The order and the rules are in
+//! `docs/formats.md`, "The texts". Each call that borrows a `Judged` leaves the payload of the
+//! `Judged` unchanged (clause `payload`), so what is known of its texts stays true.
 
 ghost use Rattle.std.specs.Prelude.{ℕ, List, ◌↔◌, None, ◌≡◌, ◌==◌, ◌*◌, true, false, length, ◌+◌, ◌<◌, ◌≤◌, ◌^◌, IfOk, [], ◌∷◌};
 ghost use Rattle.std.specs.Bool.{OnTrue};
@@ -78,14 +79,15 @@ mod field_numbers {
     pub(crate) const INTENT_WRITES: u16 = 1002;
 }
 
-/// The surroundings of a value that some rule depends on.
+/// Where in a container a value is, as far as the rule of some field depends on it.
 #[derive(Clone, Copy)]
 pub(crate) struct Surroundings<'a> {
     /// The table of the container's root.
     root: Which,
-    /// The name of the folder; empty outside of folders, and in the root folder.
+    /// The path of the folder that the value is in; empty outside of folders, and in the root
+    /// folder.
     folder: &'a [u8],
-    /// Whether the file has contents; false outside of files.
+    /// Whether the file that the value is in has contents; false outside of files.
     has_contents: bool,
 }
 
@@ -101,10 +103,12 @@ impl<'a> Surroundings<'a> {
         }
     }
 
-    /// The surroundings of an object's fields, from those of the object.
+    /// The surroundings of the fields of `object`, which is of the table `which`, from those of the
+    /// object. A folder sets the path, and a file sets whether there are contents.
     pub(crate) fn inside(&self, adb: Adb<'a>, which: Which, object: Val) -> Surroundings<'a>
-        // The word has a plain value of its kind.
+        // The word `object` refers to an object of this table.
         requires { is_sound (payload_of adb) (Kinds.Obj which) object ≡ true }
+        // The result has the surroundings that the definition gives for these fields.
         ensures { surroundings_of result
             ≡ surroundings_of_fields (table_number which) (surroundings_of self.now)
             (value_at (payload_of adb.entry) (Kinds.Obj which) object) }
@@ -124,7 +128,7 @@ impl<'a> Surroundings<'a> {
         }
     }
 
-    /// Whether a file of the folder may have this name, which is one part of a path.
+    /// Whether a file in the folder of these surroundings may have this name, which has no slash.
     fn takes_file_name(&self, name: &[u8]) -> bool
         requires { is_one_part name.now ≡ true }
         ensures { result ≡ is_allowed_file_name (surroundings_of self.now) name.now }
@@ -144,7 +148,7 @@ impl<'a> Surroundings<'a> {
         }
     }
 
-    /// Whether a package's hash may have this length in bytes.
+    /// Whether a package's hash may have this length in bytes. In an index each package has one.
     fn takes_package_hash(&self, len: usize) -> bool
         ensures { result ≡ is_package_hash_length (surroundings_of self.now).root len }
     {
@@ -154,7 +158,8 @@ impl<'a> Surroundings<'a> {
         }
     }
 
-    /// Whether the file's hash may have this length in bytes.
+    /// Whether the file's hash may have this length in bytes. A file with contents has a hash,
+    /// except in a database.
     fn takes_file_hash(&self, len: usize) -> bool
         ensures { result ≡ is_file_hash_length (surroundings_of self.now) len }
     {
@@ -168,7 +173,7 @@ impl<'a> Surroundings<'a> {
 
 /// Whether a file has contents: no target, and a size above 0.
 fn has_contents(adb: Adb<'_>, file: Val) -> bool
-    // The word has a plain value of its kind.
+    // The word `file` refers to the entry of a file.
     requires { is_sound (payload_of adb) (Kinds.Obj Tables.File) file ≡ true }
     ensures { result
         ≡ is_file_with_contents (value_at (payload_of adb.entry) (Kinds.Obj Tables.File) file) }
@@ -188,8 +193,8 @@ pub(crate) fn keeps_number_rule(field_number: u16, n: u64) -> bool
     }
 }
 
-/// Whether the text of a word obeys the rule of the field with this number; the other fields have
-/// no rule.
+/// Whether the text of a word obeys the rule of the field with this number; fields that are not
+/// listed here have no rule. `judged` knows of long texts which rules they obey.
 #[tactic(auto, unfolding(crate::specs::Texts::is_allowed_text_of_field))]
 fn keeps_rule_of_field(
     judged: &mut Judged<'_>,
@@ -203,7 +208,7 @@ fn keeps_rule_of_field(
     // On Ok, the result says whether the text obeys the rule of the field.
     ensures value { IfOk result (λ kept.
         kept ≡ is_allowed_text_of_field field_number (surroundings_of around.now) text.now) }
-    // The payload is unchanged.
+    // The payload of `judged` is unchanged.
     ensures payload { judged.new.adb ≡ judged.old.adb }
 {
     match field_number {
@@ -236,7 +241,7 @@ fn keeps_file_name(
     // On Ok, the result says whether the text is an allowed file name in this folder.
     ensures value { IfOk result (λ kept.
         kept ≡ is_allowed_file_name (surroundings_of around.now) text.now) }
-    // The payload is unchanged.
+    // The payload of `judged` is unchanged.
     ensures payload { judged.new.adb ≡ judged.old.adb }
 {
     if !judged.keeps(TextRule::OnePart, word, text)? {
@@ -250,9 +255,9 @@ fn keeps_file_name(
 fn keeps_change_name(judged: &mut Judged<'_>, word: Val, text: &[u8]) -> Result<bool, AllocError>
     // `text` is the text of the word.
     requires { text.now ≡ text_at (payload_of judged.old.adb) word }
-    // On Ok, the result says whether the text is a name that an intent may have.
+    // On Ok, the result says whether a change may remove or write a file of this name.
     ensures value { IfOk result (λ kept. kept ≡ is_name_allowed_in_intent text.now) }
-    // The payload is unchanged.
+    // The payload of `judged` is unchanged.
     ensures payload { judged.new.adb ≡ judged.old.adb }
 {
     if !judged.keeps(TextRule::Name, word, text)? {
@@ -261,11 +266,12 @@ fn keeps_change_name(judged: &mut Judged<'_>, word: Val, text: &[u8]) -> Result<
     Ok(!is_intent_or_stage_name(text))
 }
 
-/// Tests each text and number of a walked payload by the rule of its field. It returns the cause
+/// Tests each text and number of `shaped` by the rule of its field. It returns the cause
 /// `BadText` with the number of the first field that breaks its rule, depth first and field by
 /// field, or None if and only if each obeys its own. A missing field counts as Null. A text of more
 /// than 64 bytes is judged once, however many places share it.
 pub fn check_texts(alloc: Global, shaped: Shaped<'_>) -> Result<Option<Cause>, AllocError>
+    // On Ok, the result is the cause for the first text or number that breaks its rule, or None.
     ensures { IfOk result (λ cause. cause
         ≡ text_or_number_fault (table_of shaped.entry) (shaped_value shaped.entry)) }
 {
@@ -273,14 +279,17 @@ pub fn check_texts(alloc: Global, shaped: Shaped<'_>) -> Result<Option<Cause>, A
     let which = shaped.which();
     let mut judged = Judged::new(alloc, adb);
     let around = Surroundings::surroundings_of_root(which);
+    // The root is no field of an object, so its field number is 0, which no rule uses.
     match check_value(adb, &mut judged, Kind::Obj(which), 0, &around, adb.root())? {
         Some(place) => Ok(Some(Cause::BadText { place })),
         None => Ok(None),
     }
 }
 
-/// Checks a value and the values below it, and returns the number of the first field that breaks
-/// its rule. (A cause has 150 bytes, too many to pass from value to value.)
+/// Checks a value and the values inside it, and returns the number of the first field that breaks
+/// its rule. `word` is the word of the value, `kind` its kind, `field_number` its field, and
+/// `around` its surroundings; `judged` remembers long texts. (A cause has 150 bytes, too many to
+/// pass from value to value.)
 #[cycle(check)]
 fn check_value<'a>(
     adb: Adb<'a>,
@@ -290,15 +299,15 @@ fn check_value<'a>(
     around: &Surroundings<'a>,
     word: Val,
 ) -> Result<Option<u16>, AllocError>
-    // The word has a plain value of its kind.
+    // The word refers to a value of this kind.
     requires sound { is_sound (payload_of adb) kind word ≡ true }
-    // The texts are judged in the payload that is walked.
+    // `judged` is about the same payload as `adb`.
     requires payload { payload_of judged.old.adb ≡ payload_of adb }
-    // The result is the number of the first field whose number or text breaks its rule.
+    // On Ok, the result is the number of the first field whose rule is broken, or None.
     ensures place { IfOk result (λ place. bad_text_at place
         ≡ first_bad_leaf (leaves (shape_of kind) field_number (surroundings_of around.now)
         (value_at (payload_of adb.entry) kind word))) }
-    // The payload is unchanged.
+    // The payload of `judged` is unchanged.
     ensures payload { judged.new.adb ≡ judged.old.adb }
 {
     match kind {
@@ -320,7 +329,8 @@ fn check_value<'a>(
     }
 }
 
-/// Checks the entries of an array; of adjacent equal ones only the first.
+/// Checks the entries of an array, as `check_value` does for one value; of adjacent equal words it
+/// checks only the first. `kind` is the kind of each entry, `field_number` the field of the array.
 #[cycle(check)]
 fn check_entries<'a>(
     adb: Adb<'a>,
@@ -330,16 +340,16 @@ fn check_entries<'a>(
     around: &Surroundings<'a>,
     entries: Arr<'a>,
 ) -> Result<Option<u16>, AllocError>
-    // Each word has a plain value of its kind.
+    // Each entry is a word that refers to a value of this kind.
     requires sound { are_all_sound (payload_of adb) kind (array_entries entries) ≡ true }
-    // The texts are judged in the payload that is walked.
+    // `judged` is about the same payload as `adb`.
     requires payload { payload_of judged.old.adb ≡ payload_of adb }
-    // The result is the number of the first field whose number or text breaks its rule.
+    // On Ok, the result is the number of the first field whose rule is broken, or None.
     ensures place { IfOk result (λ place. bad_text_at place
         ≡ first_bad_leaf (leaves_of_all_values (leaves (shape_of kind) field_number
         (surroundings_of around.now))
         (values_at (payload_of adb.entry) kind (array_entries entries.entry)))) }
-    // The payload is unchanged.
+    // The payload of `judged` is unchanged.
     ensures payload { judged.new.adb ≡ judged.old.adb }
 {
     for i in 0..entries.len() {
@@ -366,7 +376,8 @@ fn is_same_as_before(entries: Arr<'_>, i: usize) -> bool
     entry_word(entries, i - 1).word() == entry_word(entries, i).word()
 }
 
-/// Checks the fields of an object that have a rule, or have a field with a rule below them.
+/// Checks those fields of an object that have a rule, or that contain a field with a rule. `around`
+/// has the surroundings of these fields.
 #[cycle(check)]
 fn check_fields<'a>(
     adb: Adb<'a>,
@@ -375,19 +386,20 @@ fn check_fields<'a>(
     around: &Surroundings<'a>,
     object: Val,
 ) -> Result<Option<u16>, AllocError>
-    // The word has a plain value of its kind.
+    // The word `object` refers to an object of this table.
     requires sound { is_sound (payload_of adb) (Kinds.Obj which) object ≡ true }
-    // The texts are judged in the payload that is walked.
+    // `judged` is about the same payload as `adb`.
     requires payload { payload_of judged.old.adb ≡ payload_of adb }
-    // The result is the number of the first field whose number or text breaks its rule.
+    // On Ok, the result is the number of the first field whose rule is broken, or None.
     ensures place { IfOk result (λ place. bad_text_at place
         ≡ first_bad_leaf (field_leaves (shapes_of (table which)) (100 * table_number which + 1)
         (surroundings_of around.now)
         (entries_in (value_at (payload_of adb.entry) (Kinds.Obj which) object)))) }
-    // The payload is unchanged.
+    // The payload of `judged` is unchanged.
     ensures payload { judged.new.adb ≡ judged.old.adb }
 {
     let words = object_words(adb, which, object);
+    // The number of the field before the next one. The fields of a table count from 1.
     let mut field_number = 100 * number_of(which);
     for (i, field) in fields_of(which).iter().enumerate() {
         field_number += 1;
@@ -405,7 +417,7 @@ fn check_fields<'a>(
 /// Whether a value of this kind in this field may break a rule: the field, or a field below it, has
 /// one.
 fn has_rule(kind: Kind, field_number: u16) -> bool
-    // False is returned only if no value breaks a rule.
+    // False is returned only if no value of the kind breaks a rule in this field.
     ensures { result ≡ false → AllowsEachValueOfKind kind field_number }
 {
     match kind {
@@ -414,13 +426,14 @@ fn has_rule(kind: Kind, field_number: u16) -> bool
         Kind::Hash => has_text_rule(field_number),
         Kind::TextArr => has_text_rule(field_number),
         Kind::Obj(which) => has_rule_below(which),
+        // Each array of objects is checked, whatever its table.
         Kind::ObjArr(_) => true,
     }
 }
 
 /// Whether the objects of a table may break a rule.
 fn has_rule_below(which: Which) -> bool
-    // False is returned only if no value breaks a rule.
+    // False is returned only if no object of the table breaks a rule, in any field.
     ensures { result ≡ false → (field_number : ℕ)
         → AllowsEachValueOfKind (Kinds.Obj which) field_number }
 {
@@ -428,6 +441,7 @@ fn has_rule_below(which: Which) -> bool
         // No field of these two tables has a rule.
         Which::Acl => false,
         Which::Scripts => false,
+        // Each other table has a field with a rule, or a field that contains such a field.
         _ => true,
     }
 }
@@ -435,7 +449,7 @@ fn has_rule_below(which: Which) -> bool
 /// Whether there is a rule for the texts of a field.
 #[tactic(auto, unfolding(crate::specs::Texts::is_allowed_text_of_field))]
 fn has_text_rule(field_number: u16) -> bool
-    // False is returned only if no value breaks a rule.
+    // False is returned only if the field allows each text.
     ensures { result ≡ false → AllowsEachText field_number }
 {
     matches!(
@@ -455,7 +469,7 @@ fn has_text_rule(field_number: u16) -> bool
     )
 }
 
-/// Checks a number, and returns the number of its field if it breaks the rule.
+/// Checks the number `n`, and returns `field_number` if `n` breaks the rule of this field.
 fn check_number(field_number: u16, n: u64) -> Option<u16>
     ensures { bad_text_at result ≡ first_bad_leaf (number_leaf field_number n ∷ []) }
 {
@@ -466,7 +480,7 @@ fn check_number(field_number: u16, n: u64) -> Option<u16>
     }
 }
 
-/// Checks the text of a word, and returns the number of its field if it breaks the rule.
+/// Checks the text of a word, and returns `field_number` if the text breaks the rule of this field.
 fn check_text(
     judged: &mut Judged<'_>,
     field_number: u16,
@@ -476,10 +490,10 @@ fn check_text(
 ) -> Result<Option<u16>, AllocError>
     // `text` is the text of the word.
     requires { text.now ≡ text_at (payload_of judged.old.adb) word }
-    // The result is the number of the first field whose number or text breaks its rule.
+    // On Ok, the result is the number of the first field whose rule is broken, or None.
     ensures place { IfOk result (λ place. bad_text_at place
         ≡ first_bad_leaf (text_leaf field_number (surroundings_of around.now) text.now ∷ [])) }
-    // The payload is unchanged.
+    // The payload of `judged` is unchanged.
     ensures payload { judged.new.adb ≡ judged.old.adb }
 {
     if keeps_rule_of_field(judged, field_number, around, word, text)? {
@@ -489,9 +503,10 @@ fn check_text(
     }
 }
 
-/// The cause from the text walk is that of the first text or number that breaks the rule of its
-/// field, depth first and field by field. There is none if and only if each obeys its rule.
+/// A law: the cause from the text walk is that of the first text or number that breaks the rule of
+/// its field, depth first and field by field. There is no cause if and only if each obeys its rule.
 pub fn the_first_bad_text_is_reported()
+    // A cause is that of the first bad leaf (text or number); without a cause no leaf is bad.
     ensures { (which : Which) (value : Plain)
         → IsFirstBadLeafIfAny (leaves_of which value) (text_or_number_fault which value) }
 {}
@@ -499,6 +514,7 @@ pub fn the_first_bad_text_is_reported()
 /// A law: the text walk reports no fault in a value if and only if each text and number in the
 /// value obeys the rule of its field. *ObeysFieldRulesOfTable* states the rules for each table.
 pub fn no_text_is_bad_where_each_keeps_its_rule()
+    // No fault is reported if and only if the value obeys the rules of its table.
     ensures { (which : Which) (value : Plain) → (text_or_number_fault which value ≡ None)
         ↔ ObeysFieldRulesOfTable which value }
 {}

@@ -12,9 +12,9 @@ use std::alloc::{AllocError, Global};
 use std::marker::PhantomData;
 
 /// The database after `change FLAGS NAME ..`: the packages of the database in `file` without those
-/// of these names, then the added packages, with the files whose flag is 1. A `file` that is no
-/// database has no packages. None if the names are not in order, or an added package is bad, or the
-/// database is too large. `coming` has the files of the added packages.
+/// of these names, and then the added packages, whose files are in `coming`. The new database lists
+/// the files whose flag is 1. A `file` that is no database has no packages. None if the names of
+/// the packages are not in order, or an added package is bad, or the database is too large.
 pub(crate) fn changed_database(
     alloc: Global,
     file: &[u8],
@@ -46,7 +46,8 @@ fn changed_over<'a>(
     }
 }
 
-/// The database after a change of the database `db`.
+/// The database after a change of the database `db`. `coming` has the fronts of the added packages;
+/// the words after the flags are the names of the packages that are removed.
 fn change_of<'a>(
     alloc: Global,
     db: &Db<'a>,
@@ -55,7 +56,7 @@ fn change_of<'a>(
 ) -> Result<Option<Vec<u8>>, AllocError> {
     let mut members = Members::new(alloc, db);
     for i in 0..db.len() {
-        // The words after the flags are the names of the removed packages.
+        // A package is kept unless its name is one of the words after the flags.
         let stays = !is_among(words, name_at(db, i, PhantomData));
         if stays && !add_installed(&mut members, i)? {
             return Ok(None);
@@ -88,6 +89,7 @@ fn is_written_again(alloc: Global, db: &Db<'_>, file: &[u8]) -> Result<bool, All
             return Ok(false);
         }
     }
+    // One set flag for each file; flags after the last file have no effect.
     match written(alloc, &members, &[b'1'; 100])? {
         Some(again) => Ok(again.as_slice() == file),
         None => Ok(false),

@@ -51,7 +51,7 @@ const QUESTIONS: [(&[u8], Question); 6] = [
 struct Installed {
     /// The bytes of the database, as the last change wrote it; no bytes at first.
     file: Vec<u8>,
-    /// The files of the packages that the next change adds.
+    /// The files of the packages that the next change adds, in the order of the rows.
     coming: Vec<Vec<u8>>,
 }
 
@@ -82,21 +82,22 @@ impl Subject for Installed {
 }
 
 impl Installed {
-    /// Takes `package NAME ..`: a package that the next change adds.
+    /// Answers `package NAME ..`: makes the file of a package, which the next change adds.
     fn add_package(&mut self, alloc: Global, words: &Words) -> Result<(), AllocError> {
         let file = package_file(alloc, words)?;
         self.coming.push(file)?;
         Ok(())
     }
 
-    /// Takes `change FLAGS NAME ..`: writes the database after a change, and adds to the answer how
-    /// many packages it has.
+    /// Answers `change FLAGS NAME ..`: writes the database after a change, and adds to the answer
+    /// how many packages the new database has.
     fn change(
         &mut self,
         alloc: Global,
         words: &Words,
         answer: &mut Vec<u8>,
     ) -> Result<(), AllocError> {
+        // None if the change is refused.
         let found = changed_database(alloc, &self.file, &self.coming, words)?;
         self.coming.clear();
         match found {
@@ -110,8 +111,8 @@ impl Installed {
 
     /// Answers `again`: whether the database has the same bytes if it is written again.
     fn write_again(&mut self, alloc: Global, answer: &mut Vec<u8>) -> Result<(), AllocError> {
-        let same = unchanged_database(alloc, &self.file)?;
-        add_word(answer, if same { b"same" } else { b"other" })
+        let same_bytes = unchanged_database(alloc, &self.file)?;
+        add_word(answer, if same_bytes { b"same" } else { b"other" })
     }
 }
 

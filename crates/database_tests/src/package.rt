@@ -54,8 +54,8 @@ fn write_folders(alloc: Global, writer: &mut Writer, words: &Words) -> Result<Va
     writer.arr(&folders)
 }
 
-/// Writes a folder. `place` is the index of its word, and its files are the words after that word,
-/// up to the next folder.
+/// Writes the folder with the path `name`. `place` is the index of the word of the folder, and its
+/// files are the words after that word, up to the next folder.
 fn write_folder(
     alloc: Global,
     writer: &mut Writer,
@@ -67,6 +67,7 @@ fn write_folder(
     for i in place..words.len() {
         let word = words.word(i);
         if word.last() == Some(&b'/') {
+            // The word at `place` is the folder itself.
             if i > place {
                 break;
             }
@@ -76,7 +77,7 @@ fn write_folder(
     }
     let name = writer.blob(name)?;
     let files = writer.arr(&files)?;
-    // The second field of a folder, mode and owner, is null.
+    // The second field of a folder, its owner and mode, is null (the word 0).
     let fields = [name, Val::of(0), files];
     writer.obj(&fields)
 }

@@ -10,7 +10,7 @@ use Rattle.db_core.specs.Members.{Listing, Member}
 -- a listing is at its places: its member among the members, counted from 0, its folder in the member's
 -- package and its file in the folder, counted from 1; its path is that of folder and file
 pub record IsListedAt (members : List Member) (l : Listing) : Type 0 where
-  -- the folder of the file
+  -- the folder that contains the file
   pub above : Plain
   -- the member is at the listing's place, counted from 0
   pub member : slice_get members l.place ≡ Some l.member
@@ -22,5 +22,5 @@ pub record IsListedAt (members : List Member) (l : Listing) : Type 0 where
   pub file_from : 1 ≤ l.file
   -- the entry is at this place in the folder
   pub file : slice_get (files_in above) (l.file - 1) ≡ Some l.entry
-  -- the path is made of the folder's name and the file's
+  -- the path is that of the folder and the file's name
   pub path : l.path ≡ path_of (name_of above) (name_of l.entry)

@@ -9,9 +9,9 @@ use Rattle.adb_view.specs.Plain.{Plain}
 use Rattle.pkg_core.specs.adb_fields.Paths.{path_of}
 use Rattle.pkg_core.specs.adb_fields.Repeated.{name_of, package_name, folders_in, files_in}
 
--- a member: a package after the change; an added one has an id, a kept one has none
+-- a member: a package that is installed after the change; an added one has an id, a kept one has none
 pub record Member : Type 0 where
-  -- the package
+  -- the plain value of the package
   pub pkg : Plain
   -- the id of an added package; none for a kept one
   pub id : Option (List ℕ)
@@ -42,13 +42,14 @@ is_added m = is_some m.id
 abbrev pub AreMembersInNameOrder : List Member → Type 0
 AreMembersInNameOrder members = AreSortedDistinctNames (map member_name members)
 
--- whether a name is after the last of some members, and so after all of them
+-- whether a name is after the name of the last of some members; so it is after all their names, if they are in
+-- order
 abbrev pub is_after_members : List ℕ → List Member → Bool
 is_after_members name [] = true
 is_after_members name (m ∷ []) = precedes (member_name m) name
 is_after_members name (m ∷ n ∷ members) = is_after_members name (n ∷ members)
 
--- whether the place `i` is the found one; false if none was found
+-- whether `i` is the place that a search has found; false if the search found none
 abbrev pub is_found_place : ℕ → Option ℕ → Bool
 is_found_place i None = false
 is_found_place i (Some found) = found == i
@@ -71,7 +72,8 @@ pub record Listing : Type 0 where
   -- the place of the file in the folder, counted from 1
   pub file : ℕ
 
--- the listing of a file of a member, with its places; `above` is the folder's name
+-- the listing of the file `entry` of the member `m`: the member is at the place `place`, and `folder` and `file`
+-- are the positions of the folder and the file. `above` is the folder's path
 abbrev pub member_listing : Member → ℕ → ℕ → ℕ → List ℕ → Plain → Listing
 member_listing m place folder file above entry = record {
   path = path_of above (name_of entry);
@@ -82,14 +84,16 @@ member_listing m place folder file above entry = record {
   file = file;
 }
 
--- the listings of the files of a folder, the first of which has the position `i`
+-- the listings of the files (`entries`) of a folder, the first of which has the position `i` in its folder. The
+-- member `m` is at the place `place`, `folder` is the position of the folder, and `above` its path
 abbrev pub listings_in_folder : Member → ℕ → ℕ → ℕ → List ℕ → List Plain → List Listing
 listings_in_folder m place folder i above [] = []
 listings_in_folder m place folder i above (entry ∷ entries) =
     member_listing m place folder i above entry
     ∷ listings_in_folder m place folder (i + 1) above entries
 
--- the listings of the files of folders, the first of which has the position `i`
+-- the listings of the files of some folders of the member `m`, which is at the place `place`. The first of these
+-- folders has the position `i` in the member's package
 abbrev pub listings_in_folders : Member → ℕ → ℕ → List Plain → List Listing
 listings_in_folders m place i [] = []
 listings_in_folders m place i (folder ∷ folders) =

@@ -17,7 +17,7 @@ pub record NameWithPlace : Type 0 where
   -- the place of the package in a list, counted from 0
   pub place : ℕ
 
--- the names of packages with their places, the first of which is this one
+-- the names of packages with their places; the first of the packages is at the place `place`
 abbrev pub placed_names_from : ℕ → List Plain → List NameWithPlace
 placed_names_from place [] = []
 placed_names_from place (pkg ∷ packages) =

@@ -12,11 +12,12 @@ owned_listings (l ∷ listings) [] = []
 owned_listings (l ∷ listings) (true ∷ flags) = l ∷ owned_listings listings flags
 owned_listings (l ∷ listings) (false ∷ flags) = owned_listings listings flags
 
--- the paths of the files that members list and own, member by member, folder by folder
+-- the paths of the files that members list and own, member by member, folder by folder; `flags` has one flag for
+-- each listed file, which is set if the member owns the file
 abbrev pub owned_paths : List Member → List Bool → List (List ℕ)
 owned_paths members flags = map (λ l. l.path) (owned_listings (member_listings members) flags)
 
--- no two members have a file of one path among these
+-- no two different members have a file with the same path among these listings
 abbrev pub HaveAtMostOneOwner : List Listing → Type 0
 HaveAtMostOneOwner listings =
     (l k : Listing) → IsIn l listings → IsIn k listings → l.path ≡ k.path → l.place ≡ k.place

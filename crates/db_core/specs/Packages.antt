@@ -11,7 +11,7 @@ use Rattle.pkg_core.specs.adb_schema.Reserved.{is_reserved}
 use Rattle.pkg_core.specs.adb_fields.Repeated.{entries_at, package_name, paths_of_package_files}
 use Rattle.db_core.specs.Members.{Member, is_added}
 
--- whether a package has a name
+-- whether a package has this name
 abbrev pub is_package_named : List ℕ → Plain → Bool
 is_package_named name pkg = bytes_eq (package_name pkg) name
 

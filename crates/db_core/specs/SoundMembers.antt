@@ -25,7 +25,7 @@ pub record IsOfSoundDatabase (pkg : Plain) : Type 0 where
   -- the package is one of the database's packages
   pub listed : IsIn pkg (entries_at IDB_PACKAGES database)
 
--- a package is the value of a sound package, whose id is a digest
+-- a package is the value of a sound container, and its id has the length of a digest
 pub record IsSoundPackageAndDigest (pkg : Plain) (id : List ℕ) : Type 0 where
   -- the value obeys the rules of a package
   pub sound : IsSoundValue Package pkg
@@ -51,14 +51,14 @@ AreMembersOfSoundContainers [] = Unit {0}
 AreMembersOfSoundContainers (m ∷ members) =
     IsPackageOfSoundContainer m.pkg m.id × AreMembersOfSoundContainers members
 
--- no path is reserved for the package keeper's own files
+-- none of these paths is reserved for the package manager's own files
 abbrev pub NoneReserved : List (List ℕ) → Type 0
 NoneReserved [] = Unit {0}
 NoneReserved (path ∷ paths) = (is_reserved path ≡ false) × NoneReserved paths
 
--- listings that a database may have: each path has one owner, and none is reserved
+-- a database may have these listings: no path has two owners, and no path is reserved
 pub record HaveOneOwnerAndNoReservedPath (listings : List Listing) : Type 0 where
   -- no path has more than one owner
   pub one_owner : HaveAtMostOneOwner listings
-  -- no path is one of the package manager's own files
+  -- no path is reserved
   pub free : NoneReserved (map (λ l. l.path) listings)

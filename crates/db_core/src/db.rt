@@ -44,9 +44,10 @@ pub struct Db<'a> {
     // The names are those of the packages, in byte order.
     ghost by_name: { map name_seen names.items
         ≡ placed_names_in_order (packages_of_database_value (option_map idb_value idb)) },
-    // Each path that a package lists is a name, and none is reserved.
+    // Each path that a package lists is a name.
     ghost named: { list_all lists_only_valid_names (packages_of_database_value
         (option_map idb_value idb)) ≡ true },
+    // No path that a package lists is reserved.
     ghost free: { list_all lists_no_reserved_path (packages_of_database_value
         (option_map idb_value idb)) ≡ true },
     // The database passed all tests: its value is sound.
@@ -69,7 +70,7 @@ impl<'a> Db<'a> {
         }
     }
 
-    /// Reads a database, and tests its whole file. It takes a few words for each package.
+    /// Reads a database, and tests its whole file. The memory for each package is a few words.
     ///
     /// # Errors
     ///
@@ -79,10 +80,10 @@ impl<'a> Db<'a> {
         ensures bad { IfErr result
             (λ fault. IsReadFault fault
             (container_fault_except_contents Tables.Idb bytes.entry.now)) }
-        // On Ok, none of these tests failed.
+        // On Ok, the file passes all tests of a database.
         ensures sound { IfOk result
             (λ _. container_fault_except_contents Tables.Idb bytes.entry.now ≡ None) }
-        // The packages are those of the file's database.
+        // On Ok, the packages are those of the database in the file.
         ensures packages { IfOk result (λ db. packages_of db
             ≡ entries_at IDB_PACKAGES (root_value Tables.Idb (payload_in bytes.entry.now))) }
     {
@@ -91,8 +92,8 @@ impl<'a> Db<'a> {
         Ok(db)
     }
 
-    /// The database in a payload that passes all tests; they are not repeated. It takes a few words
-    /// for each package.
+    /// The database in a payload that passes all tests; the tests are not repeated. The memory for
+    /// each package is a few words.
     ///
     /// # Errors
     ///
@@ -100,6 +101,7 @@ impl<'a> Db<'a> {
     pub fn open(alloc: Global, payload: &'a [u8]) -> Result<Db<'a>, AllocError>
         // The payload passes all tests of a database.
         requires { payload_fault Tables.Idb payload.now ≡ None }
+        // On Ok, the packages are those of the value at the root of the payload.
         ensures { IfOk result (λ db. packages_of db
             ≡ entries_at IDB_PACKAGES (root_value Tables.Idb payload.entry.now)) }
     {
@@ -117,7 +119,9 @@ impl<'a> Db<'a> {
 
     /// How many packages the database has.
     pub fn len(&self) -> usize
+        // The result is the number of packages.
         ensures value { result ≡ length (packages_of self.now) }
+        // There are less than 2^32 packages.
         ensures small { result < 2 ^ 32 }
     {
         match &self.idb {
@@ -148,18 +152,18 @@ impl<'a> Db<'a> {
         // The result is the index of the first package with this name, or none.
         ensures found { result
             ≡ position_from (is_package_named name.now) 0 (packages_of self.now) }
-        // An index that is returned is that of an element.
+        // A place that is returned is that of a package.
         ensures within { IfSome result (λ i. i < length (packages_of self.now)) }
     {
         place_of(&self.names, name)
     }
 
     /// The place of the first package that lists this path, counted from 0. None is returned
-    /// exactly if no package lists it. It searches all that the database lists.
+    /// exactly if no package lists the path. All files that the database lists may be searched.
     pub fn owner_of(&self, path: &Name) -> Option<usize>
         // The result is the index of the first package that lists this path, or none.
         ensures found { result ≡ position_from (lists_path path.now) 0 (packages_of self.now) }
-        // An index that is returned is that of an element.
+        // A place that is returned is that of a package.
         ensures within { IfSome result (λ i. i < length (packages_of self.now)) }
     {
         match &self.idb {
@@ -171,13 +175,15 @@ impl<'a> Db<'a> {
     /// Each path that a package of the database lists is a name, so that a file may be removed
     /// under it.
     pub fn listed_paths_are_names(&self)
+        // The path of each file that a package lists is a name.
         ensures { All (λ l. IsName l.path)
             (member_listings (members_of_kept (packages_of self.now))) }
     {}
 
     /// No path that a package of the database lists is reserved: so a change never removes one of
-    /// the package keeper's own files as a package's file.
+    /// the package manager's own files as a package's file.
     pub fn no_listed_path_is_reserved(&self)
+        // The path of no file that a package lists is reserved.
         ensures { All (λ l. is_reserved l.path ≡ false)
             (member_listings (members_of_kept (packages_of self.now))) }
     {}
@@ -190,7 +196,7 @@ pub(crate) fn package_of_database<'a>(idb: &Option<IdbView<'a>>, i: usize) -> Pa
     // The result is the package at this index.
     ensures value { slice_get (packages_of_database_value (option_map idb_value idb.now)) i
         ≡ Some (package_value result) }
-    // The payload of the result is the one from which it was read.
+    // The package is in the payload of the database.
     ensures lent { payload_of result.adb ≡ payload_of_database idb.now }
 {
     match idb {
@@ -200,7 +206,7 @@ pub(crate) fn package_of_database<'a>(idb: &Option<IdbView<'a>>, i: usize) -> Pa
     }
 }
 
-/// The payload of a file that passed its tests.
+/// The payload of the first block of a file that passed its tests.
 #[tactic(auto, unfolding(adb_schema::specs::Soundness::container_fault_except_contents, adb_schema::specs::Soundness::payload_in))]
 pub fn payload_in(file: &[u8]) -> &[u8]
     // The file passes all tests of a container, for some table.
@@ -217,7 +223,7 @@ pub fn payload_in(file: &[u8]) -> &[u8]
     }
 }
 
-/// A view of the database in a payload that passes all tests; they are not repeated.
+/// A view of the database in a payload that passes all tests; the tests are not repeated.
 pub fn open_idb(payload: &[u8]) -> IdbView<'_>
     // The payload passes all tests of a database.
     requires { payload_fault Tables.Idb payload.now ≡ None }
@@ -250,7 +256,8 @@ fn package_at<'a>(packages: &List<'a, PackageView<'a>>, i: usize) -> PackageView
     requires { i < count_of (entries_in (list_value packages.now)) }
     ensures { package_value result ≡ entry_in (list_value packages.now) i }
 {
-    // Never so, by the contract; `len` says that a list has less than 2^32 entries.
+    // By the contract this never happens. `len` says that a list has less than 2^32 entries, so
+    // `i + 1` does not overflow.
     if i >= packages.len() {
         unreachable!();
     }
@@ -273,7 +280,7 @@ fn find_lister<'a>(packages: &List<'a, PackageView<'a>>, path: &[u8]) -> Option<
     // The result is the index of the first package that lists this path, or none.
     ensures found { result ≡ position_from (lists_path path.now) 0
         (list_of (entries_in (list_value packages.now))) }
-    // An index that is returned is that of an element.
+    // A place that is returned is that of an entry of the list.
     ensures within { IfSome result (λ i. i < count_of (entries_in (list_value packages.now))) }
 {
     for i in 0..packages.len() {

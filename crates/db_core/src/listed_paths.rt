@@ -1,4 +1,5 @@
-//! Whether folders list a file with some path, without joining it.
+//! Whether the folders of a package list a file with some path, without building the path of each
+//! file. `Db::owner_of` uses this.
 //! What a path is, is in `docs/formats.md`, "The texts", fields 401 and 501: the folder's name,
 //! which is empty for the root, `/`, and the file's name. `info` asks who owns a path
 //! (`docs/commands.md`, "`info`").
@@ -14,6 +15,7 @@ use pkg_core::{DirInfo, FileInfo, List};
 
 /// Whether one of some folders lists a file with this path.
 pub(crate) fn is_path_listed<'a>(folders: &List<'a, DirInfo<'a>>, path: &[u8]) -> bool
+    // The result says whether the path is that of a file of one of the folders.
     ensures { result ≡ list_any (bytes_eq path.now)
         (flat_map paths_of_folder_files (list_of (entries_in (list_value folders.now)))) }
 {
@@ -29,19 +31,23 @@ pub(crate) fn is_path_listed<'a>(folders: &List<'a, DirInfo<'a>>, path: &[u8]) -
 fn is_path_in_folder<'a>(folders: &List<'a, DirInfo<'a>>, i: usize, path: &[u8]) -> bool
     // The index is that of an entry of the list.
     requires { i < count_of (entries_in (list_value folders.now)) }
+    // The result says whether the path is that of a file of this folder.
     ensures { result ≡ list_any (bytes_eq path.now)
         (paths_of_folder_files (entry_in (list_value folders.now) i)) }
 {
-    // Never so, by the contract; `len` says that a list has less than 2^32 entries.
+    // By the contract this never happens. `len` says that a list has less than 2^32 entries, so
+    // `i + 1` does not overflow.
     if i >= folders.len() {
         unreachable!();
     }
+    // `get` counts from 1.
     let folder = folders.get(i + 1);
     is_path_of_any(&folder.files(), folder.name(), path)
 }
 
-/// Whether one of the files of a folder has this path.
+/// Whether one of the files of the folder with the path `folder` has this path.
 fn is_path_of_any<'a>(files: &List<'a, FileInfo<'a>>, folder: &[u8], path: &[u8]) -> bool
+    // The result says whether the path is that of one of these files.
     ensures { result ≡ list_any (λ file. bytes_eq path.now (path_of folder.now (name_of file)))
         (list_of (entries_in (list_value files.now))) }
 {
@@ -53,17 +59,20 @@ fn is_path_of_any<'a>(files: &List<'a, FileInfo<'a>>, folder: &[u8], path: &[u8]
     false
 }
 
-/// Whether the file at a place of a folder, counted from 0, has this path.
+/// Whether the file at a place of the folder with the path `folder`, counted from 0, has this path.
 fn is_path_of_file<'a>(files: &List<'a, FileInfo<'a>>, i: usize, folder: &[u8], path: &[u8]) -> bool
     // The index is that of an entry of the list.
     requires { i < count_of (entries_in (list_value files.now)) }
+    // The result says whether the path is that of this file.
     ensures { result ≡ bytes_eq path.now
         (path_of folder.now (name_of (entry_in (list_value files.now) i))) }
 {
-    // Never so, by the contract; `len` says that a list has less than 2^32 entries.
+    // By the contract this never happens. `len` says that a list has less than 2^32 entries, so
+    // `i + 1` does not overflow.
     if i >= files.len() {
         unreachable!();
     }
+    // `get` counts from 1.
     is_path(path, folder, files.get(i + 1).name())
 }
 
@@ -76,6 +85,7 @@ fn is_path(path: &[u8], folder: &[u8], name: &[u8]) -> bool
     if folder.is_empty() {
         return path == name;
     }
+    // Otherwise the path is the folder, a slash and the name.
     let Some(below) = path.strip_prefix(folder) else {
         return false;
     };

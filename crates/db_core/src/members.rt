@@ -33,6 +33,7 @@ pub const MOST_MEMBERS: usize = 65536;
 /// A package after the change, and the id of an added one.
 #[derive(Drop)]
 pub(crate) struct PackageWithId<'a> {
+    /// The view of the package, in a payload.
     pub(crate) view: PackageView<'a>,
     /// The id of an added package; none for a kept one.
     pub(crate) id: Option<[u8; 32]>,
@@ -46,10 +47,13 @@ impl<'a> Model for PackageWithId<'a> {
     ghost use Rattle.adb_view.specs.declared.tables.Kind.TheVariants as Kinds;
     ghost use Rattle.adb_view.specs.declared.tables.Which.TheVariants as Tables;
 
+    // Contracts see a payload, the word of the package in it, and the id of an added package.
     ghost Value = { List ℕ × ℕ × Option (List ℕ) };
 
+    // The payload and the word are those of the view.
     ghost view = { λ e. (payload_of e.view.adb, e.view.word, e.id) };
 
+    // The word refers to a package in the payload.
     ghost invariant = { λ e. is_sound (payload_of e.view.adb) (Kinds.Obj Tables.Package) e.view.word
         ≡ true };
 }
@@ -66,9 +70,10 @@ pub struct Members<'a> {
         (member_of_entry e)) entries.items) },
     // There are no more packages than there may be.
     ghost few: { length entries.items ≤ MOST_MEMBERS },
-    // Each path that a package lists is a name; a kept package lists no reserved path.
+    // Each path that a package lists is a name.
     ghost named: { list_all (λ e. lists_only_valid_names (member_of_entry e).pkg) entries.items
         ≡ true },
+    // A kept package lists no reserved path.
     ghost free: { list_all (λ e. is_added_or_lists_no_reserved (member_of_entry e)) entries.items
         ≡ true },
     // The packages are from sound containers.
@@ -94,6 +99,7 @@ impl<'a> Members<'a> {
 
     /// A list without packages, for kept packages of a database and added ones.
     pub fn new(alloc: Global, db: &'a Db<'a>) -> Members<'a>
+        // There is no member yet.
         ensures none { members_of result ≡ [] }
         // The old packages are those of the given database.
         ensures before { packages_of_old_database result ≡ packages_of db.entry.now }
@@ -139,7 +145,8 @@ impl<'a> Members<'a> {
         Ok(())
     }
 
-    /// Adds an added package, with its id. A refused call changes nothing.
+    /// Adds the package with these contents as an added one, with its id. A refused call changes
+    /// nothing.
     ///
     /// # Errors
     ///
@@ -167,7 +174,8 @@ impl<'a> Members<'a> {
         Ok(())
     }
 
-    /// Whether this name is after those of all packages, as that of the next member has to be.
+    /// Whether this name is after the names of all packages, as the name of the next member has to
+    /// be.
     pub fn is_after_members(&self, name: &[u8]) -> bool
         ensures { result ≡ is_after_members name.now (members_of self.now) }
     {
@@ -185,9 +193,10 @@ impl<'a> Members<'a> {
         // The result is the place of a member exactly if the member has this name.
         ensures found { (i : ℕ) (m : Member) → slice_get (members_of self.now) i ≡ Some m
             → is_found_place i result ≡ bytes_eq (member_name m) name.now }
-        // An index that is returned is that of an element.
+        // A place that is returned is that of a member.
         ensures within { IfSome result (λ i. i < length (members_of self.now)) }
     {
+        // The place of the first package whose name is not before the given one.
         let at = self.count_before(name);
         if at == self.len() {
             return None;
@@ -198,11 +207,11 @@ impl<'a> Members<'a> {
         Some(at)
     }
 
-    /// How many packages have names before this one.
+    /// How many packages have names that are before `name` in byte order.
     fn count_before(&self, name: &[u8]) -> usize
-        // The result is at most the length.
+        // The result is at most the number of packages.
         ensures within { result ≤ length self.now.entries.items }
-        // All elements before this index are before the wanted one, and none from it on.
+        // The packages before this place have names before the given one, and the others do not.
         ensures point { IsPartitionPoint
             (λ e. precedes (member_name (member_of_entry e)) name.now ≡ true)
             (λ e. precedes (member_name (member_of_entry e)) name.now ≡ false)
@@ -213,7 +222,9 @@ impl<'a> Members<'a> {
 
     /// How many packages there are.
     pub fn len(&self) -> usize
+        // The result is the number of members.
         ensures value { result ≡ length (members_of self.now) }
+        // There are at most `MOST_MEMBERS` members.
         ensures few { result ≤ MOST_MEMBERS }
     {
         self.entries.len()
@@ -263,6 +274,7 @@ impl<'a> Members<'a> {
     /// A kept member lists no reserved path, since its database passed the tests; an added package
     /// may list one.
     pub fn no_kept_member_lists_a_reserved_path(&self)
+        // No path is reserved that a kept member lists.
         ensures { All (λ l. is_added l.member ≡ false → is_reserved l.path ≡ false)
             (member_listings (members_of self.now)) }
     {}
@@ -274,9 +286,9 @@ impl<'a> Members<'a> {
     {}
 }
 
-/// Each file that members list is at its places: the member among members, the folder in it, and
-/// the file in the folder. Its path is that of the folder and the file. So a claim leads back to
-/// the entry of its file.
+/// A law: each listing (a file that a member lists) is at its places: the member among members, the
+/// folder in the member, and the file in the folder. The path of the listing is that of the folder
+/// and the file. So a claim leads back to the entry of its file.
 pub fn listings_are_at_their_places()
     ensures { (members : List Member) (i : ℕ) (l : Listing)
         → slice_get (member_listings members) i ≡ Some l → IsListedAt members l }

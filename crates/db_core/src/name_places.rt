@@ -24,11 +24,13 @@ pub(crate) struct NamePlace<'a> {
     pub(crate) place: usize,
 }
 
-/// The names of packages in byte order. Equal ones keep the order of the packages.
+/// The names of packages in byte order, each with its place. Equal names keep the order of their
+/// packages.
 pub(crate) fn sorted_names<'a>(
     alloc: Global,
     packages: &List<'a, PackageView<'a>>,
 ) -> Result<Vec<NamePlace<'a>>, AllocError>
+    // On Ok, the names and places are sorted in byte order of the names.
     ensures { IfOk result (λ names. map name_seen names.items
         ≡ placed_names_in_order (list_of (entries_in (list_value packages.now)))) }
 {
@@ -42,6 +44,7 @@ fn names_of<'a>(
     alloc: Global,
     packages: &List<'a, PackageView<'a>>,
 ) -> Result<Vec<NamePlace<'a>>, AllocError>
+    // On Ok, the names and places are in the order of the packages.
     ensures { IfOk result (λ names. map name_seen names.items
         ≡ placed_names_from 0 (list_of (entries_in (list_value packages.now)))) }
 {
@@ -59,16 +62,19 @@ fn name_at<'a>(packages: &List<'a, PackageView<'a>>, i: usize) -> &'a [u8]
     requires { i < count_of (entries_in (list_value packages.now)) }
     ensures { result.now ≡ package_name (entry_in (list_value packages.now) i) }
 {
-    // Never so, by the contract; `len` says that a list has less than 2^32 entries.
+    // By the contract this never happens. `len` says that a list has less than 2^32 entries, so
+    // `i + 1` does not overflow.
     if i >= packages.len() {
         unreachable!();
     }
+    // `get` counts from 1.
     let package = packages.get(i + 1);
     package.info().name()
 }
 
-/// Sorts names in byte order. Equal ones keep their order.
+/// Sorts names with their places in byte order of the names. Equal names keep their order.
 fn sort_names(names: &mut Vec<NamePlace<'_>>) -> Result<(), AllocError>
+    // On Ok, the list is sorted by names, and equal names keep their order.
     ensures { IfOk result (λ _. map name_seen names.new.items
         ≡ sorted_by placed_name_cmp (map name_seen names.old.items)) }
 {
@@ -80,9 +86,9 @@ fn sort_names(names: &mut Vec<NamePlace<'_>>) -> Result<(), AllocError>
 fn count_before(names: &[NamePlace<'_>], name: &[u8]) -> usize
     // The names are in byte order.
     requires { IsSorted placed_name_cmp (map name_seen names.now) }
-    // The result is at most the length.
+    // The result is at most the number of names.
     ensures within { result ≤ length names.now }
-    // All elements before this index are before the wanted one, and none from it on.
+    // The names before this index are before the given one, and the others are not.
     ensures point { IsPartitionPoint (λ n. precedes n.name name.now ≡ true)
         (λ n. precedes n.name name.now ≡ false) (map name_seen names.now) result }
 {
@@ -96,6 +102,7 @@ pub(crate) fn place_of(names: &[NamePlace<'_>], name: &[u8]) -> Option<usize>
     requires { IsSorted placed_name_cmp (map name_seen names.now) }
     ensures { result ≡ place_under_name name.now (map name_seen names.now) }
 {
+    // The index of the first name that is not before the given one.
     let at = count_before(names, name);
     if at == names.len() {
         return None;

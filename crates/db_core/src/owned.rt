@@ -18,13 +18,15 @@ pub struct Owned {
 impl Model for Owned {
     ghost use Rattle.std.specs.Prelude.{Bool, List};
 
+    // Contracts see the list of flags.
     ghost Value = { List Bool };
 
+    // The flags are the items of the vector.
     ghost view = { λ owned. owned.flags.items };
 }
 
 impl Owned {
-    /// A list without files.
+    /// A list of no flags, for no files.
     pub fn new(alloc: Global) -> Owned
         ensures { result ≡ [] }
     {
@@ -33,7 +35,7 @@ impl Owned {
         }
     }
 
-    /// The files as these flags say, one for each.
+    /// The list of these flags, one for each file.
     pub fn of(flags: Vec<bool>) -> Owned
         ensures { result ≡ flags.items }
     {
@@ -48,14 +50,14 @@ impl Owned {
     pub fn push(&mut self, owned: bool) -> Result<(), AllocError>
         // On Ok, the flag is added at the end.
         ensures ok { OnOk result (self.new ≡ self.old ++ owned ∷ []) }
-        // An error leaves the value unchanged.
+        // An error leaves the flags unchanged.
         ensures err { OnErr result (self.new ≡ self.old) }
     {
         self.flags.push(owned)?;
         Ok(())
     }
 
-    /// How many files the list has.
+    /// How many flags (and files) the list has.
     pub fn len(&self) -> usize
         ensures { result ≡ length self.now }
     {
@@ -69,7 +71,8 @@ impl Owned {
         self.flags.is_empty()
     }
 
-    /// Whether its member owns the file at a place, counted from 0.
+    /// Whether the file at a place of the list, counted from 0, is owned by the member that lists
+    /// it.
     pub fn get(&self, i: usize) -> bool
         // The index is that of an element.
         requires { i < length self.now }

@@ -1,6 +1,6 @@
 -- What the information of a package says of its file.
--- The rule is in `docs/formats.md`, "The database after a change": its `file-size` is unchanged. It
--- serves the law `a_package_keeps_its_information`.
+-- The rule is in `docs/formats.md`, "The database after a change": a kept package has every field unchanged, so
+-- also `file-size`. The definition serves the law `a_package_keeps_its_information`.
 use Rattle.std.specs.Prelude.{ℕ}
 use Rattle.adb_view.specs.Plain.{Plain}
 use Rattle.adb_view.specs.FieldIndexes.{INFO_FILE_SIZE, PACKAGE_INFO}

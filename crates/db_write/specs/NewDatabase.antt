@@ -15,7 +15,8 @@ use Rattle.db_core.specs.Members.{Member}
 
 -- ---- by flags, one for each file in its order
 
--- the entries of those files whose flag is set, by one flag for each; a file without a flag is left out
+-- the entries, without zeros, of those files whose flag is set, by one flag for each file; a file without a flag
+-- is left out
 abbrev pub owned_entries : List Plain → List Bool → Plains
 owned_entries [] flags = none
 owned_entries (file ∷ files) [] = none
@@ -23,8 +24,8 @@ owned_entries (file ∷ files) (true ∷ flags) =
     more (without_zeros file) (owned_entries files flags)
 owned_entries (file ∷ files) (false ∷ flags) = owned_entries files flags
 
--- the values that a function computes of each element of a list and the flags from the element's first
--- one on; `count` says how many flags each element has
+-- the values that the function `value` computes of each element of a list and the flags from the element's first
+-- flag on; `count` says how many flags each element has
 abbrev pub values_by_successive_flags :
     {X : Type 0} → (X → ℕ) → (X → List Bool → Plain) → List X → List Bool → Plains
 values_by_successive_flags count value [] flags = none
@@ -60,14 +61,15 @@ folders_in_new_database folders flags =
 abbrev pub member_file_count : Member → ℕ
 member_file_count m = total_of file_count (folders_in m.pkg)
 
--- the information of a package in the new database; the hash of an added package is its id
+-- the information of a package in the new database: `info` without zeros. The hash of an added package is its id;
+-- a kept package has no id, and keeps its hash
 abbrev pub info_in_new_database : Option (List ℕ) → Plain → Plain
 info_in_new_database id info =
     info_with_id_and_size info (unwrap_or id (text_in (entry_in info INFO_HASHES)))
     (int_in (entry_in info INFO_FILE_SIZE))
 
--- a package in the new database: its information, its folders, its scripts, its triggers, and its
--- priority in replacing
+-- a package in the new database, with the fields of table 7 in order: its information, its folders, its scripts, its
+-- triggers, and its priority in replacing
 abbrev pub package_in_new_database : Member → List Bool → Plain
 package_in_new_database m flags =
     trimmed_object_or_null (more (info_in_new_database m.id (entry_in m.pkg PACKAGE_INFO))
@@ -83,12 +85,12 @@ packages_in_new_database members flags =
 
 -- ---- the database
 
--- the value of the new database
+-- the value of the new database, by its members and one flag for each file that they list
 unfoldable pub database_value : List Member → List Bool → Plain
 database_value members flags =
     trimmed_object_or_null (more (array_or_null (packages_in_new_database members flags)) none)
 
--- the file of a database with this payload, unless the payload exceeds a limit of the writer
+-- the file of a database with this payload; or the counts, if the payload exceeds a limit of the writer
 abbrev pub database_container : Result (List ℕ) PayloadCounts → Result (List ℕ) PayloadCounts
 database_container (Ok payload) = Ok (file_of IDB_WORD payload)
 database_container (Err counts) = Err counts

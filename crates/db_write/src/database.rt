@@ -1,4 +1,4 @@
-//! The database's container.
+//! Writes the container of the database after a change.
 //! The rules are in `docs/formats.md`, "The database after a change" and "Container"; the limits of
 //! a payload in "Canonical layout"; the condition on the flags in `docs/DECISIONS.md`, "The
 //! installed database".
@@ -31,9 +31,10 @@ use std::alloc::{AllocError, Global};
 ///
 /// `TooLarge` if the database exceeds a limit of the writer, or `Memory`.
 pub fn write_db(alloc: Global, members: &Members<'_>, owned: &Owned) -> Result<Vec<u8>, WriteFault>
+    // The file is that of the new database, or too large as the definition says, or memory ran out.
     ensures written { IsWrittenAs (λ file. file.items) result
         (database_of (members_of members.now) owned.now) }
-    // The file passes all tests of a database if the owned listings may be listed.
+    // The file passes all tests of a database if no path has two owners, and none is reserved.
     ensures sound { IfOk result (λ file.
         HaveOneOwnerAndNoReservedPath (owned_listings (member_listings
         (members_of members.now)) owned.now)
@@ -57,8 +58,11 @@ fn database_payload(
     members: &Members<'_>,
     flags: &[bool],
 ) -> Result<Vec<u8>, WriteFault>
+    // The payload is that of the new database, or too large as the definition says, or memory
+    // ran out.
     ensures written { IsWrittenAs (λ payload. payload.items) result
         (payload_or_overflow (database_value (members_of members.now) flags.now)) }
+    // The payload is within the limit of bytes.
     ensures small { IfOk result (λ payload. length payload.items ≤ MOST_BYTES) }
 {
     let mut draft = Draft::new(alloc);
@@ -73,6 +77,7 @@ fn write_database(
     members: &Members<'_>,
     flags: &[bool],
 ) -> Result<(), AllocError>
+    // On Ok, the value of the new database is added to the draft.
     ensures { OnOk result
         (draft.new ≡ draft_with (database_value (members_of members.now) flags.now) draft.old) }
 {

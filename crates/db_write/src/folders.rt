@@ -1,4 +1,5 @@
-//! The folders of a package, and of their files those that it owns.
+//! Writes the folders of a package, and of their files those that the package owns. `packages.rt`
+//! calls this for each package.
 //! The rule is in `docs/formats.md`, "The database after a change": "each folder with its name
 //! and its access list, also if it is empty, and of its files those that the package owns"; the
 //! fields in "Schemas", tables 5 and 7.
@@ -20,8 +21,9 @@ use adb_view::field_indexes::{DIR_ACL, DIR_FILES, DIR_NAME, PACKAGE_PATHS};
 use adb_view::{Adb, Arr, Val, Which, entry_word};
 use std::alloc::AllocError;
 
-/// Writes the folders of a package with the files whose flag is set, by one flag for each file of
-/// the package, in order.
+/// Writes the folders of the package with the word `pkg`, with the files whose flag is set: `flags`
+/// has one flag for each file of the package, in order. `known` remembers long texts that the draft
+/// has already.
 pub(crate) fn write_folders(
     draft: &mut Draft,
     adb: Adb<'_>,
@@ -29,11 +31,15 @@ pub(crate) fn write_folders(
     pkg: Val,
     flags: &[bool],
 ) -> Result<(), AllocError>
+    // The word `pkg` refers to a package.
     requires sound { is_sound (payload_of adb) (Kinds.Obj Tables.Package) pkg ≡ true }
+    // Each text of this payload that `known` remembers has the remembered word in the draft.
     requires known { AreRememberedBlobsOfDraft (payload_of adb) draft.old known.old }
+    // On Ok, the array of the folders is added to the draft.
     ensures folders { OnOk result (draft.new
         ≡ draft_with (array_or_null (folders_in_new_database (folders_in
         (value_at (payload_of adb.entry) (Kinds.Obj Tables.Package) pkg)) flags.now)) draft.old) }
+    // On Ok, each remembered text has the remembered word in the new draft.
     ensures known { OnOk result (AreRememberedBlobsOfDraft
         (payload_of adb.entry) draft.new known.new) }
 {
@@ -41,9 +47,11 @@ pub(crate) fn write_folders(
     write_folder_list(draft, adb, known, folders, flags)
 }
 
-/// The flags after those of the files of a package: the next package's.
+/// The flags that are left after those of the files of a package: those of the next packages.
 pub(crate) fn flags_behind<'f>(adb: Adb<'_>, pkg: Val, flags: &'f [bool]) -> &'f [bool]
+    // The word `pkg` refers to a package.
     requires { is_sound (payload_of adb) (Kinds.Obj Tables.Package) pkg ≡ true }
+    // As many flags are dropped as the folders of the package have files.
     ensures { result.now ≡ drop (total_of file_count (folders_in
         (value_at (payload_of adb.entry) (Kinds.Obj Tables.Package) pkg))) flags.entry.now }
 {
@@ -51,7 +59,8 @@ pub(crate) fn flags_behind<'f>(adb: Adb<'_>, pkg: Val, flags: &'f [bool]) -> &'f
     flags_after_folders(adb, folders, flags)
 }
 
-/// Writes folders with the files whose flag is set.
+/// Writes folders with the files whose flag is set. `flags` are the flags from the first file of
+/// the first folder on.
 fn write_folder_list<'a>(
     draft: &mut Draft,
     adb: Adb<'a>,
@@ -59,17 +68,22 @@ fn write_folder_list<'a>(
     folders: Arr<'a>,
     flags: &[bool],
 ) -> Result<(), AllocError>
+    // Each entry of `folders` refers to a folder.
     requires sound { are_all_sound (payload_of adb) (Kinds.Obj Tables.Dir) (array_entries folders)
         ≡ true }
+    // Each text of this payload that `known` remembers has the remembered word in the draft.
     requires known { AreRememberedBlobsOfDraft (payload_of adb) draft.old known.old }
+    // On Ok, the array of the folders is added to the draft.
     ensures folders { OnOk result (draft.new
         ≡ draft_with (array_or_null (folders_in_new_database (list_of
         (entries_in (array_at (payload_of adb.entry) (Kinds.Obj Tables.Dir)
         (array_entries folders.entry)))) flags.now)) draft.old) }
+    // On Ok, each remembered text has the remembered word in the new draft.
     ensures known { OnOk result (AreRememberedBlobsOfDraft
         (payload_of adb.entry) draft.new known.new) }
 {
     draft.open_list()?;
+    // The flags from the first file of the next folder on.
     let mut left = flags;
     for i in 0..folders.len() {
         let folder = entry_word(folders, i);
@@ -80,10 +94,12 @@ fn write_folder_list<'a>(
     draft.close_array()
 }
 
-/// The flags after those of the files of these folders.
+/// The flags that are left after those of the files of these folders.
 fn flags_after_folders<'a, 'f>(adb: Adb<'a>, folders: Arr<'a>, flags: &'f [bool]) -> &'f [bool]
+    // Each entry of `folders` refers to a folder.
     requires { are_all_sound (payload_of adb) (Kinds.Obj Tables.Dir) (array_entries folders)
         ≡ true }
+    // As many flags are dropped as these folders have files.
     ensures { result.now ≡ drop (total_of file_count (list_of (entries_in
         (array_at (payload_of adb.entry) (Kinds.Obj Tables.Dir) (array_entries folders.entry)))))
         flags.entry.now }
@@ -95,10 +111,12 @@ fn flags_after_folders<'a, 'f>(adb: Adb<'a>, folders: Arr<'a>, flags: &'f [bool]
     left
 }
 
-/// The flags after those of the files of the folder with this word; none are left if there are too
-/// few.
+/// The flags that are left after those of the files of the folder with this word: none if there are
+/// fewer flags than files.
 fn flags_after_folder<'f>(adb: Adb<'_>, folder: Val, flags: &'f [bool]) -> &'f [bool]
+    // The word `folder` refers to a folder.
     requires { is_sound (payload_of adb) (Kinds.Obj Tables.Dir) folder ≡ true }
+    // As many flags are dropped as the folder has files.
     ensures { result.now ≡ drop
         (file_count (value_at (payload_of adb.entry) (Kinds.Obj Tables.Dir) folder))
         flags.entry.now }
@@ -111,7 +129,8 @@ fn flags_after_folder<'f>(adb: Adb<'_>, folder: Val, flags: &'f [bool]) -> &'f [
     &flags[count..]
 }
 
-/// Writes the folder with a word, with its access list and those of its files whose flag is set.
+/// Writes the folder with the word `folder`, with its access list and those of its files whose flag
+/// is set. `flags` are the flags from its first file on.
 fn write_folder(
     draft: &mut Draft,
     adb: Adb<'_>,
@@ -119,10 +138,14 @@ fn write_folder(
     folder: Val,
     flags: &[bool],
 ) -> Result<(), AllocError>
+    // The word `folder` refers to a folder.
     requires sound { is_sound (payload_of adb) (Kinds.Obj Tables.Dir) folder ≡ true }
+    // Each text of this payload that `known` remembers has the remembered word in the draft.
     requires known { AreRememberedBlobsOfDraft (payload_of adb) draft.old known.old }
+    // On Ok, the folder is added to the draft, with the files whose flag is set.
     ensures folder { OnOk result (draft.new ≡ draft_with (folder_in_new_database
         (value_at (payload_of adb.entry) (Kinds.Obj Tables.Dir) folder) flags.now) draft.old) }
+    // On Ok, each remembered text has the remembered word in the new draft.
     ensures known { OnOk result (AreRememberedBlobsOfDraft
         (payload_of adb.entry) draft.new known.new) }
 {
@@ -135,7 +158,8 @@ fn write_folder(
     draft.close_object()
 }
 
-/// Writes those of some files whose flag is set, in their order.
+/// Writes the array of those files whose flag is set, in their order. `flags` are the flags from
+/// the first file on.
 fn write_files<'a>(
     draft: &mut Draft,
     adb: Adb<'a>,
@@ -143,12 +167,16 @@ fn write_files<'a>(
     files: Arr<'a>,
     flags: &[bool],
 ) -> Result<(), AllocError>
+    // Each entry of `files` refers to a file.
     requires sound { are_all_sound (payload_of adb) (Kinds.Obj Tables.File) (array_entries files)
         ≡ true }
+    // Each text of this payload that `known` remembers has the remembered word in the draft.
     requires known { AreRememberedBlobsOfDraft (payload_of adb) draft.old known.old }
+    // On Ok, the array of the files whose flag is set is added to the draft.
     ensures files { OnOk result (draft.new ≡ draft_with (array_or_null (owned_entries (list_of
         (entries_in (array_at (payload_of adb.entry) (Kinds.Obj Tables.File)
         (array_entries files.entry)))) flags.now)) draft.old) }
+    // On Ok, each remembered text has the remembered word in the new draft.
     ensures known { OnOk result (AreRememberedBlobsOfDraft
         (payload_of adb.entry) draft.new known.new) }
 {

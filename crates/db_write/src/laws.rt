@@ -1,5 +1,5 @@
-//! The contents of a written database when it is read, and that nothing changes if nothing was to
-//! be changed.
+//! Laws: what a written database contains when it is read, and that a change of nothing leaves a
+//! database as it is.
 //! The rules are in `docs/formats.md`, "The database after a change", and in `docs/DECISIONS.md`,
 //! "The installed database" (the conditions on owned files).
 ghost use Rattle.adb_copy.specs.Zeros.{without_zeros};
@@ -36,17 +36,20 @@ use adb_schema::{no_text_is_bad_where_each_keeps_its_rule, sound_containers_hold
 use adb_sound::{a_container_of_a_good_value_is_sound, what_a_container_is_made_of_is_read_back};
 use adb_write::{a_file_is_spelled, a_value_overflows_exactly_past_a_limit};
 
-/// If its value may be at the root of a container, a written database passes all tests, and its
-/// packages are read back: those of the members, each with the files that it owns.
+/// A law: if its value may be at the root of a container, a written database passes all tests, and
+/// its packages are read back: those of the members, each with the files that it owns.
 pub fn a_written_database_is_read_back()
+    // The file passes the tests of a database.
     ensures database { (members : List Member) (flags : List Bool) (bytes : List ℕ)
         → IsValidRootValueOfTable Tables.Idb (database_value members flags)
         → database_of members flags ≡ Ok bytes
         → IsSoundContainer Tables.Idb bytes }
+    // The file passes all tests of a container of one of the four schemas.
     ensures sound { (members : List Member) (flags : List Bool) (bytes : List ℕ)
         → IsValidRootValueOfTable Tables.Idb (database_value members flags)
         → database_of members flags ≡ Ok bytes
         → container_fault bytes ≡ None }
+    // The packages in the file are those of the new database.
     ensures packages { (members : List Member) (flags : List Bool) (bytes : List ℕ)
         → IsValidRootValueOfTable Tables.Idb (database_value members flags)
         → database_of members flags ≡ Ok bytes
@@ -59,10 +62,11 @@ pub fn a_written_database_is_read_back()
     what_a_container_is_made_of_is_read_back();
 }
 
-/// The value of a written database may be at the root of a container under these conditions: each
-/// kept member was read from a sound database, and each added one from a sound package with its id;
-/// members are in order, each owned path has one owner, and none is reserved.
+/// A law: the value of a written database may be at the root of a container under these conditions:
+/// each kept member was read from a sound database, and each added one from a sound package with
+/// its id; members are in order, each owned path has one owner, and none is reserved.
 pub fn a_database_of_sound_packages_may_be_the_root()
+    // `flags` has one flag for each file that members list, and `bytes` is the written file.
     ensures { (members : List Member) (flags : List Bool) (bytes : List ℕ)
         → AreMembersOfSoundContainers members → AreMembersInNameOrder members
         → HaveOneOwnerAndNoReservedPath (owned_listings (member_listings members) flags)
@@ -74,13 +78,15 @@ pub fn a_database_of_sound_packages_may_be_the_root()
     no_repeated_name_is_reported_if_there_is_none();
 }
 
-/// The contents of sound containers may be members: each package of a database as a kept one, and
-/// the value of a package as an added one, with a digest as its id.
+/// A law: the contents of sound containers may be members: each package of a database as a kept
+/// one, and the value of a package as an added one, with a digest as its id.
 pub fn packages_of_sound_containers_may_be_members()
+    // Each package of a sound database may be kept.
     ensures stays { (file : List ℕ) (pkg : Plain)
         → IsSoundContainer Tables.Idb file → All (λ b. b < 256) (payload_in file)
         → IsIn pkg (entries_at IDB_PACKAGES (root_value Tables.Idb (payload_in file)))
         → IsPackageOfSoundContainer pkg None }
+    // The package in a sound container may be added.
     ensures comes { (file id : List ℕ)
         → IsSoundContainer Tables.Package file → All (λ b. b < 256) (payload_in file)
         → is_digest_length (length id) ≡ true
@@ -89,22 +95,24 @@ pub fn packages_of_sound_containers_may_be_members()
     sound_containers_hold_sound_values();
 }
 
-/// The packages of a database after a change list exactly the files that members list and own, in
-/// their order.
+/// A law: the packages of a database after a change list exactly the files that members list and
+/// own, in their order.
 pub fn a_database_lists_the_owned_files()
     ensures { (members : List Member) (flags : List Bool)
         → flat_map paths_of_package_files (list_of (packages_in_new_database members flags))
         ≡ owned_paths members flags }
 {}
 
-/// A database that is read and written with nothing changed has the same value, in which an integer
-/// 0 is Null. If the value had no such integer, and its payload was canonical, it has the same
-/// bytes.
+/// A law: a database that is read and written with nothing changed has the same value, in which an
+/// integer 0 is Null. If the value had no such integer, and its payload was canonical, it has the
+/// same bytes.
 pub fn a_database_without_changes_stays_the_same()
+    // The written value is the read one without zeros.
     ensures value { (v : Plain) → HasShape (shape_of (Kinds.Obj Tables.Idb)) v
         → database_value (members_of_kept (entries_at IDB_PACKAGES v))
         (all_owned_flags (members_of_kept (entries_at IDB_PACKAGES v)))
         ≡ without_zeros v }
+    // A value without zeros in its canonical payload is written as the same bytes.
     ensures bytes { (v : Plain) (payload : List ℕ) → HasShape (shape_of (Kinds.Obj Tables.Idb)) v
         → without_zeros v ≡ v → payload_or_overflow v ≡ Ok payload
         → database_of (members_of_kept (entries_at IDB_PACKAGES v))
@@ -112,35 +120,42 @@ pub fn a_database_without_changes_stays_the_same()
         ≡ Ok (file_of IDB_WORD payload) }
 {}
 
-/// In a new database the hash of an added package is its id, and a kept one keeps its own. The size
-/// of its file is unchanged, and so is each other field, in which an integer 0 is Null.
+/// A law: in a new database the hash of an added package is its id, and a kept package keeps its
+/// hash. The size of the package's file is unchanged, and so is each other field, in which an
+/// integer 0 is Null.
 pub fn a_package_keeps_its_information()
+    // The hash of an added package is its id.
     ensures comes { (pkg : Plain) (id : List ℕ) (flags : List Bool)
         → installed_id (package_in_new_database (member_of_added pkg id) flags) ≡ id }
+    // The hash of a kept package is unchanged.
     ensures stays { (pkg : Plain) (flags : List Bool)
         → installed_id (package_in_new_database (member_of_kept pkg) flags) ≡ installed_id pkg }
+    // The size of the package's file is unchanged.
     ensures size { (m : Member) (flags : List Bool)
         → package_file_size_in_info (package_in_new_database m flags)
         ≡ package_file_size_in_info m.pkg }
+    // The field with the index i is unchanged, but for zeros.
     ensures others { (m : Member) (flags : List Bool) (i : ℕ)
         → i ≢ INFO_HASHES → i ≢ INFO_FILE_SIZE
         → entry_in (entry_in (package_in_new_database m flags) PACKAGE_INFO) i
         ≡ without_zeros (entry_in (entry_in m.pkg PACKAGE_INFO) i) }
 {}
 
-/// The folders of a package are kept in a new database, each with its name and its access list,
-/// even if no file of them is owned.
+/// A law: the folders of a package are kept in a new database, each with its name and its access
+/// list, even if no file of them is owned.
 pub fn a_package_keeps_its_folders()
+    // The paths of the folders are unchanged.
     ensures names { (m : Member) (flags : List Bool)
         → map name_of (folders_in (package_in_new_database m flags))
         ≡ map name_of (folders_in m.pkg) }
+    // The access lists of the folders are unchanged, but for zeros.
     ensures acls { (m : Member) (flags : List Bool)
         → map (λ folder. entry_in folder DIR_ACL) (folders_in (package_in_new_database m flags))
         ≡ map (λ folder. without_zeros (entry_in folder DIR_ACL)) (folders_in m.pkg) }
 {}
 
-/// The entries of files in a new database are those of the files that members list and own, in
-/// their order, each as its member has it, in which an integer 0 is Null.
+/// A law: the entries of files in a new database are those of the files that members list and own,
+/// in their order, each as its member has it, in which an integer 0 is Null.
 pub fn a_database_keeps_the_entries_of_owned_files()
     ensures { (members : List Member) (flags : List Bool)
         → map (λ l. l.entry)
@@ -148,23 +163,27 @@ pub fn a_database_keeps_the_entries_of_owned_files()
         ≡ map (λ l. without_zeros l.entry) (owned_listings (member_listings members) flags) }
 {}
 
-/// A package in a new database keeps its scripts, its triggers and its priority in replacing, in
-/// which an integer 0 is Null.
+/// A law: a package in a new database keeps its scripts, its triggers and its priority in
+/// replacing, in which an integer 0 is Null.
 pub fn a_package_keeps_its_scripts_and_its_priority()
+    // The scripts are unchanged, but for zeros.
     ensures scripts { (m : Member) (flags : List Bool)
         → entry_in (package_in_new_database m flags) PACKAGE_SCRIPTS
         ≡ without_zeros (entry_in m.pkg PACKAGE_SCRIPTS) }
+    // The patterns of its trigger are unchanged, but for zeros.
     ensures triggers { (m : Member) (flags : List Bool)
         → entry_in (package_in_new_database m flags) PACKAGE_TRIGGERS
         ≡ without_zeros (entry_in m.pkg PACKAGE_TRIGGERS) }
+    // The priority in replacing is unchanged.
     ensures priority { (m : Member) (flags : List Bool)
         → int_in (entry_in (package_in_new_database m flags) PACKAGE_REPLACES_PRIORITY)
         ≡ int_in (entry_in m.pkg PACKAGE_REPLACES_PRIORITY) }
 {}
 
-/// A written database whose value may be at the root of a container is written again with the same
-/// bytes: it is read back, and nothing changes.
+/// A law: a written database whose value may be at the root of a container is written again with
+/// the same bytes: it is read back, and nothing changes.
 pub fn a_written_database_is_written_again_alike()
+    // `bytes` is the written file; in its second writing each listed file is owned.
     ensures { (members : List Member) (flags : List Bool) (bytes : List ℕ)
         → IsValidRootValueOfTable Tables.Idb (database_value members flags)
         → database_of members flags ≡ Ok bytes

@@ -2,8 +2,8 @@
 //!
 //! It takes the members of a change and the files that they own, and returns the bytes of a
 //! container. The contracts cite `NewDatabase` (the database's value, field by field, and its file)
-//! and `SoundMembers` (members that are from sound containers) of `specs/`. `laws` says what
-//! follows.
+//! and `SoundMembers` (members that are from sound containers) of `specs/`. `laws` states what
+//! a written database contains when it is read.
 //! The rules are in `docs/formats.md`, "The database after a change", and "Schemas", tables 5, 7
 //! and 9.
 #![tactic(auto)]

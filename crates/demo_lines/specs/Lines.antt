@@ -35,19 +35,19 @@ demo_file i = demo_folder i ++ codes "/usr/share/demo/" ++ demo_package_name i
 abbrev pub demo_text : ℕ → List ℕ
 demo_text i = demo_package_name i ++ codes "\n"
 
--- the path of package i, in the folder of the index
+-- the path of the file of package i, in the folder of the index
 abbrev pub demo_package_path : ℕ → List ℕ
 demo_package_path i = demo_folder i ++ codes "-" ++ demo_version i ++ codes ".apk"
 
 -- ---- the command lines
 
--- the words with the dependency of package i: from the second on, each depends on that of half its
--- number, rounded down
+-- the words with the dependency of package i: from the second package on, each package depends on the package of
+-- half its number, rounded down
 abbrev pub depends_words : ℕ → List (List ℕ)
 depends_words i =
     if nat_lt i 2 then [] else codes "-I" ∷ (codes "depends:" ++ demo_package_name (i / 2)) ∷ []
 
--- the words that make package i
+-- the words of the command line that makes package i
 abbrev pub mkpkg_words : ℕ → List (List ℕ)
 mkpkg_words i =
     codes "mkpkg" ∷ codes "-F" ∷ demo_folder i ∷ codes "-o" ∷ demo_package_path i
@@ -68,20 +68,20 @@ abbrev pub demo_package_paths : ℕ → List (List ℕ)
 demo_package_paths zero = []
 demo_package_paths (suc i) = demo_package_paths i ++ (demo_package_path (suc i) ∷ [])
 
--- the words that make the index of n packages
+-- the words of the command line that makes the index of n packages
 abbrev pub mkndx_words : ℕ → List (List ℕ)
 mkndx_words n = codes "mkndx" ∷ codes "-o" ∷ demo_index_path ∷ demo_package_paths n
 
--- the name of package i, if none of n depends on it: only packages 2i and 2i + 1 could
+-- the name of package i, if none of the packages 1 to n depends on it: only packages 2i and 2i + 1 could
 abbrev pub name_unless_needed_by_first_n : ℕ → ℕ → List (List ℕ)
 name_unless_needed_by_first_n n i = if nat_lt n (2 * i) then demo_package_name i ∷ [] else []
 
--- the names of those of the packages 1 to i on which none of n depends
+-- the names of those of the packages 1 to the second argument on which none of the packages 1 to n depends
 abbrev pub names_not_needed_by_first_n : ℕ → ℕ → List (List ℕ)
 names_not_needed_by_first_n n zero = []
 names_not_needed_by_first_n n (suc i) =
     names_not_needed_by_first_n n i ++ name_unless_needed_by_first_n n (suc i)
 
--- the words that add those of n packages on which no other depends
+-- the words of the command line that adds those of n packages on which no other depends
 abbrev pub add_words : ℕ → List (List ℕ)
 add_words n = codes "add" ∷ codes "--initdb" ∷ codes "--allow-untrusted" ∷ names_not_needed_by_first_n n n

@@ -8,8 +8,8 @@ use Rattle.dep_core.specs.World.{is_line_end}
 abbrev pub last_line : List ℕ → List ℕ
 last_line report = after_last is_line_end (take (length report - 1) report)
 
--- the line of `demo`: how many packages it made, and the last line of the report of their
--- installation
+-- the line that `demo` prints: how many packages it made, and the last line of `report`, which `add` gave for
+-- their installation
 abbrev pub demo_line : ℕ → List ℕ → List ℕ
 demo_line n report =
     codes "demo " ++ decimal n ++ codes ": " ++ last_line report ++ codes "\n"

@@ -31,6 +31,7 @@ pub fn mkpkg_words(alloc: Global, i: u16) -> Result<Words, AllocError>
 
 // Adds the arguments of the command line that makes package i to an empty list.
 fn push_mkpkg(words: &mut Words, alloc: Global, i: u16) -> Result<(), AllocError>
+    // The list is still empty.
     requires { words.old ≡ [] }
     ensures { OnOk result (words.new ≡ mkpkg_words i) }
 {
@@ -44,6 +45,7 @@ fn push_mkpkg(words: &mut Words, alloc: Global, i: u16) -> Result<(), AllocError
 
 // Adds the option with the dependency of package i, if the package has one.
 fn push_depends(words: &mut Words, alloc: Global, i: u16) -> Result<(), AllocError>
+    // The list has so few words that more words can be added.
     requires { length words.old < 16 }
     ensures { OnOk result (words.new ≡ words.old ++ depends_words i) }
 {
@@ -55,6 +57,7 @@ fn push_depends(words: &mut Words, alloc: Global, i: u16) -> Result<(), AllocErr
 
 // Adds two arguments to a command line: an option, and its value.
 fn push_option(words: &mut Words, option: &[u8], value: &[u8]) -> Result<(), AllocError>
+    // The list has so few words that more words can be added.
     requires { length words.old < 32 }
     ensures { OnOk result (words.new ≡ words.old ++ option.now ∷ value.now ∷ []) }
 {
@@ -62,7 +65,7 @@ fn push_option(words: &mut Words, option: &[u8], value: &[u8]) -> Result<(), All
     words.push(value)
 }
 
-// An argument of a command line: these first bytes, followed by the name of package i.
+// An argument of a command line: the bytes `front`, followed by the name of package i.
 fn name_word(alloc: Global, front: &[u8], i: u16) -> Result<Vec<u8>, AllocError>
     ensures { IfOk result (λ text. text.items ≡ front.now ++ demo_package_name i) }
 {
@@ -94,6 +97,7 @@ pub fn mkndx_words(alloc: Global, n: u16) -> Result<Words, AllocError>
 
 // Adds the paths of packages 1 to n, as arguments of a command line.
 fn push_packages(words: &mut Words, alloc: Global, n: u16) -> Result<(), AllocError>
+    // The list has so few words that more words can be added.
     requires { length words.old < 16 }
     ensures { OnOk result (words.new ≡ words.old ++ demo_package_paths n) }
 {
@@ -105,6 +109,7 @@ fn push_packages(words: &mut Words, alloc: Global, n: u16) -> Result<(), AllocEr
 
 // Adds the path of package i, as an argument of a command line.
 fn push_package(words: &mut Words, alloc: Global, i: u16) -> Result<(), AllocError>
+    // The list has so few words that more words can be added.
     requires { length words.old < 100000 }
     ensures { OnOk result (words.new ≡ words.old ++ demo_package_path i ∷ []) }
 {
@@ -128,6 +133,7 @@ pub fn add_words(alloc: Global, n: u16) -> Result<Words, AllocError>
 // Adds the names of those of n packages on which no other one depends, as arguments of a command
 // line.
 fn push_top_names(words: &mut Words, alloc: Global, n: u16) -> Result<(), AllocError>
+    // The list has so few words that more words can be added.
     requires { length words.old < 16 }
     ensures { OnOk result (words.new ≡ words.old ++ names_not_needed_by_first_n n n) }
 {
@@ -137,11 +143,13 @@ fn push_top_names(words: &mut Words, alloc: Global, n: u16) -> Result<(), AllocE
     Ok(())
 }
 
-// Adds the name of package i, if none of n depends on it: the first that does has twice its number.
+// Adds the name of package i, if none of the n packages depends on package i.
 fn push_if_top(words: &mut Words, alloc: Global, n: u16, i: u16) -> Result<(), AllocError>
+    // The list has so few words that more words can be added.
     requires { length words.old < 100000 }
     ensures { OnOk result (words.new ≡ words.old ++ name_unless_needed_by_first_n n i) }
 {
+    // The first package that depends on package i has the number 2i.
     if 2 * i as u32 <= n as u32 {
         return Ok(());
     }
@@ -154,17 +162,20 @@ fn push_if_top(words: &mut Words, alloc: Global, n: u16, i: u16) -> Result<(), A
 /// The number of packages that `demo` makes: its one operand.
 #[tactic(auto, using(crate::proofs::Numbers::one_operand))]
 pub fn demo_count(operands: &Operands) -> u16
+    // The command line was accepted: there is exactly one operand, a number.
     requires { IsTrue (are_allowed_operands (Some (exactly 1 Number)) operands.now) }
     ensures { result ≡ demo_count operands.now }
 {
     number_of(operands.get(0).text.as_bytes())
 }
 
-// The number of which the text is the decimal form. It is 1 to 20,000, so it fits into 16 bits.
+// The number that a text has in decimal digits. The number is 1 to 20,000, so it fits into 16 bits.
 fn number_of(text: &[u8]) -> u16
+    // The text is a number that `demo` accepts.
     requires { IsTrue (is_demo_number text.now) }
     ensures { result ≡ digits_value 10 text.now }
 {
+    // By the contract the text is such a number, so neither of the two calls fails.
     match str::from_utf8(text) {
         Ok(digits) => match digits.parse::<u32>() {
             Ok(number) => number as u16,
@@ -174,8 +185,8 @@ fn number_of(text: &[u8]) -> u16
     }
 }
 
-/// The line of `demo`: that n packages were made, and the last line of the report of their
-/// installation.
+/// The line that `demo` prints: that n packages were made, and the last line of `report`, which
+/// `add` gave for their installation.
 pub fn demo_line(alloc: Global, n: u16, report: &[u8]) -> Result<Text, AllocError>
     ensures { IfOk result (λ line. line ≡ demo_line n report.now) }
 {
@@ -190,6 +201,7 @@ pub fn demo_line(alloc: Global, n: u16, report: &[u8]) -> Result<Text, AllocErro
 fn last_line(report: &[u8]) -> &[u8]
     ensures { result.now ≡ last_line report.now }
 {
+    // The last byte of a report is a line end.
     behind_lines(&report[..report.len().saturating_sub(1)])
 }
 

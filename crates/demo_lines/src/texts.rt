@@ -1,4 +1,5 @@
-//! The texts of package i and of its file. The rules are in `docs/commands.md`, "`demo N`".
+//! Names, paths and contents of the packages and files that `demo` makes, by the number i of the
+//! package. The rules are in `docs/commands.md`, "`demo N`".
 ghost use Rattle.std.specs.Prelude.{◌≡◌, ◌<◌, ◌++◌, IfOk, OnOk};
 ghost use Rattle.demo_lines.specs.Lines.{demo_file, demo_folder, demo_index_path, demo_package_name, demo_package_path, demo_repositories, demo_text, demo_version, digit_at_unit};
 
@@ -43,7 +44,7 @@ pub(crate) fn demo_folder(alloc: Global, i: u16) -> Result<Vec<u8>, AllocError>
     Ok(text)
 }
 
-/// The path of package i, in the folder of the index.
+/// The path of the file of package i, in the folder of the index.
 pub(crate) fn demo_package_path(alloc: Global, i: u16) -> Result<Vec<u8>, AllocError>
     ensures { IfOk result (λ text. text.items ≡ demo_package_path i) }
 {

@@ -25,7 +25,7 @@ use outcome::{
     values_found_in_bytes_are_of_their_table,
 };
 
-/// A container that is generated from a text is printed as that text again.
+/// A law: a container that `adbgen` makes of a text is printed by `adbdump` as this text again.
 pub fn what_is_generated_is_printed_again()
     ensures { (text file : List ℕ) → generated_file text ≡ Ok file → dump_of file ≡ Ok text }
 {
@@ -38,15 +38,17 @@ pub fn what_is_generated_is_printed_again()
     a_text_is_accepted_exactly_if_a_root_has_it();
 }
 
-/// A text that was printed of a container is generated as the canonical container of the
-/// container's value, without contents of files, or refused for the counts at which that is too
-/// large. So a canonical container without contents is generated from its own dump.
+/// A law: of the text that `adbdump` prints for a container, `adbgen` makes the canonical container
+/// of the same value, without contents of files. It refuses the text if that container is too
+/// large, with its counts. So a canonical container without contents is made from its own dump.
 pub fn what_is_printed_is_generated_again()
+    // The container of the text has the value of the printed container, or is too large.
     ensures value { (file text : List ℕ) (schema : ℕ) (which : Which)
         → All (λ b. b < 256) (payload_in file) → dump_of file ≡ Ok text
         → schema_of_header file ≡ Ok schema → table_of_schema schema ≡ Some which
         → generated_file text
         ≡ file_unless_too_large schema (payload_or_overflow (root_value which (payload_in file))) }
+    // A canonical container without contents is made again, byte for byte.
     ensures canonical { (which : Which) (value : Plain) (schema : ℕ) (payload text : List ℕ)
         → IsNormalRootValueOfTable which value → schema_word which ≡ Some schema
         → payload_or_overflow value ≡ Ok payload → dump_of (file_of schema payload) ≡ Ok text

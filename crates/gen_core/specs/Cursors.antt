@@ -9,19 +9,19 @@ use Rattle.gen_core.specs.Generated.{text_lines}
 
 -- a place in a text, at the beginning of a line
 pub record CursorState : Type 0 where
-  -- the lines from there on that have their line end
+  -- the lines from this place on that have their line end, the current line first
   pub lines : List Line
-  -- the number of the line there, from 1
+  -- the number of the current line, counted from 1
   pub number : ℕ
-  -- how many levels of two bytes in front of that line were read already
+  -- how many levels (of two spaces) of the current line's indentation were read
   pub levels : ℕ
 
 -- a place by its parts
 abbrev pub cursor_from_parts : List Line → ℕ → ℕ → CursorState
 cursor_from_parts lines number levels = record { lines = lines; number = number; levels = levels }
 
--- the lines still to be read: the current one, with the levels of its margin that were read put back,
--- and all lines after it that have their line ends
+-- the lines still to be read: the current one, with the indentation that was read (`levels`) put back, and the
+-- lines of `rest`, the bytes after it, that have their line ends
 abbrev pub lines_at_cursor : ℕ → Option Line → List ℕ → List Line
 lines_at_cursor levels None rest = []
 lines_at_cursor levels (Some l) rest = (margin levels ++ l) ∷ (text_lines rest).0
@@ -42,18 +42,18 @@ abbrev pub block_at : ℕ → List Line → List Line × List Line
 block_at depth [] = ([], [])
 block_at depth (l ∷ ls) = end_block_or_add_line l ls (strip_prefix (margin depth) l) (block_at depth ls)
 
--- how many levels were already read of the line after a block: none, or those read before (`levels`)
--- if the block has no line
+-- how many levels of indentation were already read of the line after a block: none, or those read before the
+-- block (`levels`) if the block has no line
 abbrev pub margin_levels_after_block : List Line → ℕ → ℕ
 margin_levels_after_block [] levels = levels
 margin_levels_after_block (l ∷ ls) levels = 0
 
--- the place after a block
+-- the place after a block, which begins at the place `c`. `block` has the lines of the block and the lines after it
 abbrev pub cursor_after_block : List Line × List Line → CursorState → CursorState
 cursor_after_block block c =
     cursor_from_parts block.1 (c.number + length block.0) (margin_levels_after_block block.0 c.levels)
 
--- the place after the current line; the same place if no line is left
+-- the place after the current line of the place `c`, by the lines of `c`; `c` itself if no line is left
 abbrev pub cursor_after_line : List Line → CursorState → CursorState
 cursor_after_line [] c = c
 cursor_after_line (l ∷ ls) c = cursor_from_parts ls (c.number + 1) 0

@@ -24,9 +24,9 @@ pub record AreDumpLines (lines : List Line) : Type 0 where
   pub which : Which
   -- the value of the root
   pub value : Plain
-  -- it is a value that the root may have
+  -- this value is normal and of bytes, and the table may be that of a root
   pub is : IsNormalRootValueOfTable which value
-  -- its dump has these lines
+  -- the dump of the root has these lines
   pub lines_are : dump_lines which value ≡ lines
 
 -- the dump of a root begins with these lines
@@ -39,14 +39,14 @@ pub record BeginsADump (front : List Line) : Type 0 where
 -- the line with this number, from 1, is the first that no dump has after the lines before it. If another
 -- line must follow, or the last line has no line end, it is the number of whole lines plus 1
 pub record IsFirstBadDumpLine (text : List ℕ) (number : ℕ) : Type 0 where
-  -- lines are numbered from 1, up to the number of whole lines plus 1
+  -- the number is at least 1
   pub low : 1 ≤ number
-  -- at most one more than the number of whole lines
+  -- the number is at most that of whole lines (lines with their line end) plus 1
   pub high : number ≤ length (text_lines text).0 + 1
-  -- a dump begins with the lines before it, if there are any
+  -- a dump begins with the lines before the reported one, if there are any
   pub before : number ≢ 1 → BeginsADump (take (number - 1) (text_lines text).0)
-  -- no dump begins with these and the line, if it is a whole line
+  -- no dump begins with these lines and the reported one, if that is a whole line
   pub bad : number ≤ length (text_lines text).0 → ¬ BeginsADump (take number (text_lines text).0)
-  -- if it is not, bytes follow the last line end, or the whole lines are not all lines of a dump
+  -- if it is no whole line, bytes follow the last line end, or the whole lines are not all lines of a dump
   pub end : number ≡ length (text_lines text).0 + 1
       → ((text_lines text).1 ≢ []) ⊎ (¬ AreDumpLines (text_lines text).0)

@@ -20,8 +20,8 @@ use Rattle.gen_core.specs.declared.generate.GenFault.TheVariants.{Bad, TooLarge,
 abbrev pub TextLines : Type 0
 TextLines = List Line × List ℕ
 
--- the lines of a text with one byte more in front, which is no line end: it belongs to the first
--- line, or to the bytes after the last line end
+-- the lines of a text with one byte more in front, which is no line end. The byte belongs to the first line, or, if
+-- there is no whole line, to the bytes after the last line end
 abbrev pub lines_with_nonend_byte_in_front : ℕ → List Line → List ℕ → TextLines
 lines_with_nonend_byte_in_front c [] rest = ([], c ∷ rest)
 lines_with_nonend_byte_in_front c (l ∷ ls) rest = ((c ∷ l) ∷ ls, rest)
@@ -40,9 +40,9 @@ text_lines (c ∷ cs) = lines_with_byte_in_front c (text_lines cs)
 
 -- the root of a container: its table, and its plain value
 pub record DumpedRoot : Type 0 where
-  -- its table
+  -- the table of the root
   pub which : Which
-  -- its value
+  -- the plain value of the root
   pub value : Plain
 
 -- the four tables that a root may have
@@ -90,7 +90,7 @@ dumped_root text = let lines = text_lines text in
 abbrev pub schema_word_or_zero : Which → ℕ
 schema_word_or_zero which = unwrap_or (schema_word which) 0
 
--- the container of this schema and a payload, or the counts of a payload that is too large
+-- the container with the schema `word` and this payload, or the counts of a payload that is too large
 abbrev pub file_unless_too_large :
     ℕ → Result (List ℕ) PayloadCounts → Result (List ℕ) GenFault
 file_unless_too_large word (Ok payload) = Ok (file_of word payload)
@@ -107,7 +107,8 @@ file_of_root (Err line) = Err (Bad line)
 unfoldable pub generated_file : List ℕ → Result (List ℕ) GenFault
 generated_file text = file_of_root (dumped_root text)
 
--- a fault is the one that this answer has; out of memory may be reported for any text
+-- a fault of generating a file: it is that of `answer`, the result of the definition; out of memory may be
+-- reported for any text
 abbrev pub IsGenFault : GenFault → Result (List ℕ) GenFault → Type 0
 IsGenFault Memory answer = ⊤
 IsGenFault (Bad line) answer = answer ≡ Err (Bad line)

@@ -8,7 +8,7 @@ use Rattle.adb_dump.specs.Dump.{is_printable}
 abbrev pub FirstByte : Type 0
 FirstByte = ℕ × List ℕ
 
--- the value of a hexadecimal digit in lower case
+-- the value of a hexadecimal digit in lower case: `0` to `9` (0x30 to 0x39) or `a` to `f` (0x61 to 0x66)
 abbrev pub hex_digit_value : ℕ → Option ℕ
 hex_digit_value c =
     if nat_le 0x30 c && nat_le c 0x39 then Some (c - 0x30)
@@ -28,13 +28,14 @@ hex_byte_at [] = None
 hex_byte_at (h ∷ []) = None
 hex_byte_at (h ∷ l ∷ cs) = byte_of_digits (hex_digit_value h) (hex_digit_value l) cs
 
--- this byte, if two hexadecimal digits are its only form between quotes; None for a byte with a
--- shorter form
+-- this byte, if two hexadecimal digits are its only form between quotes; None for a byte with a shorter form, such as
+-- a line end (0x0a)
 abbrev pub if_only_hex : Option FirstByte → Option FirstByte
 if_only_hex None = None
 if_only_hex (Some b) = if b.0 == 0x0a || is_printable b.0 then None else Some b
 
--- the byte of an escape, from after its backslash on
+-- the byte of an escape, by the characters from after its backslash on: `n` (0x6e), a backslash (0x5c), a quote
+-- (0x22), or `x` (0x78) and two hexadecimal digits
 abbrev pub escaped_at : List ℕ → Option FirstByte
 escaped_at [] = None
 escaped_at (d ∷ cs) =

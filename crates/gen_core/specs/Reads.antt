@@ -17,14 +17,14 @@ use Rattle.gen_core.specs.declared.generate.GenFault.TheVariants.{Bad, TooLarge,
 
 -- ---- a value on one line
 
--- true: these bytes are not empty, and their form on a line is `l`. False: no bytes that are not empty
--- have this form
+-- with true: these bytes are not empty, and their form on a line (`form`) is `l`. With false: no bytes, other
+-- than none, have the form `l`
 abbrev pub IsFormOf : (List ℕ → Line) → Bool → List ℕ → Line → Type 0
 IsFormOf form true bytes l = (bytes ≢ []) × (form bytes ≡ l)
 IsFormOf form false bytes l =
     (other : List ℕ) → AllByRecursion (λ b. b < 256) other → other ≢ [] → form other ≢ l
 
--- the value of a shape that has one line; a shape of several lines has no such value
+-- the value of a shape that has this line; for a shape of several lines, the line is bad
 abbrev pub line_read : Shape → Line → ResultOrBadLine Plain
 line_read number l = value_if_printed_as_line int_line l (int_read l)
 line_read text l = value_if_printed_as_line text_line l (text_read l)
@@ -32,7 +32,8 @@ line_read hash l = value_if_printed_as_line hash_line l (hash_read l)
 line_read (array s) l = Err 0
 line_read (object schema fs) l = Err 0
 
--- true: the new draft is the old one with the value that was read. False: the line cannot be read
+-- with true: a value was read, and the new draft is the old one with this value. With false: the line cannot be
+-- read as a value
 abbrev pub IsLineRead : Bool → ResultOrBadLine Plain → DraftState → DraftState → Type 0
 IsLineRead true read old new = (v : Plain) × (read ≡ Ok v) × (new ≡ draft_with v old)
 IsLineRead false read old new = read ≡ Err 0
@@ -75,13 +76,13 @@ abbrev pub is_null_line : Option Line → Bool
 is_null_line None = false
 is_null_line (Some l) = bytes_eq l (codes "null")
 
--- Ok if no line is left of a block; else its next line, which has this number, is bad
+-- Ok if no line is left of a block; otherwise the next line of the block, which has the number `n`, is bad
 abbrev pub end_or_bad_line : List Line → ℕ → Result (Unit {0}) GenFault
 end_or_bad_line [] n = Ok tt
 end_or_bad_line (l ∷ ls) n = Err (Bad n)
 
--- the fault is the bad line of the result. Out of memory may be reported at any place. A payload that
--- is too large is reported only at the end of the text
+-- a fault of reading a text: a bad line is that of the result `read`. Out of memory may be reported at any line.
+-- A payload that is too large is reported only at the end of the text
 abbrev pub IsTextFault : {A : Type 0} → GenFault → Result A ℕ → Type 0
 IsTextFault (Bad line) read = read ≡ Err line
 IsTextFault (TooLarge bytes values) read = ⊥

@@ -1,4 +1,4 @@
-//! A place in a text that is read line by line.
+//! A cursor: a place in a dump text, at the beginning of a line. `read.rt` reads values from it.
 //! The rule is in `docs/formats.md`, "Dump text": a line is indented by two spaces for each level,
 //! and each line has its line end.
 
@@ -13,16 +13,16 @@ use crate::generate::GenFault;
 use memchr::memchr;
 use std::marker::Model;
 
-/// A place in a text, at the beginning of a line.
+/// A place in a text, at the beginning of a line (the current line).
 #[derive(Drop)]
 pub(crate) struct Cursor<'a> {
-    /// The line there, without the levels that were read; None if no whole line is left.
+    /// The current line, without the indentation that was read; None if no whole line is left.
     line: Option<&'a [u8]>,
-    /// How many levels of two bytes in front of the line were read already.
+    /// How many levels (of two spaces) of the current line's indentation were read.
     levels: u32,
-    /// The bytes after the line.
+    /// The bytes of the text after the current line and its line end.
     rest: &'a [u8],
-    /// The number of the line, from 1.
+    /// The number of the current line, counted from 1.
     number: u64,
 }
 
@@ -30,12 +30,15 @@ impl<'a> Model for Cursor<'a> {
     ghost use Rattle.std.specs.Prelude.{◌+◌, ◌<◌, ◌^◌, length, option_copied};
     ghost use Rattle.gen_core.specs.Cursors.{CursorState, cursor_from_parts, line_end_count, lines_at_cursor};
 
+    // What contracts see of a cursor.
     ghost Value = { CursorState };
 
+    // Contracts see the lines that are left, the number of the current line, and the levels read.
     ghost view = { λ c. cursor_from_parts (lines_at_cursor c.levels
         (option_copied c.line) c.rest.now) c.number
         c.levels };
 
+    // The number of no line overflows 64 bits.
     ghost invariant = { λ c. c.number + line_end_count (option_copied c.line) + length c.rest.now
         < 2 ^ 64 };
 }
@@ -48,7 +51,7 @@ impl<'a> Cursor<'a> {
         Cursor::at(text, 1)
     }
 
-    /// The place at the beginning of these bytes, where the line has this number.
+    /// The place at the beginning of these bytes, the first line of which has this number.
     fn at(text: &'a [u8], number: u64) -> Cursor<'a>
         // Line numbers fit into 64 bits.
         requires { number + length text.now < 2 ^ 64 }
@@ -70,7 +73,7 @@ impl<'a> Cursor<'a> {
         }
     }
 
-    /// Goes to the next line.
+    /// Goes to the next line; if no line is left, nothing changes.
     pub(crate) fn turn(&mut self)
         ensures { self.new ≡ cursor_after_line self.old.lines self.old }
     {
@@ -83,7 +86,7 @@ impl<'a> Cursor<'a> {
     /// The first line of the block of this depth, without its levels; None if the block has no
     /// line.
     pub(crate) fn at_depth(&self, depth: u32) -> Option<&'a [u8]>
-        // No more levels of the line's indentation were read than this depth.
+        // At most `depth` levels of the current line's indentation were read before.
         requires { self.now.levels ≤ depth }
         ensures { option_copied result ≡ line_of_block (block_at depth self.now.lines).0 }
     {
@@ -93,7 +96,7 @@ impl<'a> Cursor<'a> {
         }
     }
 
-    /// Reads the dash of an array's entry. `entry` is the rest of the line after the dash; it
+    /// Reads the dash of an array's entry. `entry` is the rest of the line after the dash, and
     /// counts as a line of this depth.
     pub(crate) fn read_dash(&mut self, entry: &'a [u8], depth: u32)
         ensures { self.new ≡ cursor_at_entry depth entry.entry.now self.old.lines self.old }
@@ -104,7 +107,7 @@ impl<'a> Cursor<'a> {
         }
     }
 
-    /// The fault that the line is not allowed there.
+    /// The fault that the current line is bad, with its number.
     pub(crate) fn bad_line(&self) -> GenFault
         ensures { result ≡ Bad self.now.number }
     {
@@ -128,7 +131,7 @@ fn first_line(text: &[u8]) -> Option<(&[u8], &[u8])>
     }
 }
 
-/// A line without so many levels of two spaces in front, if it has them.
+/// A line without `levels` levels (of two spaces) in front; None if the line has fewer.
 fn without_levels(line: &[u8], levels: u32) -> Option<&[u8]>
     ensures { option_copied result ≡ strip_prefix (margin levels) line.entry.now }
 {
@@ -142,7 +145,7 @@ fn without_levels(line: &[u8], levels: u32) -> Option<&[u8]>
     Some(inner)
 }
 
-/// The rest of a line after a prefix, if the line begins with it.
+/// The rest of a line after a prefix, if the line begins with this prefix.
 pub(crate) fn without_prefix<'a>(line: &'a [u8], prefix: &[u8]) -> Option<&'a [u8]>
     ensures { option_copied result ≡ strip_prefix prefix.now line.entry.now }
 {

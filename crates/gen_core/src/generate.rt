@@ -24,7 +24,7 @@ use thiserror::Error;
 pub fn gen_(alloc: Global, text: &[u8]) -> Result<Vec<u8>, GenFault>
     // On Ok, the file is the container of the text.
     ensures ok { IfOk result (λ file. generated_file text.now ≡ Ok file.items) }
-    // An error is that of the definition, or out of memory.
+    // An error is the one that the definition gives for this text, or out of memory.
     ensures err { IfErr result (λ fault. IsGenFault fault (generated_file text.now)) }
 {
     let mut draft = Draft::new(alloc);
@@ -45,18 +45,19 @@ fn fault_of_writer(fault: WriteFault) -> GenFault
     }
 }
 
-/// Reads a text: adds the value of its root to the draft, and returns the table of the root.
+/// Reads a dump text: adds the value of its root to the draft, and returns the table of the root.
 fn read_text(alloc: Global, draft: &mut Draft, text: &[u8]) -> Result<Which, GenFault>
     // On Ok, the draft gets the value of the root, and the result is its table.
     ensures ok { IfOk result (λ which. table_and_draft_of_root (dumped_root text.now) draft.old
         ≡ Ok (which, draft.new)) }
-    // An error is the bad line of the definition, or out of memory.
+    // An error is the first bad line, or out of memory.
     ensures err { IfErr result (λ fault. IsTextFault fault
         (table_and_draft_of_root (dumped_root text.now) draft.old)) }
 {
     let mut cursor = Cursor::new(text);
     let which = read_table(&mut cursor)?;
     read_root(alloc, draft, &mut cursor, which)?;
+    // Bytes after the last line end are a line without its end, which is bad.
     if has_rest(text) {
         return Err(cursor.bad_line());
     }
@@ -128,7 +129,7 @@ fn table_of_line(line: &[u8]) -> Option<Which>
     None
 }
 
-/// The schema in the header of a container with this root.
+/// The schema in the header of a container with this table at its root; 0 if the table is no root.
 fn schema_word_or_zero(which: Which) -> u32
     ensures { result ≡ schema_word_or_zero which }
 {
@@ -139,7 +140,7 @@ fn schema_word_or_zero(which: Which) -> u32
 #[derive(Clone, Copy, Debug, PartialEq, Eq, Drop, Error)]
 pub enum GenFault {
     /// The number, from 1, of the first line that no dump text has after the lines before it. If
-    /// another line must follow, it is the number of lines plus 1. A last line without a line end
+    /// another line must follow, this is the number of lines plus 1. A last line without a line end
     /// is a bad line.
     #[error("bad line {line}")]
     Bad { line: u64 },
@@ -156,6 +157,7 @@ impl From<AllocError> for GenFault {
     ghost use Rattle.std.specs.Prelude.{◌≡◌};
     ghost use Rattle.gen_core.specs.declared.generate.GenFault.TheVariants.{Memory};
 
+    // The fault is `Memory`.
     ghost from_gives = { λ _ fault. fault ≡ Memory };
 
     /// Out of memory: nothing is said of the text.

@@ -1,11 +1,11 @@
-//! A dump text is read back: the text that `adbdump` prints goes in, and the container of its root
-//! comes out, in its canonical layout and without contents of files.
+//! Reads a dump text, the text that `adbdump` prints, and makes a container with the same root, in
+//! its canonical layout and without contents of files (`adbgen`).
 //!
 //! A text is read from front to end in one pass, by the tables of fields (`adb_schema`), and its
 //! values are written as they are read (`adb_values`). The first line that no dump has after the
 //! lines before it is reported by its number. The contracts cite `Generated` of `specs/`, which
-//! uses the reader that `adb_dump` defines (`ReadBack`). The laws describe it by the texts of dumps
-//! alone, so nobody has to read the reader's definition.
+//! uses the reader that `adb_dump` defines (`ReadBack`). The laws say which texts are read, and
+//! which line is reported, by the definition of dump texts alone, so nobody has to read `ReadBack`.
 //!
 //! The rules are in `docs/formats.md`, "Dump text" and "Canonical layout".
 #![tactic(auto)]

@@ -1,4 +1,6 @@
-//! Reads the lines of a value, by its kind, and writes the value.
+//! Reads the lines of a value, by its kind, and adds the value to a draft (a payload that is being
+//! written). `generate.rt` calls `read_root`; a block has the lines that are indented by `depth`
+//! levels, from the cursor on.
 //! The rules are in `docs/formats.md`, "Dump text", the table of values and their lines; which
 //! fields an object has, in what order, in "Schemas".
 
@@ -29,12 +31,12 @@ pub(crate) fn read_root(
     cursor: &mut Cursor<'_>,
     which: Which,
 ) -> Result<(), GenFault>
-    // Nothing of the line's indentation was read yet.
+    // No indentation of the current line was read yet.
     requires { cursor.old.levels ≡ 0 }
     // On Ok, the draft gets the value of the root, and all lines are read.
     ensures ok { OnOk result (block_taken (value_read which cursor.old.lines) (cursor.old.lines, [])
         draft.old cursor.old ≡ Ok (draft.new, cursor.new)) }
-    // An error is the bad line of the definition, or out of memory.
+    // An error is the first bad line, or out of memory.
     ensures err { IfErr result (λ fault. IsTextFault fault (block_taken
         (value_read which cursor.old.lines) (cursor.old.lines, []) draft.old cursor.old)) }
 {
@@ -42,11 +44,13 @@ pub(crate) fn read_root(
         draft.null()?;
         return Ok(());
     };
+    // The bytes of each text and hash are collected here before they are written.
     let mut scratch = Vec::new(alloc);
     read_object(draft, cursor, &mut scratch, which, 0)
 }
 
-/// Reads a block as a value of the kind.
+/// Reads the block of lines at the cursor that are indented by `depth` levels as a value of the
+/// kind, which is added to `draft`; `scratch` is memory for the bytes of a text or hash.
 #[cycle(block)]
 fn read_block(
     draft: &mut Draft,
@@ -55,15 +59,15 @@ fn read_block(
     kind: Kind,
     depth: u32,
 ) -> Result<(), GenFault>
-    // No more levels of the line's indentation were read than the block has.
+    // At most `depth` levels of the current line's indentation were read before.
     requires within { cursor.old.levels ≤ depth }
-    // No value is so deep that its lines exceed the greatest depth.
+    // No line of the value is deeper than the limit, 100 levels, so no depth overflows.
     requires deep { depth + rank kind ≤ DEPTH_LIMIT }
     // On Ok, the draft gets the value of the block, and the cursor is after the block.
     ensures ok { let block = block_at depth cursor.old.lines in OnOk result
         (block_taken (block_read (shape_of kind) block.0)
         block draft.old cursor.old ≡ Ok (draft.new, cursor.new)) }
-    // An error is the bad line of the definition, or out of memory.
+    // An error is the first bad line, or out of memory.
     ensures err { let block = block_at depth cursor.old.lines in IfErr result (λ fault.
         IsTextFault fault (block_taken (block_read (shape_of kind) block.0)
         block draft.old cursor.old)) }
@@ -76,7 +80,8 @@ fn read_block(
     }
 }
 
-/// Reads a block of one line as a value of the kind.
+/// Reads a block of one line, which is indented by `depth` levels, as a value of the kind, which is
+/// added to `draft`; `scratch` is memory for the bytes of a text or hash.
 fn read_only_line(
     draft: &mut Draft,
     cursor: &mut Cursor<'_>,
@@ -84,7 +89,7 @@ fn read_only_line(
     kind: Kind,
     depth: u32,
 ) -> Result<(), GenFault>
-    // No more levels of the line's indentation were read than the block has.
+    // At most `depth` levels of the current line's indentation were read before.
     requires within { cursor.old.levels ≤ depth }
     // A value of the kind has one line.
     requires line { has_one_line kind ≡ true }
@@ -92,7 +97,7 @@ fn read_only_line(
     ensures ok { let block = block_at depth cursor.old.lines in OnOk result
         (block_taken (block_read (shape_of kind) block.0)
         block draft.old cursor.old ≡ Ok (draft.new, cursor.new)) }
-    // An error is the bad line of the definition, or out of memory.
+    // An error is the first bad line, or out of memory.
     ensures err { let block = block_at depth cursor.old.lines in IfErr result (λ fault.
         IsTextFault fault (block_taken (block_read (shape_of kind) block.0)
         block draft.old cursor.old)) }
@@ -104,7 +109,8 @@ fn read_only_line(
     end_block(cursor, depth)
 }
 
-/// Reads the rest of the current line as a value of the kind, and goes to the next line.
+/// Reads the rest of the current line (`line`) as a value of the kind, which is added to `draft`,
+/// and goes to the next line; `scratch` is memory for the bytes of a text or hash.
 fn read_line(
     draft: &mut Draft,
     cursor: &mut Cursor<'_>,
@@ -116,7 +122,7 @@ fn read_line(
     ensures ok { OnOk result (draft_and_cursor_after_line (line_read
         (shape_of kind) line.now) draft.old cursor.old
         ≡ Ok (draft.new, cursor.new)) }
-    // An error is the bad line of the definition, or out of memory.
+    // An error is the first bad line, or out of memory.
     ensures err { IfErr result (λ fault. IsTextFault fault
         (draft_and_cursor_after_line (line_read (shape_of kind) line.now) draft.old cursor.old)) }
 {
@@ -127,13 +133,15 @@ fn read_line(
     Ok(())
 }
 
-/// Reads a line as a value of the kind; false if it is the line of no such value.
+/// Reads a line as a value of the kind, and adds the value to `draft`; false if no value of the
+/// kind has this line. `scratch` is memory for the bytes of a text or hash.
 fn read_value(
     draft: &mut Draft,
     scratch: &mut Vec<u8>,
     kind: Kind,
     line: &[u8],
 ) -> Result<bool, AllocError>
+    // On Ok true, the value is added to the draft; on Ok false, the line cannot be read.
     ensures { IfOk result (λ is. IsLineRead is (line_read (shape_of kind) line.now) draft.old
         draft.new) }
 {
@@ -168,7 +176,7 @@ fn read_value(
 
 /// Tests that no further line belongs to a block of this depth.
 fn end_block(cursor: &Cursor<'_>, depth: u32) -> Result<(), GenFault>
-    // No more levels of the line's indentation were read than this depth.
+    // At most `depth` levels of the current line's indentation were read before.
     requires { cursor.now.levels ≤ depth }
     ensures { result ≡ end_or_bad_line (block_at depth cursor.now.lines).0 cursor.now.number }
 {
@@ -178,7 +186,8 @@ fn end_block(cursor: &Cursor<'_>, depth: u32) -> Result<(), GenFault>
     }
 }
 
-/// Reads a block as an array of values of the kind.
+/// Reads a block, whose lines are indented by `depth` levels, as an array of values of the kind,
+/// which is added to `draft`; `scratch` is memory for the bytes of a text or hash.
 #[cycle(block)]
 fn read_array(
     draft: &mut Draft,
@@ -187,15 +196,15 @@ fn read_array(
     kind: Kind,
     depth: u32,
 ) -> Result<(), GenFault>
-    // No more levels of the line's indentation were read than the block has.
+    // At most `depth` levels of the current line's indentation were read before.
     requires within { cursor.old.levels ≤ depth }
-    // No value is so deep that its lines exceed the greatest depth.
+    // No line of the value is deeper than the limit, 100 levels, so no depth overflows.
     requires deep { depth + rank kind < DEPTH_LIMIT }
     // On Ok, the draft gets the value of the block, and the cursor is after the block.
     ensures ok { let block = block_at depth cursor.old.lines in OnOk result
         (block_taken (block_read (array (shape_of kind)) block.0)
         block draft.old cursor.old ≡ Ok (draft.new, cursor.new)) }
-    // An error is the bad line of the definition, or out of memory.
+    // An error is the first bad line, or out of memory.
     ensures err { let block = block_at depth cursor.old.lines in IfErr result (λ fault.
         IsTextFault fault (block_taken (block_read (array (shape_of kind)) block.0)
         block draft.old cursor.old)) }
@@ -209,7 +218,8 @@ fn read_array(
     Ok(())
 }
 
-/// Reads a block as values of the kind, each after a dash.
+/// Reads a block, whose lines are indented by `depth` levels, as values of the kind, each after a
+/// dash. They are added to `draft`; `scratch` is memory for the bytes of a text or hash.
 #[cycle(block)]
 fn read_entries(
     draft: &mut Draft,
@@ -218,15 +228,15 @@ fn read_entries(
     kind: Kind,
     depth: u32,
 ) -> Result<(), GenFault>
-    // No more levels of the line's indentation were read than the block has.
+    // At most `depth` levels of the current line's indentation were read before.
     requires within { cursor.old.levels ≤ depth }
-    // No value is so deep that its lines exceed the greatest depth.
+    // No line of the value is deeper than the limit, 100 levels, so no depth overflows.
     requires deep { depth + rank kind < DEPTH_LIMIT }
-    // On Ok, the draft gets the value of the block, and the cursor is after the block.
+    // On Ok, the draft gets all values of the block, and the cursor is after the block.
     ensures ok { let block = block_at depth cursor.old.lines in OnOk result
         (values_taken (entries_read (block_read (shape_of kind)) (length block.0) block.0)
         block draft.old cursor.old ≡ Ok (draft.new, cursor.new)) }
-    // An error is the bad line of the definition, or out of memory.
+    // An error is the first bad line, or out of memory.
     ensures err { let block = block_at depth cursor.old.lines in IfErr result (λ fault.
         IsTextFault fault (values_taken
         (entries_read (block_read (shape_of kind)) (length block.0) block.0)
@@ -236,13 +246,16 @@ fn read_entries(
         let Some(entry) = without_prefix(line, b"- ") else {
             return Err(cursor.bad_line());
         };
+        // The rest of the line counts as the first line of the entry, one level deeper.
         cursor.read_dash(entry, depth + 1);
         read_entry(draft, cursor, scratch, kind, depth + 1)?;
     }
     Ok(())
 }
 
-/// Reads a block as an entry of an array: `null`, or a value of the kind.
+/// Reads a block, whose lines are indented by `depth` levels, as an entry of an array: `null`, or a
+/// value of the kind. The entry is added to `draft`; `scratch` is memory for the bytes of a text or
+/// hash.
 #[cycle(block)]
 fn read_entry(
     draft: &mut Draft,
@@ -251,15 +264,15 @@ fn read_entry(
     kind: Kind,
     depth: u32,
 ) -> Result<(), GenFault>
-    // No more levels of the line's indentation were read than the block has.
+    // At most `depth` levels of the current line's indentation were read before.
     requires within { cursor.old.levels ≤ depth }
-    // No value is so deep that its lines exceed the greatest depth.
+    // No line of the value is deeper than the limit, 100 levels, so no depth overflows.
     requires deep { depth + rank kind ≤ DEPTH_LIMIT }
     // On Ok, the draft gets the value of the block, and the cursor is after the block.
     ensures ok { let block = block_at depth cursor.old.lines in OnOk result
         (block_taken (entry_block_read (block_read (shape_of kind)) block.0)
         block draft.old cursor.old ≡ Ok (draft.new, cursor.new)) }
-    // An error is the bad line of the definition, or out of memory.
+    // An error is the first bad line, or out of memory.
     ensures err { let block = block_at depth cursor.old.lines in IfErr result (λ fault.
         IsTextFault fault (block_taken (entry_block_read (block_read (shape_of kind)) block.0)
         block draft.old cursor.old)) }
@@ -274,7 +287,7 @@ fn read_entry(
 
 /// Whether a block has the first line `null`.
 fn is_null_entry(cursor: &Cursor<'_>, depth: u32) -> bool
-    // No more levels of the line's indentation were read than this depth.
+    // At most `depth` levels of the current line's indentation were read before.
     requires { cursor.now.levels ≤ depth }
     ensures { result ≡ is_null_line (line_of_block (block_at depth cursor.now.lines).0) }
 {
@@ -284,7 +297,8 @@ fn is_null_entry(cursor: &Cursor<'_>, depth: u32) -> bool
     }
 }
 
-/// Reads a block as an object of the table.
+/// Reads a block, whose lines are indented by `depth` levels, as an object of the table `which`,
+/// which is added to `draft`; `scratch` is memory for the bytes of a text or hash.
 #[cycle(block)]
 #[tactic(auto, using(adb_view::proofs::WalkSteps::table_rank))]
 fn read_object(
@@ -294,15 +308,15 @@ fn read_object(
     which: Which,
     depth: u32,
 ) -> Result<(), GenFault>
-    // No more levels of the line's indentation were read than the block has.
+    // At most `depth` levels of the current line's indentation were read before.
     requires within { cursor.old.levels ≤ depth }
-    // No value is so deep that its lines exceed the greatest depth.
+    // No line of the value is deeper than the limit, 100 levels, so no depth overflows.
     requires deep { depth + rank (Kinds.Obj which) ≤ DEPTH_LIMIT }
     // On Ok, the draft gets the value of the block, and the cursor is after the block.
     ensures ok { let block = block_at depth cursor.old.lines in OnOk result
         (block_taken (block_read (shape_of (Kinds.Obj which)) block.0)
         block draft.old cursor.old ≡ Ok (draft.new, cursor.new)) }
-    // An error is the bad line of the definition, or out of memory.
+    // An error is the first bad line, or out of memory.
     ensures err { let block = block_at depth cursor.old.lines in IfErr result (λ fault.
         IsTextFault fault (block_taken (block_read (shape_of (Kinds.Obj which)) block.0)
         block draft.old cursor.old)) }
@@ -316,7 +330,9 @@ fn read_object(
     Ok(())
 }
 
-/// Reads a block as the fields of an object, in their order; a field without a line is Null.
+/// Reads a block, whose lines are indented by `depth` levels, as the fields of an object, in their
+/// order; a field without a line is Null. The fields are added to `draft`; `scratch` is memory for
+/// the bytes of a text or hash.
 #[cycle(block)]
 #[tactic(auto, using(adb_view::proofs::WalkSteps::field_rank))]
 fn read_fields(
@@ -326,19 +342,20 @@ fn read_fields(
     fields: &[Field],
     depth: u32,
 ) -> Result<(), GenFault>
-    // No more levels of the line's indentation were read than the block has.
+    // At most `depth` levels of the current line's indentation were read before.
     requires within { cursor.old.levels ≤ depth }
-    // No value is so deep that its lines exceed the greatest depth.
+    // No line of the value is deeper than the limit, 100 levels, so no depth overflows.
     requires deep { depth + rank_of_all fields.now < DEPTH_LIMIT }
-    // On Ok, the draft gets the value of the block, and the cursor is after the block.
+    // On Ok, the draft gets all values of the block, and the cursor is after the block.
     ensures ok { let block = block_at depth cursor.old.lines in OnOk result
         (values_taken (fields_read (shapes_of fields.now) block.0)
         block draft.old cursor.old ≡ Ok (draft.new, cursor.new)) }
-    // An error is the bad line of the definition, or out of memory.
+    // An error is the first bad line, or out of memory.
     ensures err { let block = block_at depth cursor.old.lines in IfErr result (λ fault.
         IsTextFault fault (values_taken (fields_read (shapes_of fields.now) block.0)
         block draft.old cursor.old)) }
 {
+    // The next line of the block, without its indentation; None at the end of the block.
     let mut next = cursor.at_depth(depth);
     for field in fields {
         let Some(line) = next else {
@@ -349,6 +366,7 @@ fn read_fields(
                 read_named(draft, cursor, scratch, field.kind, value, depth)?;
                 next = cursor.at_depth(depth);
             }
+            // The line is that of a later field, so this field is Null.
             None => draft.null()?,
         }
     }
@@ -357,6 +375,7 @@ fn read_fields(
 
 /// The rest of a line after the name of a field and a colon, if the line begins with these.
 fn after_name(line: &[u8], name: FieldName) -> Option<&[u8]>
+    // The result is the rest of the line after `name:`, or None.
     ensures { option_copied result
         ≡ strip_prefix (field_name_text name ++ codes ":") line.entry.now }
 {
@@ -367,7 +386,8 @@ fn after_name(line: &[u8], name: FieldName) -> Option<&[u8]>
 }
 
 /// Reads the value of a field. `value` is the rest of the field's first line after its name and
-/// colon; the value is there, or in the block below.
+/// colon; the value is there, or in the block below, one level deeper than `depth`. The value is
+/// added to `draft`; `scratch` is memory for the bytes of a text or hash.
 #[cycle(block)]
 fn read_named(
     draft: &mut Draft,
@@ -377,13 +397,14 @@ fn read_named(
     value: &[u8],
     depth: u32,
 ) -> Result<(), GenFault>
-    // No more levels of the current line's indentation were read than the block has.
+    // At most `depth` levels of the current line's indentation were read before.
     requires within { cursor.old.levels ≤ depth }
-    // No value is so deep that its lines exceed the greatest depth.
+    // No line of the value is deeper than the limit, 100 levels, so no depth overflows.
     requires deep { depth + rank kind < DEPTH_LIMIT }
     // The block has a line.
     requires some { 0 < length (block_at depth cursor.old.lines).0 }
-    // On Ok, the draft gets the value of the block, and the cursor is after the block.
+    // On Ok, the draft gets the value of this field, and the cursor is after the field: whatever
+    // reads the other fields (`others`) goes on from there.
     ensures ok { let block = block_at depth cursor.old.lines in OnOk result
         ((others : List Line → ResultOrBadLine Plains)
         → values_taken (named_read (shape_of kind) others (drop 1 block.0) value.now)
@@ -392,7 +413,7 @@ fn read_named(
         (block_at depth cursor.new.lines) draft.new cursor.new) }
     // Nothing of the next line's indentation was read yet.
     ensures begun { OnOk result (cursor.new.levels ≡ 0) }
-    // An error is the bad line of the definition, or out of memory.
+    // An error is the first bad line, or out of memory.
     ensures err { let block = block_at depth cursor.old.lines in IfErr result (λ fault.
         (others : List Line → ResultOrBadLine Plains) → IsTextFault fault
         (values_taken (named_read (shape_of kind) others (drop 1 block.0) value.now)

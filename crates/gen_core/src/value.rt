@@ -15,6 +15,7 @@ use std::alloc::AllocError;
 
 /// The integer whose decimal digits are the line; None if there is no such integer below 2^64.
 pub(crate) fn number_in(line: &[u8]) -> Option<u64>
+    // A number is below 2^64 and has these digits; None means that no such number has them.
     ensures { MatchOption result ((n : ℕ) → n < 2 ^ 64 → decimal n ≢ line.now)
         (λ n. (n < 2 ^ 64) × (decimal n ≡ line.now)) }
 {
@@ -38,7 +39,8 @@ fn is_decimal_of(number: u64, line: &[u8]) -> bool
     digits.format(number).as_bytes() == line
 }
 
-/// Reads the bytes of a hash from its line into `bytes`; false if the line is that of no hash.
+/// Reads the bytes of a hash from its line into `bytes`, in place of what was there; false if no
+/// hash has this line.
 pub(crate) fn read_hash(bytes: &mut Vec<u8>, line: &[u8]) -> Result<bool, AllocError>
     ensures { IfOk result (λ is. IsFormOf encode_lower is bytes.new.items line.now) }
 {
@@ -54,7 +56,7 @@ pub(crate) fn read_hash(bytes: &mut Vec<u8>, line: &[u8]) -> Result<bool, AllocE
     Ok(rest.is_empty())
 }
 
-/// The byte of the two hexadecimal digits that come first, and what follows them.
+/// The byte that the first two hexadecimal digits of a text encode, and what follows them.
 fn hex_byte(text: &[u8]) -> Option<(u8, &[u8])>
     ensures { option_map (λ first. (first.0, first.1.now)) result ≡ hex_byte_at text.entry.now }
 {
@@ -65,7 +67,9 @@ fn hex_byte(text: &[u8]) -> Option<(u8, &[u8])>
 
 /// The value of a hexadecimal digit in lower case.
 fn hex_digit(digit: u8) -> Option<u8>
+    // The result is the value of the digit, or None.
     ensures value { result ≡ hex_digit_value digit }
+    // The value of a digit is below 16.
     ensures small { IfSome result (λ value. value < 16) }
 {
     match digit {
@@ -75,7 +79,8 @@ fn hex_digit(digit: u8) -> Option<u8>
     }
 }
 
-/// Reads the bytes of a text from its line into `bytes`; false if the line is that of no text.
+/// Reads the bytes of a text from its line into `bytes`, in place of what was there; false if no
+/// text has this line.
 pub(crate) fn read_text(bytes: &mut Vec<u8>, line: &[u8]) -> Result<bool, AllocError>
     ensures { IfOk result (λ is. IsFormOf bare_or_quoted_text is bytes.new.items line.now) }
 {
@@ -85,7 +90,7 @@ pub(crate) fn read_text(bytes: &mut Vec<u8>, line: &[u8]) -> Result<bool, AllocE
     }
 }
 
-/// Reads a text that is on its line as it is, without a quote in front.
+/// Reads a text that is on its line as it is, without quotes; false if no text has this line.
 fn read_bare(bytes: &mut Vec<u8>, line: &[u8]) -> Result<bool, AllocError>
     // The line does not begin with a quote (0x22).
     requires { begins_with_byte 0x22 line.now ≡ false }
@@ -102,11 +107,14 @@ fn read_bare(bytes: &mut Vec<u8>, line: &[u8]) -> Result<bool, AllocError>
     Ok(true)
 }
 
-/// Reads a text that is on its line between quotes, from after the first of them on.
+/// Reads a text between quotes; `quoted` is the rest of the line after the first quote. False if no
+/// text has this line.
 fn read_quoted(bytes: &mut Vec<u8>, quoted: &[u8]) -> Result<bool, AllocError>
+    // On Ok true, the bytes are written as a quote and `quoted`; on Ok false, no bytes are.
     ensures { IfOk result (λ is. IsFormOf bare_or_quoted_text is bytes.new.items (codes "\""
         ++ quoted.now)) }
 {
+    // The text between the quotes is empty, and no line represents an empty text.
     if is_quote(quoted) {
         return Ok(false);
     }
@@ -119,10 +127,11 @@ fn read_quoted(bytes: &mut Vec<u8>, quoted: &[u8]) -> Result<bool, AllocError>
     if !is_quote(rest) {
         return Ok(false);
     }
+    // A text that needs no quotes is written without them, so its form between quotes is bad.
     Ok(!needs_no_quotes(bytes))
 }
 
-/// Whether a text is the last quote of a line alone.
+/// Whether a text is a single quote, with which a line ends.
 fn is_quote(text: &[u8]) -> bool
     ensures { IsTrue result ↔ (text.now ≡ codes "\"") }
 {
@@ -160,12 +169,15 @@ fn escaped(text: &[u8]) -> Option<(u8, &[u8])>
     }
 }
 
-/// A byte that has no other form between quotes than two digits.
+/// The first byte of a text and what follows it, if two hexadecimal digits are the only form of
+/// this byte between quotes.
 fn if_only_hex(first: Option<(u8, &[u8])>) -> Option<(u8, &[u8])>
+    // The result is `first`, or None if this byte has a shorter form.
     ensures { option_map (λ first. (first.0, first.1.now)) result
         ≡ if_only_hex (option_map (λ first. (first.0, first.1.now)) first.entry) }
 {
     let (byte, further) = first?;
+    // A line end is written as `\n`, and a printable byte as it is or after a backslash.
     if byte == b'\n' {
         return None;
     }

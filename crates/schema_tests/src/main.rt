@@ -28,17 +28,18 @@ enum Question {
     Head,
     /// `word W`: what the readers of values find for the word W.
     Word,
-    /// `shape TABLE MORE WORD ..`: the fault of an object with these words.
+    /// `shape TABLE MORE WORD ..`: the fault of an object with these words, if the bytes MORE
+    /// follow.
     Shape,
-    /// `faults TABLE`: of how many fields the faults of a value are reported.
+    /// `faults TABLE`: for how many fields of the table a wrong value is reported.
     Faults,
-    /// `visits TABLE BEFORE WORD ..`: how many values are visited.
+    /// `visits TABLE BEFORE WORD ..`: how many values of such an object are visited.
     Visits,
     /// `many_files N`: the fault of a package that lists one folder of N files N times.
     ManyFiles,
     /// `rules TABLE VALUE`: the first failed test of the value.
     Rules,
-    /// `view TABLE VALUE`: the fields of the value.
+    /// `view TABLE VALUE`: the fields of the value, as the views of `adb_schema` read them.
     View,
     /// `container BYTES TABLE`: the first failed test of the container.
     Container,
@@ -62,7 +63,7 @@ const QUESTIONS: [(&[u8], Question); 10] = [
 /// The payload of the last question `payload`.
 #[derive(Drop)]
 struct CurrentPayload {
-    /// Its bytes; empty before the first `payload`.
+    /// The bytes of the payload; empty before the first question `payload`.
     bytes: Vec<u8>,
 }
 

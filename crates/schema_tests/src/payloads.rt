@@ -6,7 +6,7 @@ use base_core::Words;
 use row_lines::value_named;
 use std::alloc::{AllocError, Global};
 
-// The kind, in the top four bits of a word, of a blob whose length has two bytes.
+// The kind (the top four bits of a word) of a blob whose length is stored in two bytes.
 const TEXT: u32 = 0x9000_0000;
 
 // The kind of an array, in the top four bits of a word.
@@ -15,7 +15,8 @@ const ARRAY: u32 = 0xd000_0000;
 // The kind of an object, in the top four bits of a word.
 const OBJECT: u32 = 0xe000_0000;
 
-/// The kind of an integer that is in its word; all numbers of rows are small enough for that.
+/// The kind (the top four bits) of an integer that is stored in its word; all numbers of rows are
+/// small enough for this.
 const INT: u32 = 0x1000_0000;
 
 /// The length in bytes of the head of a payload, which precedes the first value.
@@ -93,12 +94,14 @@ impl Payload {
         }
     }
 
-    /// The word that refers to the next written value, which is of this kind.
+    /// The word that refers to the next value to be written, which is of this kind: the kind and
+    /// the offset. (The remainder only keeps the sum from overflowing.)
     fn next_word(&self, kind: u32) -> u32 {
         kind.wrapping_add((self.values.len() % 0x0100_0000 + HEAD) as u32)
     }
 
-    /// Writes a text with its length in two bytes, however long it is.
+    /// Writes a text after its length, which always has two bytes here, and adds its word to the
+    /// array or object that was begun last.
     fn add_text(&mut self, text: &[u8]) -> Result<(), AllocError> {
         let word = self.next_word(TEXT);
         let len = (text.len() % 65_536) as u16;
@@ -107,7 +110,8 @@ impl Payload {
         self.add_entry(word)
     }
 
-    /// Writes the array or object that was begun last, and adds its word to the one around it.
+    /// Ends the array or object that was begun last: writes its words, and adds the word of the
+    /// whole to the array or object around it. `kind` says which of the two it is.
     fn close(&mut self, kind: u32) -> Result<(), AllocError> {
         let Some(entries) = self.open.pop() else {
             return Ok(());
@@ -117,7 +121,8 @@ impl Payload {
         self.add_entry(word)
     }
 
-    /// Adds a word to the array or object that was begun last; without one, the word is the root's.
+    /// Adds a word to the array or object that was begun last; if none was begun, the word is that
+    /// of the root.
     fn add_entry(&mut self, word: u32) -> Result<(), AllocError> {
         match self.open.pop() {
             Some(mut entries) => {
@@ -130,9 +135,10 @@ impl Payload {
     }
 }
 
-/// Writes the words of an array or of an object: first their count, which counts itself, and then
-/// the words.
+/// Writes the words of an array or of an object: first their count, which counts itself too, and
+/// then the words.
 pub(crate) fn add_run(bytes: &mut Vec<u8>, entries: &[u32]) -> Result<(), AllocError> {
+    // The remainder only keeps the sum from overflowing; no row has so many words.
     let count = (entries.len() % 65_536) as u32 + 1;
     bytes.extend_from_slice(&count.to_le_bytes())?;
     for entry in entries {
@@ -141,7 +147,7 @@ pub(crate) fn add_run(bytes: &mut Vec<u8>, entries: &[u32]) -> Result<(), AllocE
     Ok(())
 }
 
-/// A payload whose root is an object with these words, followed by more bytes.
+/// A payload whose root is an object with the words `entries`, followed by the bytes `more`.
 pub(crate) fn object_payload(
     alloc: Global,
     entries: &[u32],
@@ -155,7 +161,7 @@ pub(crate) fn object_payload(
     Ok(payload)
 }
 
-/// The numbers that the words of a row are, from an index on.
+/// The numbers that the words of a row from the index `first` on are.
 pub(crate) fn ints_of(alloc: Global, words: &Words, first: usize) -> Result<Vec<u32>, AllocError> {
     let mut ints = Vec::new(alloc);
     for i in first..words.len() {

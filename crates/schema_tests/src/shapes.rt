@@ -1,6 +1,6 @@
-//! The tests of payloads and containers: the fault of a shape (types of values), and the number of
-//! visited values; the rules of texts and numbers, the first failed test, and repeated names. The
-//! rules are in `docs/formats.md`, "Tests of a container", and the words of values in "Values".
+//! Answers questions about the tests of payloads and containers: `shape`, `faults`, `visits`,
+//! `many_files`, `rules` and `container` (see `Question` in `main.rt`). The rules of the tests are
+//! in `docs/formats.md`, "Tests of a container", and the words of values in "Values".
 
 use crate::payloads::{add_run, ints_of, object_payload, payload_of, table_of};
 use crate::words::{add_cause, add_outcome, int_of};
@@ -10,13 +10,14 @@ use base_core::{Cause, Words};
 use row_lines::{add_number, word_at};
 use std::alloc::{AllocError, Global};
 
-/// The word of the root in these payloads: an object after the head.
+/// The word of the root in these payloads: an object (0xe) at the offset 8, after the head.
 const ROOT: u32 = 0xe000_0008;
 
 /// The most values that a payload may have (`docs/formats.md`, "The shape").
 const MOST_VISITS: u32 = 4_194_304;
 
-/// The fault of a payload whose root should have the shape of this table, if it has one.
+/// The fault of a payload that should have the shape of the table `which`; `Ok` if it has this
+/// shape.
 fn fault_of(payload: &[u8], which: Which) -> Result<(), Cause> {
     shape(Adb::new(payload)?, which)?;
     Ok(())
@@ -29,24 +30,25 @@ pub(crate) fn add_shape(
     words: &Words,
     answer: &mut Vec<u8>,
 ) -> Result<(), AllocError> {
+    // The words of the row from the word 3 on are the words of the object.
     let entries = ints_of(alloc, words, 3)?;
     let payload = object_payload(alloc, &entries, word_at(words, 2))?;
     let found = fault_of(&payload, table_of(word_at(words, 1)));
     add_outcome(alloc, found, answer)
 }
 
-/// A word of another kind (top four bits) than this field's: a blob for an integer field, else the
-/// integer 1.
-fn of_another_kind(kind: Kind) -> u32 {
+/// A word whose kind (top four bits) is not allowed for a field of the kind `kind`: a blob for an
+/// integer, and otherwise the integer 1.
+fn word_of_another_kind(kind: Kind) -> u32 {
     match kind {
         Kind::Int => 0x8000_0008,
         _ => 0x1000_0001,
     }
 }
 
-/// A word of the field's kind (its top four bits) whose offset (the other bits) is outside of every
-/// payload in these tests.
-fn outside(kind: Kind) -> u32 {
+/// A word whose kind (top four bits) is allowed for a field of the kind `kind`, and whose offset
+/// (the other bits) is outside of every payload in these tests.
+fn word_outside_payload(kind: Kind) -> u32 {
     match kind {
         Kind::Int => 0x3fff_fff0,
         Kind::Text | Kind::Hash => 0xafff_fff0,
@@ -55,21 +57,23 @@ fn outside(kind: Kind) -> u32 {
     }
 }
 
-/// Answers `faults TABLE`: adds for how many fields of the table two faults are reported, another
-/// kind and an offset outside, if all fields before are null. Then adds the result for two words
-/// after the last field, which readers ignore.
+/// Answers `faults TABLE`: adds for how many fields of the table both faults are reported, a word
+/// of another kind and an offset outside of the payload. All fields before the tested one are null.
+/// Then it adds the result for two words after the last field, which readers ignore.
 pub(crate) fn add_faults(
     alloc: Global,
     table: &[u8],
     answer: &mut Vec<u8>,
 ) -> Result<(), AllocError> {
     let which = table_of(table);
+    // The words of the fields before the next one, all of which are null.
     let mut before = Vec::new(alloc);
     let mut reported = 0u64;
     for field in fields_of(which) {
         if has_both_faults(alloc, &before, *field, which)? {
             reported = reported.saturating_add(1);
         }
+        // The word 0 is NULL.
         before.push(0)?;
     }
     add_number(alloc, answer, u128::from(reported))?;
@@ -82,25 +86,26 @@ pub(crate) fn add_faults(
     )
 }
 
-/// Whether both faults of this field, another kind and an offset outside, are reported in an object
-/// whose earlier words are `before`.
+/// Whether both faults of this field are reported: a word of another kind, and an offset outside of
+/// the payload. `before` are the words of the earlier fields.
 fn has_both_faults(
     alloc: Global,
     before: &[u32],
     field: Field,
     which: Which,
 ) -> Result<bool, AllocError> {
-    let another = of_another_kind(field.kind);
-    let far = outside(field.kind);
-    let of_another = fault_after(alloc, before, another, which)?;
-    let of_far = fault_after(alloc, before, far, which)?;
+    let wrong_word = word_of_another_kind(field.kind);
+    let outside_word = word_outside_payload(field.kind);
+    let wrong_fault = fault_after(alloc, before, wrong_word, which)?;
+    let outside_fault = fault_after(alloc, before, outside_word, which)?;
     Ok(
-        of_another == Err(Cause::WrongKind { word: another })
-            && of_far == Err(Cause::Outside { word: far }),
+        wrong_fault == Err(Cause::WrongKind { word: wrong_word })
+            && outside_fault == Err(Cause::Outside { word: outside_word }),
     )
 }
 
-/// The fault of an object with the words `before`, and `word` after them.
+/// The fault of an object of the table `which` with the words `before`, and `word` after them; `Ok`
+/// if it has no fault.
 fn fault_after(
     alloc: Global,
     before: &[u32],
@@ -114,12 +119,14 @@ fn fault_after(
 }
 
 /// Answers `visits TABLE BEFORE WORD ..`: reads an object with these words as fields of the table,
-/// after BEFORE earlier visits. Adds how many values were visited in all, or the fault.
+/// after BEFORE earlier visits. Adds how many values were visited, with the earlier ones, or the
+/// fault.
 pub(crate) fn add_visits(
     alloc: Global,
     words: &Words,
     answer: &mut Vec<u8>,
 ) -> Result<(), AllocError> {
+    // The words of the row from the word 3 on are the words of the object.
     let entries = ints_of(alloc, words, 3)?;
     let payload = object_payload(alloc, &entries, b"")?;
     let before = int_of(word_at(words, 2));
@@ -129,8 +136,10 @@ pub(crate) fn add_visits(
     }
 }
 
-/// How many values are visited in all, with the `before` earlier visits.
+/// How many values are visited in a payload with this table at its root, with `before` earlier
+/// visits added; or the fault.
 fn visits_of(payload: &[u8], which: Which, before: u32) -> Result<u32, Cause> {
+    // `walk_fields` takes at most this many earlier visits.
     if before > MOST_VISITS {
         return Err(Cause::TooLarge { count: before });
     }
@@ -139,15 +148,15 @@ fn visits_of(payload: &[u8], which: Which, before: u32) -> Result<u32, Cause> {
     walk_fields(adb, fields_of(which), before, entries)
 }
 
-/// Answers `many_files N`: adds the fault of a package with one folder of N files, which is listed
-/// N times.
+/// Answers `many_files N`: adds the fault of a package that lists one folder of N files N times.
 pub(crate) fn add_many_files(
     alloc: Global,
     count: &[u8],
     answer: &mut Vec<u8>,
 ) -> Result<(), AllocError> {
     let count = int_of(count) % 65_536;
-    // At the offset 20 the folder, at 36 the array of its files, and after it the array of folders.
+    // At the offset 20 the folder (a count of 4, and three words: null, null, and the array of its
+    // files), at 36 this array, and after it the array of folders.
     let mut more = Vec::new(alloc);
     more.extend_from_slice(b"\x04\0\0\0\0\0\0\0\0\0\0\0\x24\0\0\xd0")?;
     // The array of files: null in each entry.
@@ -157,7 +166,9 @@ pub(crate) fn add_many_files(
         &mut more,
         &Vec::from_elem(alloc, 0xe000_0014u32, count as usize)?,
     )?;
+    // The word of the array of folders: an array (0xd) at the offset 40 + 4 * N.
     let folders = 0xd000_0000 + 40 + 4 * count;
+    // The package has no information, and these folders.
     let payload = object_payload(alloc, &[0, folders], &more)?;
     add_outcome(alloc, fault_of(&payload, Which::Package), answer)
 }
@@ -168,12 +179,13 @@ pub(crate) fn add_rule(
     words: &Words,
     answer: &mut Vec<u8>,
 ) -> Result<(), AllocError> {
+    // The value is in the words of the row from the word 2 on.
     let payload = payload_of(alloc, words, 2)?;
     let checked = check(alloc, &payload, table_of(word_at(words, 1)));
     add_outcome(alloc, cause_in(checked)?, answer)
 }
 
-/// Tests a payload: its shape (types of values), its texts, and that no name is repeated.
+/// Tests a payload: its head, its shape (the types of its values), and its texts and numbers.
 fn check(alloc: Global, payload: &[u8], which: Which) -> Result<(), ReadFault> {
     let shaped = shape(Adb::new(payload)?, which)?;
     Checked::new(alloc, shaped)?;
@@ -190,7 +202,8 @@ pub(crate) fn add_container(
     add_outcome(alloc, cause_in(read)?, answer)
 }
 
-/// The cause of an error; running out of memory is passed on.
+/// The result of a read without its value: `Ok`, or the cause. Out of memory is returned as an
+/// error.
 fn cause_in<T: Drop>(found: Result<T, ReadFault>) -> Result<Result<(), Cause>, AllocError> {
     match found {
         Ok(_) => Ok(Ok(())),

@@ -1,5 +1,6 @@
 //! Answers `view`: each field of each table, as `docs/formats.md` lists them in "Schemas". How the
-//! answers are written is in `tests/lines.md`, `view`. Entries of lists count from 1.
+//! answers are written is in `tests/lines.md`, `view`. The entries of a list count from 1, so the
+//! code gets the entry `i + 1` of a list.
 use crate::payloads::{payload_of, table_of};
 use crate::words::add_cause;
 use adb_schema::{
@@ -11,13 +12,14 @@ use base_core::Words;
 use row_lines::{add_number, add_word, word_at};
 use std::alloc::{AllocError, Global};
 
-/// Adds each field of the value of `view TABLE VALUE`. Of a list it adds a distinguishing field of
-/// each entry, in brackets; of an object inside another one its first field.
+/// Answers `view TABLE VALUE`: adds each field of the value. Of a list it adds the name or text of
+/// each entry, in brackets; of an object inside the value it adds the first field.
 pub(crate) fn add_view(
     alloc: Global,
     words: &Words,
     answer: &mut Vec<u8>,
 ) -> Result<(), AllocError> {
+    // The value is in the words of the row from the word 2 on.
     let payload = payload_of(alloc, words, 2)?;
     let adb = match Adb::new(&payload) {
         Ok(adb) => adb,
@@ -37,8 +39,9 @@ pub(crate) fn add_view(
     }
 }
 
-// Adds a number in decimal.
+// Adds a number in decimal digits, as a word of its own.
 fn add_int(alloc: Global, number: u64, answer: &mut Vec<u8>) -> Result<(), AllocError> {
+    // `add_word` puts the space before the number.
     add_word(answer, b"")?;
     add_number(alloc, answer, u128::from(number))
 }
@@ -93,6 +96,7 @@ fn add_file(alloc: Global, adb: Adb<'_>, answer: &mut Vec<u8>) -> Result<(), All
         return add_cause(alloc, cause, answer);
     }
     let file = FileInfo::of(adb, adb.root());
+    // Of the access list only the first field, the mode, is added.
     let mode = file.acl().mode();
     add_word(answer, file.name())?;
     add_int(alloc, mode, answer)?;
@@ -109,6 +113,7 @@ fn add_folder(alloc: Global, adb: Adb<'_>, answer: &mut Vec<u8>) -> Result<(), A
         return add_cause(alloc, cause, answer);
     }
     let folder = DirInfo::of(adb, adb.root());
+    // Of the access list only the first field, the mode, is added.
     let mode = folder.acl().mode();
     add_word(answer, folder.name())?;
     add_int(alloc, mode, answer)?;
@@ -187,6 +192,7 @@ fn add_package(alloc: Global, adb: Adb<'_>, answer: &mut Vec<u8>) -> Result<(), 
         return add_cause(alloc, cause, answer);
     }
     let package = PackageView::of(adb, adb.root());
+    // Of the package's information only the first field, the name, is added.
     add_word(answer, package.info().name())?;
     add_word(answer, b"[")?;
     let folders = package.paths();
@@ -194,6 +200,7 @@ fn add_package(alloc: Global, adb: Adb<'_>, answer: &mut Vec<u8>) -> Result<(), 
         add_word(answer, folders.get(i + 1).name())?;
     }
     add_word(answer, b"]")?;
+    // Of the scripts only the first one is added.
     add_word(answer, package.scripts().trigger())?;
     add_texts(package.triggers(), answer)?;
     add_int(alloc, package.replaces_priority(), answer)

@@ -1,5 +1,6 @@
-//! Words (32-bit references) of a payload: the results of the readers of integers, blobs, arrays
-//! and objects. The rules are in `docs/formats.md`, "Values".
+//! Answers questions about words (32-bit references) of a payload: `head`, and `word`, which adds
+//! the results of the readers of integers, blobs, arrays and objects. The rules are in
+//! `docs/formats.md`, "Values".
 use adb_view::{Adb, Arr, Val};
 use base_core::Cause;
 use row_lines::{add_number, add_word, number_of};
@@ -15,7 +16,7 @@ pub(crate) fn add_cause(
     add_word(answer, text.as_bytes())
 }
 
-/// Adds `ok`, or the cause of an error.
+/// Adds `ok`, or the cause in `found`.
 pub(crate) fn add_outcome(
     alloc: Global,
     found: Result<(), Cause>,
@@ -52,6 +53,7 @@ pub(crate) fn add_head(
                 },
             )
         }
+        // This never happens: an `Adb` has the payload of which it was made.
         Ok(_) => answer.extend_from_slice(b"another payload"),
         Err(cause) => add_cause(alloc, cause, answer),
     }
@@ -104,6 +106,7 @@ fn add_runs(
         Ok(found) => add_entries(alloc, found, b"array", answer)?,
         Err(cause) => add_fault_unless_wrong_kind(cause, value, b"array", answer)?,
     }
+    // The first two fields of the object are read as well.
     match adb.obj::<2>(value) {
         Ok(found) => {
             add_entries(alloc, found.entries(), b"object", answer)?;
@@ -115,7 +118,7 @@ fn add_runs(
     }
 }
 
-/// Adds the words of an array's or an object's entries.
+/// Adds `what`, which says what was read, and the words of its entries, or `empty`.
 fn add_entries(
     alloc: Global,
     found: Arr<'_>,
@@ -132,7 +135,7 @@ fn add_entries(
     Ok(())
 }
 
-/// Adds a fault of a reader, unless it is that the word is of another kind.
+/// Adds a fault of the reader of `what`, unless the fault is that the word is of another kind.
 fn add_fault_unless_wrong_kind(
     cause: Cause,
     value: Val,

@@ -36,7 +36,7 @@ value_of_line (Some line) = value_of_first_or_null line.values
 abbrev pub value_of_single_line_field : InfoField → List InfoLine → Plain
 value_of_single_line_field f info = value_of_line (find (is_line_of f) info)
 
--- the values of a line if it is of the field, otherwise none
+-- the values of a line if the line is of this field, otherwise none
 abbrev pub values_if_line_of_field : InfoField → InfoLine → List FieldValue
 values_if_line_of_field f line = if is_line_of f line then line.values else []
 
@@ -62,7 +62,7 @@ record_info_value info =
 
 -- ---- folders and files
 
--- the object of an access (table 2): mode, user, group; Null if no line gives one
+-- the object of an owner and mode (table 2): mode, user, group; Null if no line gives them
 abbrev pub listed_access_value : Option Access → Plain
 listed_access_value None = null
 listed_access_value (Some a) = object_of (int a.mode ∷ blob_or_null a.user ∷ blob_or_null a.group ∷ [])

@@ -18,17 +18,17 @@ pub record BeginsText (front : List (List ℕ)) : Type 0 where
   -- the text is read as these records
   pub is_read : read_lines (front ++ more) ≡ Ok records
 
--- The lines up to a number are those of no text in which their last record ends there, and every text
--- that continues from there is refused with this number; but those up to any smaller number begin a
--- text.
+-- The line with the number `number` is reported as bad: if the last record of the lines up to it ends there, every
+-- text that begins with these lines is refused with this number. The lines up to any smaller number begin a text
+-- that is read.
 pub record IsNumberOfReportedBadLine (lines : List (List ℕ)) (number : ℕ) : Type 0 where
   -- the lines up to the number
   pub front : List (List ℕ)
-  -- the lines after them
+  -- the lines after those up to the number
   pub rest : List (List ℕ)
-  -- together they are the lines of the text
+  -- these lines and those after them are all lines of the text
   pub located : lines ≡ front ++ rest
-  -- there are as many of them as the number says
+  -- the lines up to the number are as many as it says
   pub up_to : length front ≡ number
   -- if their last record ends there, the text is refused with this number, whatever follows
   pub bad : (more : List (List ℕ)) → read_lines (front ++ [] ∷ more) ≡ Err number

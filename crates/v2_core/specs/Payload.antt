@@ -13,7 +13,7 @@ use Rattle.v2_core.specs.Database.{value_of_records}
 use Rattle.v2_core.specs.Reading.{records_of}
 use Rattle.v2_core.specs.Records.{Record}
 
--- a payload that was tested: the payload, or the fault of the test that failed
+-- the payload, unless a test of it failed with this cause
 abbrev pub payload_unless_fault : List ℕ → Option Cause → Result (List ℕ) V2Fault
 payload_unless_fault payload None = Ok payload
 payload_unless_fault payload (Some cause) = Err (Bad cause)
@@ -28,7 +28,8 @@ abbrev pub payload_of_records : Result (List Record) ℕ → Result (List ℕ) V
 payload_of_records (Ok records) = or_too_large (payload_or_overflow (value_of_records records))
 payload_of_records (Err line) = Err (Bad (TextLine line))
 
--- a payload that passes the tests of an installed database, or the first of them that it fails
+-- the payload, if it passes the tests of an installed database; otherwise the first test that it fails. An
+-- earlier fault stays as it is
 abbrev pub payload_if_sound : Result (List ℕ) V2Fault → Result (List ℕ) V2Fault
 payload_if_sound (Ok payload) = payload_unless_fault payload (payload_fault Idb payload)
 payload_if_sound (Err fault) = Err fault
@@ -39,7 +40,8 @@ payload_if_sound (Err fault) = Err fault
 unfoldable pub payload_of_text : List ℕ → Result (List ℕ) V2Fault
 payload_of_text text = payload_if_sound (payload_of_records (records_of text))
 
--- a fault is the one of this result; out of memory may occur for any text
+-- a fault of reading a text database: it is that of `answer`, the result of the definition; out of memory may
+-- occur for any text
 abbrev pub IsV2Fault : V2Fault → Result (List ℕ) V2Fault → Type 0
 IsV2Fault Memory answer = ⊤
 IsV2Fault (Bad cause) answer = answer ≡ Err (Bad cause)

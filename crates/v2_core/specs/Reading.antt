@@ -17,8 +17,8 @@ with_records records (Ok others) = Ok (records ++ others)
 with_records records (Err line) = Err line
 
 -- the records from the record `r` on, which ended after this many lines of the text; `others` are
--- those after it. A record without a line is no record; one without a name or a version is bad, at its
--- last line
+-- those after it. A record without a line is no record. In a record without a name or a
+-- version the last line is bad
 abbrev pub records_from_record_end : ℕ → Record → Result (List Record) ℕ → Result (List Record) ℕ
 records_from_record_end lines r others =
     if r.has_line

@@ -12,37 +12,37 @@ use Rattle.v2_lines.specs.declared.field.InfoField.TheVariants as Fields
 
 -- one line of a record on a field of the package, and the values in the line
 pub record InfoLine : Type 0 where
-  -- the field
+  -- the field of the package
   pub field : InfoField
   -- the values that the line gives
   pub values : List FieldValue
 
 -- a file, by the lines of a record
 pub record ListedFile : Type 0 where
-  -- its name: one part of a path
+  -- the name of the file: one part of a path
   pub name : List ℕ
-  -- its owner and mode, if a line gave them
+  -- the owner and mode, if a line gave them
   pub access : Option Access
-  -- the SHA-1 of its bytes, if a line gave it
+  -- the SHA-1 of the bytes of the file, if a line gave it
   pub hash : Option (List ℕ)
 
 -- a folder, with its files in the order of their lines
 pub record ListedFolder : Type 0 where
-  -- its path; empty for the root folder
+  -- the path of the folder; empty for the root folder
   pub name : List ℕ
-  -- its owner and mode, if a line gave them
+  -- the owner and mode, if a line gave them
   pub access : Option Access
-  -- its files, in the order of their lines
+  -- the files of the folder, in the order of their lines
   pub files : List ListedFile
 
 -- a record: whether it has a line, and the meaning of its lines; further lines belong to the last
 -- folder and its last file
 pub record Record : Type 0 where
-  -- whether it has a line
+  -- whether the record has a line
   pub has_line : Bool
-  -- its lines on the package, in their order
+  -- the lines on the package, in their order
   pub info : List InfoLine
-  -- its folders, in the order of their lines
+  -- the folders, in the order of their lines
   pub folders : List ListedFolder
 
 -- a record by its parts
@@ -123,8 +123,8 @@ abbrev pub folder_with_last_file_changed : (ListedFile → Option ListedFile) �
 folder_with_last_file_changed change folder =
     option_map (folder_with_files folder) (list_with_last_changed change folder.files)
 
--- some folders and their files with one more line, which begins a folder or belongs to the last one;
--- None if it is not allowed there. Any other line changes nothing
+-- some folders with one more line. The line adds a folder, or belongs to the last folder or to the last file of
+-- that folder; None if it is not allowed there. Any other line changes nothing
 abbrev pub with_path_line : RecordLine → List ListedFolder → Option (List ListedFolder)
 with_path_line (info_line f values) folders = Some folders
 with_path_line (folder_line name) folders = Some (folders ++ listed_folder_from_parts name None [] ∷ [])
@@ -142,7 +142,8 @@ abbrev pub with_info_line : RecordLine → List InfoLine → Option (List InfoLi
 with_info_line (info_line f values) info = with_info_values f values info
 with_info_line line info = Some info
 
--- a record with these lines on the package and these folders; None if one of the two is None
+-- a record with these lines on the package and these folders; None if the lines or the folders are None (the
+-- added line was not allowed)
 abbrev pub record_if_both_parts : Option (List InfoLine) → Option (List ListedFolder) → Option Record
 record_if_both_parts None folders = None
 record_if_both_parts (Some info) None = None

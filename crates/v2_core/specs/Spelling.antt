@@ -9,7 +9,7 @@ use Rattle.v2_lines.specs.InfoFields.{is_list_info_field}
 use Rattle.v2_lines.specs.Lines.{RecordLine, info_line, folder_line, folder_access_line, file_line, file_access_line, file_hash_line, record_line_of}
 use Rattle.v2_core.specs.Records.{InfoLine, ListedFile, ListedFolder, Record, has_line_of, lacks_needed_line}
 
--- the line of an access, of a file or of a folder; none if no line gave it
+-- the line of the owner and mode of a file or a folder, which `line` makes; none if no line gave them
 abbrev pub access_lines : (Access → RecordLine) → Option Access → List RecordLine
 access_lines line None = []
 access_lines line (Some a) = line a ∷ []
@@ -38,8 +38,8 @@ info_lines info = map (λ (l : InfoLine). info_line l.field l.values) info
 abbrev pub record_lines : Record → List RecordLine
 record_lines r = info_lines r.info ++ flat_map folder_lines r.folders
 
--- whether each of these lines is the first one of its field, unless the field is a list, given the
--- lines before them
+-- whether each of these lines is the first one of its field, unless the field is a list. The first argument has
+-- the lines before them
 abbrev pub have_no_repeated_single_field : List InfoLine → List InfoLine → Bool
 have_no_repeated_single_field before [] = true
 have_no_repeated_single_field before (l ∷ ls) =
@@ -59,13 +59,13 @@ AreLines (t ∷ ts) [] = ⊥
 AreLines (t ∷ ts) (l ∷ ls) =
     (is_one_line t ≡ true) × (record_line_of t ≡ Some l) × AreLines ts ls
 
--- these lines are those of a record, which has a name and a version and each single field only once
+-- these lines are those of the record `r`, which has a name and a version, and each field that is no list once at most
 pub record SpellsRecord (lines : List (List ℕ)) (r : Record) : Type 0 where
   -- the record has a line
   pub begun : r.has_line ≡ true
-  -- it has a name and a version
+  -- the record has a name and a version
   pub complete : lacks_needed_line r.info ≡ false
-  -- it has each single field once at most
+  -- the record has each field that is no list at most once
   pub once : have_no_repeated_single_field [] r.info ≡ true
   -- the lines are those of the record
   pub lines_say : AreLines lines (record_lines r)

@@ -1,4 +1,4 @@
--- What is written while a text is read.
+-- The draft (a payload that is being written) while a text is read.
 -- It serves the contracts of `read`; the order of what is reported is defined in `docs/formats.md`,
 -- "Text database of version 2".
 use Rattle.std.specs.Prelude.{◌≡◌, ℕ, ⊤, List, map, Result, Ok, Err}
@@ -20,8 +20,8 @@ abbrev pub draft_with_database : Result (List Record) ℕ → DraftState → Res
 draft_with_database (Ok records) d = Ok (draft_with (value_of_records records) d)
 draft_with_database (Err line) d = Err line
 
--- the fault of a text is that of its first bad line, or out of memory; a limit is reported only at the
--- end of the text
+-- a fault of reading the lines of a text: a bad line is that of the result `read`, and out of memory may occur at
+-- any line. A limit is reported only at the end of the text
 abbrev pub IsLineFault : V2Fault → Result (List Record) ℕ → Type 0
 IsLineFault (Bad cause) read = (line : ℕ) × (cause ≡ TextLine line) × (read ≡ Err line)
 IsLineFault (TooLarge bytes values) read = ⊥

@@ -1,4 +1,4 @@
-//! Converts the text database of version 2 of apk-tools: it takes the bytes of
+//! Converts the text database of version 2 of apk-tools: `read_v2` takes the bytes of
 //! `lib/apk/db/installed`, and returns the payload of the installed database, or the first bad
 //! line.
 //!

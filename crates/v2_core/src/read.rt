@@ -1,5 +1,5 @@
-//! Reads a text line by line, and writes each package at the end of its record; or returns why a
-//! text database is not converted.
+//! Reads a text database line by line, and writes each package at the end of its record; or returns
+//! why the text is refused.
 //! The rules are in `docs/formats.md`, "Text database of version 2".
 
 ghost use Rattle.std.specs.Prelude.{◌≡◌, ◌<◌, ◌-◌, ◌∷◌, IfErr, IfOk, List, None, OnOk, Ok, Result, ℕ, Err};
@@ -34,9 +34,9 @@ use v2_lines::{Checked, Draft, ReadFault, Which, WriteFault, repeated, shape};
 /// an installed database that the payload fails. Or `Memory`.
 #[tactic(auto, unfolding(crate::specs::Payload::payload_of_text))]
 pub fn read_v2(alloc: Global, bytes: &[u8]) -> Result<Vec<u8>, V2Fault>
-    // On Ok, the payload is that of the text.
+    // On Ok, the payload is the one that the definition gives for the text.
     ensures ok { IfOk result (λ payload. payload_of_text bytes.now ≡ Ok payload.items) }
-    // An error is that of the definition, or out of memory.
+    // An error is the one that the definition gives for the text, or out of memory.
     ensures err { IfErr result (λ fault. IsV2Fault fault (payload_of_text bytes.now)) }
 {
     let payload = write_payload(alloc, bytes)?;
@@ -52,7 +52,7 @@ fn check_database(alloc: Global, payload: &[u8]) -> Result<(), ReadFault>
     // The error is the first failed test, or out of memory.
     ensures bad { IfErr result
         (λ fault. IsReadFault fault (payload_fault Tables.Idb payload.now)) }
-    // On Ok, none of the tests of a database failed.
+    // On Ok, the payload passes all tests of a database.
     ensures sound { OnOk result (payload_fault Tables.Idb payload.now ≡ None) }
 {
     let adb = Adb::new(payload)?;
@@ -64,12 +64,12 @@ fn check_database(alloc: Global, payload: &[u8]) -> Result<(), ReadFault>
     }
 }
 
-// Writes the payload of a text.
+// Writes the payload of the database that a text describes; the payload is not tested here.
 fn write_payload(alloc: Global, bytes: &[u8]) -> Result<Vec<u8>, V2Fault>
     // On Ok, the payload is that of the text's records.
     ensures ok { IfOk result
         (λ payload. payload_of_records (records_of bytes.now) ≡ Ok payload.items) }
-    // An error is the one of the definition, or out of memory.
+    // An error is the one that the definition gives for these records, or out of memory.
     ensures err { IfErr result (λ fault. IsV2Fault fault (payload_of_records
         (records_of bytes.now))) }
 {
@@ -82,7 +82,7 @@ fn write_payload(alloc: Global, bytes: &[u8]) -> Result<Vec<u8>, V2Fault>
     }
 }
 
-// Writes the database of a text.
+// Adds the database that a text describes to a draft.
 fn write_database(alloc: Global, draft: &mut Draft, bytes: &[u8]) -> Result<(), V2Fault>
     // On Ok, the database of the text's records is added to the draft.
     ensures ok { OnOk result
@@ -90,6 +90,7 @@ fn write_database(alloc: Global, draft: &mut Draft, bytes: &[u8]) -> Result<(), 
     // An error is the first bad line, or out of memory.
     ensures bad { IfErr result (λ fault. IsLineFault fault (records_of bytes.now)) }
 {
+    // The object of the database, and in it the array of packages.
     draft.open_list()?;
     draft.open_list()?;
     write_packages(alloc, draft, bytes)?;
@@ -98,7 +99,7 @@ fn write_database(alloc: Global, draft: &mut Draft, bytes: &[u8]) -> Result<(), 
     Ok(())
 }
 
-// Writes the packages of a text, each at the end of its record.
+// Adds the packages that a text describes to a draft, each at the end of its record.
 #[tactic(auto, unfolding(crate::specs::Reading::records_of))]
 fn write_packages(alloc: Global, draft: &mut Draft, bytes: &[u8]) -> Result<(), V2Fault>
     // On Ok, the packages of the text's records are added to the draft.
@@ -107,17 +108,18 @@ fn write_packages(alloc: Global, draft: &mut Draft, bytes: &[u8]) -> Result<(), 
     ensures bad { IfErr result (λ fault. IsLineFault fault (records_of bytes.now)) }
 {
     let mut record = Record::new(alloc);
+    // The number of the last line that was read, counted from 1.
     let mut number = 0;
     for line in bytes.split(|byte| *byte == b'\n') {
         number += 1;
         add_line(draft, &mut record, line, number)?;
     }
+    // The end of the text ends the last record.
     write_record(draft, &record, number)
 }
 
-// Reads the line with this number, counted from 1: an empty one ends the record, another belongs to
-// it. The clauses hold for any lines that follow: what is written with them is the result of the
-// text from this line on.
+// Reads the line with this number, counted from 1: an empty line ends the record, any other line
+// belongs to the record. The clauses hold for any lines that follow (`rest`).
 fn add_line<'a>(
     draft: &mut Draft,
     text_record: &mut Record<'a>,
@@ -126,13 +128,13 @@ fn add_line<'a>(
 ) -> Result<(), V2Fault>
     // Lines are numbered from 1.
     requires { 0 < number }
-    // On Ok, the line is read: whatever lines follow, the text so far and they give the same
-    // packages.
+    // On Ok, the line is read: to read the lines that follow, from the new record on, gives the
+    // same packages as to read this line and them from the old record on.
     ensures ok { OnOk result ((rest : List (List ℕ))
         → draft_with_records (records_from number text_record.new rest) draft.new
         ≡ draft_with_records (records_from (number - 1) text_record.old (line.entry.now ∷ rest))
         draft.old) }
-    // An error is the first bad line, or out of memory.
+    // An error is the first bad line, whatever lines follow, or out of memory.
     ensures bad { IfErr result (λ fault. (rest : List (List ℕ))
         → IsLineFault fault (records_from (number - 1) text_record.old (line.entry.now ∷ rest))) }
 {
@@ -145,11 +147,12 @@ fn add_line<'a>(
     Ok(())
 }
 
-// Ends a record, with this many lines up to there, and begins a new one. The clauses hold for any
-// records that follow.
+// Ends a record, and begins a new one. `lines` is the number of lines of the text up to the end of
+// the record. The clauses hold for any records that follow (`others`).
 fn end_record(draft: &mut Draft, text_record: &mut Record<'_>, lines: u64) -> Result<(), V2Fault>
+    // On Ok, the new record has no line yet.
     ensures new { OnOk result (text_record.new ≡ empty_record) }
-    // On Ok, the record is added to the draft if it has lines, whatever the further records are.
+    // On Ok, the package of the record is added to the draft, if the record has a line.
     ensures ok { OnOk result ((others : Result (List RecordModel) ℕ)
         → draft_with_records others draft.new
         ≡ draft_with_records (records_from_record_end lines text_record.old others) draft.old) }
@@ -162,10 +165,11 @@ fn end_record(draft: &mut Draft, text_record: &mut Record<'_>, lines: u64) -> Re
     Ok(())
 }
 
-// Writes the package of a record, which has this many lines of the text up to its end. A record
-// without a line is no record. The clauses hold for any records that follow.
+// Adds the package of a record to a draft; a record without a line is no record. `lines` is the
+// number of lines of the text up to the end of the record. The clauses hold for any records that
+// follow (`others`).
 fn write_record(draft: &mut Draft, text_record: &Record<'_>, lines: u64) -> Result<(), V2Fault>
-    // On Ok, the record is added to the draft, whatever the further records are.
+    // On Ok, the package of the record is added to the draft, if the record has a line.
     ensures ok { OnOk result ((others : Result (List RecordModel) ℕ)
         → draft_with_records others draft.new
         ≡ draft_with_records (records_from_record_end lines text_record.now others) draft.old) }
@@ -183,21 +187,21 @@ fn write_record(draft: &mut Draft, text_record: &Record<'_>, lines: u64) -> Resu
     Ok(())
 }
 
-// The refusal of a line by its number, counted from 1.
+// The fault that the line with this number, counted from 1, is bad.
 fn bad_line(line: u64) -> V2Fault
     ensures { result ≡ Bad (TextLine line) }
 {
     V2Fault::Bad(Cause::TextLine { line })
 }
 
-/// Why there is no payload of a text.
+/// Why a text database is refused.
 #[derive(Clone, Copy, Debug, PartialEq, Eq, Drop, Error)]
 pub enum V2Fault {
-    /// The first bad line; or the first test of an installed database that its value fails.
+    /// The first bad line; or the first test of an installed database that the payload fails.
     #[error("bad text database")]
     Bad(Cause),
-    /// The payload would exceed a limit of the writer. The counts are those after the value that
-    /// does: the payload's bytes, and its values with the root.
+    /// The payload would exceed a limit of the writer. The counts are those just after the value
+    /// that exceeds it: the payload's bytes, and its values with the root.
     #[error("a payload of {bytes} bytes and {values} values is too large")]
     TooLarge { bytes: u64, values: u64 },
     /// Out of memory.
@@ -209,9 +213,10 @@ impl From<AllocError> for V2Fault {
     ghost use Rattle.std.specs.Prelude.{◌≡◌};
     ghost use Rattle.v2_core.specs.declared.read.V2Fault.TheVariants.{Memory};
 
+    // The fault is `Memory`.
     ghost from_gives = { λ _ fault. fault ≡ Memory };
 
-    /// Out of memory, as the reason why a text has no payload.
+    /// Out of memory, as the reason why a text is refused.
     fn from(_: AllocError) -> V2Fault {
         V2Fault::Memory
     }
@@ -221,29 +226,30 @@ impl From<Cause> for V2Fault {
     ghost use Rattle.std.specs.Prelude.{◌≡◌};
     ghost use Rattle.v2_core.specs.declared.read.V2Fault.TheVariants.{Bad};
 
+    // The fault has this cause.
     ghost from_gives = { λ cause fault. fault ≡ Bad cause };
 
-    /// A failed test, as the reason why a text has no payload.
+    /// A failed test, as the reason why a text is refused.
     fn from(cause: Cause) -> V2Fault {
         V2Fault::Bad(cause)
     }
 }
 
-/// The reported line is the first that is in no text: the lines up to it are refused with its
-/// number, whatever follows the end of its record; and any fewer of them begin a text that is
-/// accepted.
+/// A law: if a text is refused for a line, the lines up to this one are refused with its number in
+/// each text in which their last record ends there. Any smaller number of them begins a text that
+/// is accepted.
 pub fn the_reported_line_is_the_first_that_no_text_has()
     ensures { (text : List ℕ) (number : ℕ) → records_of text ≡ Err number
         → IsNumberOfReportedBadLine (lines_of text) number }
 {}
 
-/// The text of records is read as these records, whatever text each value has; so a text is that of
-/// one list of records alone.
+/// A law: a text that is the text of some records is read as these records. So a text is that of
+/// only one list of records.
 pub fn the_text_of_records_is_read_back()
-    // The text of some records is read as these.
+    // A text of some records is read as these records.
     ensures back { (text : List ℕ) (records : List RecordModel)
         → SpellsText text records → records_of text ≡ Ok records }
-    // A text is that of one list of records only.
+    // A text is that of only one list of records.
     ensures one { (text : List ℕ) (records others : List RecordModel)
         → SpellsText text records → SpellsText text others → records ≡ others }
 {}

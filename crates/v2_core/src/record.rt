@@ -1,6 +1,8 @@
-//! A record of a text database: its lines on one package, on its folders and on their files.
-//! The rules are in `docs/formats.md`, "Text database of version 2", the table and the two
-//! paragraphs after it.
+//! A record of a text database: its lines on one package, on its folders and on their files. Each
+//! function that adds a line returns false if the line is not allowed there. Its clause compares
+//! the changed value, or None for false, with the definition. `read.rt` uses `Record`. The rules
+//! are in `docs/formats.md`, "Text database of version 2", the table and the two paragraphs after
+//! it.
 ghost use Rattle.std.specs.List.{find, list_any};
 ghost use Rattle.std.specs.Option.{option_map};
 ghost use Rattle.std.specs.Prelude.{◌≡◌, ◌++◌, ◌∷◌, [], IfOk, None, OnOk, Some, if◌then◌else◌, is_some, option_and_then};
@@ -19,7 +21,7 @@ use v2_lines::{Access, InfoField, Line, Value, read_line};
 pub(crate) struct InfoLine<'a> {
     /// The field, by the line's letter.
     pub field: InfoField,
-    /// The line's value.
+    /// The value of the line.
     pub value: Value<'a>,
 }
 
@@ -27,19 +29,21 @@ impl<'a> Model for InfoLine<'a> {
     ghost use Rattle.v2_core.specs.Records.{InfoLine as InfoLineModel, info_line_from_parts};
     ghost use Rattle.v2_lines.specs.Views.{line_value_view};
 
+    // What contracts see of a line on the package.
     ghost Value = { InfoLineModel };
 
+    // Contracts see the field and the values of the line.
     ghost view = { λ line. info_line_from_parts line.field (line_value_view line.value) };
 }
 
 /// A file that a record lists.
 #[derive(Drop)]
 pub(crate) struct File<'a> {
-    /// Its name: one part of a path.
+    /// The name of the file: one part of a path.
     pub name: &'a [u8],
-    /// Its owner and mode, if a line gave them.
+    /// The owner and mode, if a line gave them.
     pub access: Option<Access<'a>>,
-    /// The SHA-1 of its bytes, if a line gave it.
+    /// The SHA-1 of the bytes of the file, if a line gave it.
     pub hash: Option<Vec<u8>>,
 }
 
@@ -47,8 +51,10 @@ impl<'a> Model for File<'a> {
     ghost use Rattle.v2_core.specs.Records.{ListedFile as ListedFileModel, listed_file_from_parts};
     ghost use Rattle.v2_core.specs.Views.{access_view_if_any, hash_view};
 
+    // What contracts see of a file.
     ghost Value = { ListedFileModel };
 
+    // Contracts see the name, the owner and mode, and the hash.
     ghost view = { λ file. listed_file_from_parts file.name.now (access_view_if_any file.access)
         (hash_view file.hash) };
 }
@@ -56,6 +62,7 @@ impl<'a> Model for File<'a> {
 impl<'a> File<'a> {
     /// Sets the file's owner and mode. False: they were given before.
     fn add_access(&mut self, access: Access<'a>) -> bool
+        // On true, the definition gives the changed value; on false, it gives None.
         ensures { (if result then Some self.new else None)
             ≡ file_with_access (access_view access.entry) self.old }
     {
@@ -68,6 +75,7 @@ impl<'a> File<'a> {
 
     /// Sets the hash of the file. False: it was given before.
     fn add_hash(&mut self, hash: Vec<u8>) -> bool
+        // On true, the definition gives the changed value; on false, it gives None.
         ensures { (if result then Some self.new else None)
             ≡ file_with_hash hash.items self.old }
     {
@@ -82,11 +90,11 @@ impl<'a> File<'a> {
 /// A folder that a record lists, with its files.
 #[derive(Drop)]
 pub(crate) struct Folder<'a> {
-    /// Its path; empty for the root.
+    /// The path of the folder; empty for the root.
     pub name: &'a [u8],
-    /// Its owner and mode, if a line gave them.
+    /// The owner and mode, if a line gave them.
     pub access: Option<Access<'a>>,
-    /// In the order of their lines.
+    /// The files of the folder, in the order of their lines.
     pub files: Vec<File<'a>>,
 }
 
@@ -94,8 +102,10 @@ impl<'a> Model for Folder<'a> {
     ghost use Rattle.v2_core.specs.Records.{ListedFolder as ListedFolderModel, listed_folder_from_parts};
     ghost use Rattle.v2_core.specs.Views.{access_view_if_any};
 
+    // What contracts see of a folder.
     ghost Value = { ListedFolderModel };
 
+    // Contracts see the path, the owner and mode, and the files.
     ghost view = { λ folder. listed_folder_from_parts folder.name.now
         (access_view_if_any folder.access)
         folder.files.items };
@@ -104,6 +114,7 @@ impl<'a> Model for Folder<'a> {
 impl<'a> Folder<'a> {
     /// Sets the folder's owner and mode. False: they were given before.
     fn add_access(&mut self, access: Access<'a>) -> bool
+        // On true, the definition gives the changed value; on false, it gives None.
         ensures { (if result then Some self.new else None)
             ≡ folder_with_access (access_view access.entry) self.old }
     {
@@ -114,7 +125,7 @@ impl<'a> Folder<'a> {
         true
     }
 
-    /// Begins a file, after those of the folder.
+    /// Adds a file of this name, of which nothing else is known yet, after those of the folder.
     fn add_file(&mut self, name: &'a [u8]) -> Result<(), AllocError>
         ensures { OnOk result (Some self.new ≡ folder_with_file name.entry.now self.old) }
     {
@@ -126,16 +137,18 @@ impl<'a> Folder<'a> {
         Ok(())
     }
 
-    /// Sets the last file's owner and mode. False: there is none, or they were given before.
+    /// Sets the last file's owner and mode. False: there is no file, or they were given before.
     fn add_file_access(&mut self, access: Access<'a>) -> bool
+        // On true, the definition gives the changed value; on false, it gives None.
         ensures { (if result then Some self.new else None)
             ≡ folder_with_last_file_changed (file_with_access (access_view access.entry)) self.old }
     {
         add_access_to_last(&mut self.files, access)
     }
 
-    /// Sets the hash of the last file. False: there is none, or it was given before.
+    /// Sets the hash of the last file. False: there is no file, or its hash was given before.
     fn add_file_hash(&mut self, hash: Vec<u8>) -> bool
+        // On true, the definition gives the changed value; on false, it gives None.
         ensures { (if result then Some self.new else None)
             ≡ folder_with_last_file_changed (file_with_hash hash.items) self.old }
     {
@@ -143,8 +156,9 @@ impl<'a> Folder<'a> {
     }
 }
 
-// Sets the owner and mode of the last file. False: there is none, or they were given before.
+// Sets the owner and mode of the last file. False: there is no file, or they were given before.
 fn add_access_to_last<'a>(files: &mut Vec<File<'a>>, access: Access<'a>) -> bool
+    // On true, the definition gives the changed files; on false, it gives None.
     ensures { (if result then Some files.new.items else None)
         ≡ list_with_last_changed (file_with_access (access_view access.entry)) files.old.items }
 {
@@ -154,8 +168,9 @@ fn add_access_to_last<'a>(files: &mut Vec<File<'a>>, access: Access<'a>) -> bool
     }
 }
 
-// Sets the hash of the last file. False: there is none, or it was given before.
+// Sets the hash of the last file. False: there is no file, or its hash was given before.
 fn add_hash_to_last(files: &mut Vec<File<'_>>, hash: Vec<u8>) -> bool
+    // On true, the definition gives the changed files; on false, it gives None.
     ensures { (if result then Some files.new.items else None)
         ≡ list_with_last_changed (file_with_hash hash.items) files.old.items }
 {
@@ -168,8 +183,9 @@ fn add_hash_to_last(files: &mut Vec<File<'_>>, hash: Vec<u8>) -> bool
 /// The lines of a text database that describe one package.
 #[derive(Drop)]
 pub(crate) struct Record<'a> {
+    // The allocator of the lists of the record.
     alloc: Global,
-    // Whether a line was read; a record without one is none.
+    // Whether a line was read; a record without a line is no record.
     has_line: bool,
     /// The lines on the package, in their order.
     pub info: Vec<InfoLine<'a>>,
@@ -180,8 +196,10 @@ pub(crate) struct Record<'a> {
 impl<'a> Model for Record<'a> {
     ghost use Rattle.v2_core.specs.Records.{Record as RecordModel, record_from_parts};
 
+    // What contracts see of a record.
     ghost Value = { RecordModel };
 
+    // Contracts see whether there is a line, the lines on the package, and the folders.
     ghost view = { λ r. record_from_parts r.has_line r.info.items r.folders.items };
 }
 
@@ -221,8 +239,9 @@ impl<'a> Record<'a> {
         !has_line_of(&self.info, InfoField::Name) || !has_line_of(&self.info, InfoField::Version)
     }
 
-    /// Adds a line of a text. False: the line is bad.
+    /// Reads a line of a text, and adds it. False: the line is bad.
     pub(crate) fn add_text(&mut self, text: &'a [u8]) -> Result<bool, AllocError>
+        // On Ok true, the definition gives the changed value; on Ok false, it gives None.
         ensures { IfOk result (λ good. (if good then Some self.new else None)
             ≡ record_with_text_line self.old text.entry.now) }
     {
@@ -232,8 +251,9 @@ impl<'a> Record<'a> {
         }
     }
 
-    /// Adds a line. False: the line is not allowed after those before it.
+    /// Adds a line that was read. False: the line is not allowed after those before it.
     fn add(&mut self, line: Line<'a>) -> Result<bool, AllocError>
+        // On Ok true, the definition gives the changed value; on Ok false, it gives None.
         ensures { IfOk result (λ good. (if good then Some self.new else None)
             ≡ with_record_line self.old (line_view line.entry)) }
     {
@@ -245,12 +265,13 @@ impl<'a> Record<'a> {
             Line::File(name) => add_file(&mut self.folders, name),
             Line::FileAccess(access) => Ok(add_file_access(&mut self.folders, access)),
             Line::FileHash(hash) => Ok(add_file_hash(&mut self.folders, hash)),
+            // A line with an unlisted letter is skipped.
             Line::Other => Ok(true),
         }
     }
 }
 
-/// Whether a line of this field was accepted before.
+/// Whether one of these lines is of this field.
 fn has_line_of(info: &[InfoLine<'_>], field: InfoField) -> bool
     ensures { result ≡ has_line_of field info.now }
 {
@@ -263,6 +284,7 @@ fn add_info<'a>(
     field: InfoField,
     value: Value<'a>,
 ) -> Result<bool, AllocError>
+    // On Ok true, the definition gives the changed value; on Ok false, it gives None.
     ensures { IfOk result (λ good. (if good then Some info.new.items else None)
         ≡ with_info_values field (line_value_view value.entry) info.old.items) }
 {
@@ -273,12 +295,14 @@ fn add_info<'a>(
     Ok(true)
 }
 
-/// Begins a folder, after those of the record. True always.
+/// Adds a folder of this path, of which nothing else is known yet, after those of the record. The
+/// result is always true.
 fn add_folder<'a>(
     alloc: Global,
     folders: &mut Vec<Folder<'a>>,
     name: &'a [u8],
 ) -> Result<bool, AllocError>
+    // On Ok true, the definition gives the changed value; on Ok false, it gives None.
     ensures { IfOk result (λ good. (if good then Some folders.new.items else None)
         ≡ Some (folders.old.items ++ listed_folder_from_parts name.entry.now None [] ∷ [])) }
 {
@@ -290,8 +314,9 @@ fn add_folder<'a>(
     Ok(true)
 }
 
-/// Sets the last folder's owner and mode. False: there is none, or they were given before.
+/// Sets the last folder's owner and mode. False: there is no folder, or they were given before.
 fn add_access<'a>(folders: &mut Vec<Folder<'a>>, access: Access<'a>) -> bool
+    // On true, the definition gives the changed folders; on false, it gives None.
     ensures { (if result then Some folders.new.items else None)
         ≡ list_with_last_changed (folder_with_access (access_view access.entry)) folders.old.items }
 {
@@ -301,8 +326,9 @@ fn add_access<'a>(folders: &mut Vec<Folder<'a>>, access: Access<'a>) -> bool
     }
 }
 
-/// Begins a file of the last folder. False: there is none.
+/// Adds a file of this name to the last folder. False: there is no folder.
 fn add_file<'a>(folders: &mut Vec<Folder<'a>>, name: &'a [u8]) -> Result<bool, AllocError>
+    // On Ok true, the definition gives the changed value; on Ok false, it gives None.
     ensures { IfOk result (λ good. (if good then Some folders.new.items else None)
         ≡ list_with_last_changed (folder_with_file name.entry.now) folders.old.items) }
 {
@@ -313,9 +339,10 @@ fn add_file<'a>(folders: &mut Vec<Folder<'a>>, name: &'a [u8]) -> Result<bool, A
     Ok(true)
 }
 
-/// Sets the owner and mode of the last folder's last file. False: there is none, or they were given
-/// before.
+/// Sets the owner and mode of the last folder's last file. False: there is no such file, or they
+/// were given before.
 fn add_file_access<'a>(folders: &mut Vec<Folder<'a>>, access: Access<'a>) -> bool
+    // On true, the definition gives the changed folders; on false, it gives None.
     ensures { (if result then Some folders.new.items else None)
         ≡ list_with_last_changed (folder_with_last_file_changed (file_with_access
         (access_view access.entry)))
@@ -327,8 +354,10 @@ fn add_file_access<'a>(folders: &mut Vec<Folder<'a>>, access: Access<'a>) -> boo
     }
 }
 
-/// Sets the hash of the last folder's last file. False: there is none, or it was given before.
+/// Sets the hash of the last folder's last file. False: there is no such file, or its hash was
+/// given before.
 fn add_file_hash<'a>(folders: &mut Vec<Folder<'a>>, hash: Vec<u8>) -> bool
+    // On true, the definition gives the changed folders; on false, it gives None.
     ensures { (if result then Some folders.new.items else None)
         ≡ list_with_last_changed (folder_with_last_file_changed
         (file_with_hash hash.items)) folders.old.items }

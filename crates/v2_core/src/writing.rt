@@ -1,4 +1,5 @@
-//! Writes the package of a record, as an installed database has it (apk-v3(5)).
+//! Writes the package of a record into a draft (a payload that is being written), as an installed
+//! database has it (apk-v3(5)). `read.rt` calls `write_package` at the end of each record.
 //! The rules are in `docs/formats.md`, "Text database of version 2", the column "Goes to"; the
 //! order of fields in "Schemas", tables 2 to 5 and 7.
 ghost use Rattle.v2_lines.specs.adb_values.Drafts.{draft_with, draft_with_all};
@@ -21,12 +22,12 @@ use dep_core::Dep;
 use std::alloc::AllocError;
 use v2_lines::{Access, Draft, InfoField, Value, write_need};
 
-/// The source of a field of the package's information.
+/// Which lines of a record give a field of the package's information.
 #[derive(Clone, Copy)]
 enum Column {
-    /// A field of which a record has one line at most.
+    /// The line of this field, of which a record has at most one.
     Once(InfoField),
-    /// All lines of a field.
+    /// All lines of this field, whose values are the entries of an array.
     List(InfoField),
     /// Nothing: no line gives the field.
     Null,
@@ -41,14 +42,17 @@ const COLUMNS: [Column; 18] = [
     Column::Once(InfoField::Description),
     Column::Once(InfoField::Arch),
     Column::Once(InfoField::License),
+    // The 7th field of table 3, and so on.
     Column::Once(InfoField::Origin),
     Column::Once(InfoField::Maintainer),
     Column::Once(InfoField::Url),
     Column::Once(InfoField::RepoCommit),
     Column::Once(InfoField::BuildTime),
     Column::Once(InfoField::InstalledSize),
+    // The 13th field, the size of the package's file.
     Column::Null,
     Column::Once(InfoField::ProviderPriority),
+    // Four lists of dependencies, the 15th to the 18th field.
     Column::List(InfoField::Depends),
     Column::List(InfoField::Provides),
     Column::List(InfoField::Replaces),
@@ -63,6 +67,7 @@ pub(crate) fn write_package(draft: &mut Draft, text_record: &Record<'_>) -> Resu
     draft.open_list()?;
     write_info(draft, &text_record.info)?;
     write_folders(draft, &text_record.folders)?;
+    // The text has no scripts and no triggers.
     draft.null()?;
     draft.null()?;
     write_once(draft, &text_record.info, InfoField::ReplacesPriority)?;
@@ -71,7 +76,7 @@ pub(crate) fn write_package(draft: &mut Draft, text_record: &Record<'_>) -> Resu
 
 // ---- the package's information
 
-// Writes the information, by the table of its columns.
+// Writes the information of the package: the fields that `COLUMNS` lists, in their order.
 #[tactic(auto, unfolding(crate::specs::Database::record_info_value))]
 fn write_info(draft: &mut Draft, info: &[InfoLine<'_>]) -> Result<(), AllocError>
     ensures { OnOk result (draft.new ≡ draft_with (record_info_value info.now) draft.old) }
@@ -81,12 +86,14 @@ fn write_info(draft: &mut Draft, info: &[InfoLine<'_>]) -> Result<(), AllocError
     draft.close_object()
 }
 
-// Writes columns one after the other.
+// Writes the fields that these columns describe, one after the other, by the lines `info` of a
+// record.
 fn write_columns(
     draft: &mut Draft,
     info: &[InfoLine<'_>],
     columns: &[Column],
 ) -> Result<(), AllocError>
+    // On Ok, the values of these columns are added to the draft, in their order.
     ensures { OnOk result (draft.new
         ≡ draft_with_all (plains_of_list (map (value_of_column info.now) columns.now))
         draft.old) }
@@ -97,7 +104,7 @@ fn write_columns(
     Ok(())
 }
 
-// Writes one field of the information.
+// Writes one field of the information, by the lines `info` of a record.
 fn write_column(draft: &mut Draft, info: &[InfoLine<'_>], column: Column) -> Result<(), AllocError>
     ensures { OnOk result (draft.new ≡ draft_with (value_of_column info.now column) draft.old) }
 {
@@ -108,8 +115,9 @@ fn write_column(draft: &mut Draft, info: &[InfoLine<'_>], column: Column) -> Res
     }
 }
 
-// Writes the line of a field, or NULL if there is none.
+// Writes the value of the line of a field, or NULL if there is no such line.
 fn write_once(draft: &mut Draft, info: &[InfoLine<'_>], field: InfoField) -> Result<(), AllocError>
+    // On Ok, the value of the field is added to the draft.
     ensures { OnOk result (draft.new
         ≡ draft_with (value_of_single_line_field field info.now) draft.old) }
 {
@@ -119,15 +127,16 @@ fn write_once(draft: &mut Draft, info: &[InfoLine<'_>], field: InfoField) -> Res
     }
 }
 
-// The line of a field of which a record has one at most.
+// The line of a field of which a record has at most one line, if there is such a line.
 fn find_line<'a, 'b>(info: &'a [InfoLine<'b>], field: InfoField) -> Option<&'a InfoLine<'b>>
     ensures { option_map (λ line. line.now) result ≡ find (is_line_of field) info.entry.now }
 {
     info.iter().find(|line| line.field == field)
 }
 
-// Writes the value that a field has once.
+// Writes the value of a line as a single value: the first one that the line gives, or NULL.
 fn write_first(draft: &mut Draft, value: &Value<'_>) -> Result<(), AllocError>
+    // On Ok, the first value of the line, or Null, is added to the draft.
     ensures { OnOk result
         (draft.new ≡ draft_with (value_of_first_or_null (line_value_view value.now)) draft.old) }
 {
@@ -145,6 +154,7 @@ fn write_first(draft: &mut Draft, value: &Value<'_>) -> Result<(), AllocError>
 
 // Writes the values of all lines of a field, as an array.
 fn write_list(draft: &mut Draft, info: &[InfoLine<'_>], field: InfoField) -> Result<(), AllocError>
+    // On Ok, the array of all values of the field is added to the draft.
     ensures { OnOk result (draft.new
         ≡ draft_with (array_of_field_values field info.now) draft.old) }
 {
@@ -157,8 +167,9 @@ fn write_list(draft: &mut Draft, info: &[InfoLine<'_>], field: InfoField) -> Res
     draft.close_array()
 }
 
-// Writes the values of a line.
+// Writes all values of a line, one after the other.
 fn write_values(draft: &mut Draft, value: &Value<'_>) -> Result<(), AllocError>
+    // On Ok, all values of the line are added to the draft, in their order.
     ensures { OnOk result (draft.new
         ≡ draft_with_all (plains_of_list (map plain_value (line_value_view value.now)))
         draft.old) }
@@ -172,6 +183,7 @@ fn write_values(draft: &mut Draft, value: &Value<'_>) -> Result<(), AllocError>
 
 // Writes dependencies, one after the other.
 fn write_needs(draft: &mut Draft, needs: &[Dep<'_>]) -> Result<(), AllocError>
+    // On Ok, all these dependencies are added to the draft, in their order.
     ensures { OnOk result (draft.new
         ≡ draft_with_all (plains_of_list (map (λ d. plain_value (need (dependency d))) needs.now))
         draft.old) }
@@ -186,6 +198,7 @@ fn write_needs(draft: &mut Draft, needs: &[Dep<'_>]) -> Result<(), AllocError>
 
 // Writes the folders of the package.
 fn write_folders(draft: &mut Draft, folders: &[Folder<'_>]) -> Result<(), AllocError>
+    // On Ok, the array of the folders is added to the draft.
     ensures { OnOk result
         (draft.new ≡ draft_with (array_of (map listed_folder_value folders.now)) draft.old) }
 {
@@ -209,6 +222,7 @@ fn write_folder(draft: &mut Draft, folder: &Folder<'_>) -> Result<(), AllocError
 
 // Writes the files of a folder.
 fn write_files(draft: &mut Draft, files: &[File<'_>]) -> Result<(), AllocError>
+    // On Ok, the array of the files is added to the draft.
     ensures { OnOk result
         (draft.new ≡ draft_with (array_of (map listed_file_value files.now)) draft.old) }
 {
@@ -227,14 +241,16 @@ fn write_file(draft: &mut Draft, file: &File<'_>) -> Result<(), AllocError>
     draft.open_list()?;
     draft.blob(file.name)?;
     write_access(draft, &file.access)?;
+    // The size and the mtime.
     draft.null()?;
     draft.null()?;
     write_hash(draft, &file.hash)?;
     draft.close_object()
 }
 
-// Writes an access, or NULL if no line gives it.
+// Writes an owner and mode, or NULL if no line gives them.
 fn write_access(draft: &mut Draft, access: &Option<Access<'_>>) -> Result<(), AllocError>
+    // On Ok, the object of the owner and mode, or Null, is added to the draft.
     ensures { OnOk result
         (draft.new ≡ draft_with (listed_access_value (access_view_if_any access.now)) draft.old) }
 {
@@ -244,8 +260,9 @@ fn write_access(draft: &mut Draft, access: &Option<Access<'_>>) -> Result<(), Al
     write_known_access(draft, access)
 }
 
-// Writes an access that a line gives, in the order of table 2: mode, user and group.
+// Writes an owner and mode that a line gives, in the order of table 2: mode, user and group.
 fn write_known_access(draft: &mut Draft, access: &Access<'_>) -> Result<(), AllocError>
+    // On Ok, the object of the owner and mode is added to the draft.
     ensures { OnOk result (draft.new
         ≡ draft_with (listed_access_value (Some (access_view access.now))) draft.old) }
 {
@@ -258,6 +275,7 @@ fn write_known_access(draft: &mut Draft, access: &Access<'_>) -> Result<(), Allo
 
 // Writes a hash, or NULL if no line gives it.
 fn write_hash(draft: &mut Draft, hash: &Option<Vec<u8>>) -> Result<(), AllocError>
+    // On Ok, the blob of the hash, or Null, is added to the draft.
     ensures { OnOk result
         (draft.new ≡ draft_with (listed_hash_value (hash_view hash.now)) draft.old) }
 {

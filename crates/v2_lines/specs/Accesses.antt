@@ -52,8 +52,8 @@ octal_number digits =
     if is_octal digits && nat_lt (digits_value 8 digits) (2 ^ 64) then Some (digits_value 8 digits)
     else None
 
--- the access of a text `uid:gid:mode`; None if the text is no access. Parts after the third are
--- skipped
+-- the owner and mode in a text `uid:gid:mode`; None if the user or the group is no decimal number,
+-- or the mode is no octal number below 2^64. Parts after the third are skipped
 abbrev pub access_in : List ℕ → Option Access
 access_in text =
     let user = before_colon text in

@@ -33,13 +33,14 @@ single_text_value bytes = text bytes ∷ []
 abbrev pub single_number_value : ℕ → List FieldValue
 single_number_value n = number n ∷ []
 
--- the values of a commit: its bytes, if the text has pairs of hexadecimal digits only; another text is
--- dropped, and has no value
+-- the values of a commit, by the result of decoding its text: the bytes, if the text consists of pairs of
+-- hexadecimal digits. Another text is dropped, and has no value
 abbrev pub commit_values : Result (List ℕ) FromHexError → List FieldValue
 commit_values (Ok bytes) = single_text_value bytes
 commit_values (Err e) = []
 
--- the values that a text has under a grammar; None if the text is not in the grammar
+-- the values that a text after the colon of a line gives, by the grammar of the line's field; None if the text is
+-- not in the grammar
 abbrev pub values_under_grammar : Grammar → List ℕ → Option (List FieldValue)
 values_under_grammar Grammars.Sha1Text value = option_map single_text_value (sha1_in_text value)
 values_under_grammar Grammars.PackageName value = text_value_if (is_package_name value) value

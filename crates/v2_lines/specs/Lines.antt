@@ -10,8 +10,9 @@ use Rattle.v2_lines.specs.InfoValues.{sha1_in_text, values_under_grammar}
 use Rattle.v2_lines.specs.declared.field.InfoField.{InfoField}
 use Rattle.v2_lines.specs.declared.line.TheConstants.{MARK, FOLDER, FOLDER_ACCESS, FILE, FILE_ACCESS, FILE_HASH}
 
--- The meaning of a line: a field of the package, with several values for a list; a folder begins; the
--- last folder's owner; a file begins; the last file's owner; its SHA-1; or nothing that is kept.
+-- the meaning of a line: `info_line` is a field of the package and its values; `folder_line` begins a folder with
+-- this path, and `file_line` a file of this name. The access lines have the owner and mode of the last folder or
+-- file, and `file_hash_line` the SHA-1 of the last file. `other_line` is skipped
 pub data RecordLine : Type 0 where
   info_line : InfoField → List FieldValue → RecordLine
   folder_line : List ℕ → RecordLine
@@ -29,7 +30,8 @@ folder_line_if_path name = if is_folder_name name then Some (folder_line name) e
 abbrev pub file_line_if_one_part : List ℕ → Option RecordLine
 file_line_if_one_part name = if is_one_part name then Some (file_line name) else None
 
--- the meaning of a line on the package itself; one with an unlisted letter has none that is kept
+-- the meaning of a line on the package itself, by its field and the text after its colon. A line with an unlisted
+-- letter has no field, and is skipped
 abbrev pub info_record_line : Option InfoField → List ℕ → Option RecordLine
 info_record_line None value = Some other_line
 info_record_line (Some f) value = option_map (info_line f) (values_under_grammar (grammar_of f) value)
@@ -45,7 +47,7 @@ record_line_of_letter letter value =
     if letter == FILE_HASH then option_map file_hash_line (sha1_in_text value) else
     info_record_line (field_of_letter letter) value
 
--- the meaning of a line, which is a letter, a colon and a value; None if it is bad
+-- the meaning of a line, which is a letter, a colon (`MARK`) and a value; None if the line is bad
 abbrev pub record_line_of : List ℕ → Option RecordLine
 record_line_of [] = None
 record_line_of (letter ∷ []) = None

@@ -1,4 +1,5 @@
-//! The access rights of a file or a folder: `uid:gid:mode`.
+//! The access of a file or a folder, its owner and mode: `uid:gid:mode`. `line.rt` calls
+//! `read_access`.
 //! The rules are in `docs/formats.md`, "Text database of version 2", the rows M and a and the
 //! paragraph after the table.
 ghost use Rattle.std.specs.List.{list_all};
@@ -9,7 +10,7 @@ ghost use Rattle.v2_lines.specs.Accesses.{access_in, access_view, before_colon, 
 
 use std::str;
 
-/// The byte between the parts of an access.
+/// The byte between the parts of `uid:gid:mode`.
 const COLON: u8 = b':';
 
 /// The owner of a file or a folder, and its mode.
@@ -23,8 +24,9 @@ pub struct Access<'a> {
     pub mode: u64,
 }
 
-/// Reads `uid:gid:mode`. Parts after the third are skipped. None is returned exactly if the text is
-/// no access.
+/// Reads the owner and mode of a file or a folder, `uid:gid:mode`. Parts after the third are
+/// skipped. None is returned exactly if the user or the group is no decimal number, or the mode is
+/// no octal number below 2^64.
 pub(crate) fn read_access(text: &[u8]) -> Option<Access<'_>>
     ensures { option_map access_view result ≡ access_in text.now }
 {
@@ -40,7 +42,9 @@ pub(crate) fn read_access(text: &[u8]) -> Option<Access<'_>>
 
 // The index of the first colon, counted from 0.
 fn colon_in(text: &[u8]) -> Option<usize>
+    // The result is the index of the first colon, or None if there is no colon.
     ensures at { result ≡ position (λ b. b == COLON) text.now }
+    // An index that is returned is within the text.
     ensures within { IfSome result (λ at. at < length text.now) }
 {
     text.iter().position(|byte| *byte == COLON)

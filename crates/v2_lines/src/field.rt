@@ -1,4 +1,5 @@
-//! The fields of a package that lines of a text database give, by the letters of the lines.
+//! The fields of a package that lines of a text database give, by the letters of the lines, and the
+//! grammar of the values of each field. `line.rt` and `value.rt` use them.
 //! The rules are in `docs/formats.md`, "Text database of version 2", the table, from C to the row
 //! D, p, r, i.
 ghost use Rattle.std.specs.Prelude.{◌≡◌, ◌==◌};
@@ -58,7 +59,7 @@ pub enum Grammar {
     AnyText,
     /// A decimal number below 2^64 without leading zeros.
     Number,
-    /// Any text, but only pairs of hexadecimal digits have a meaning.
+    /// Any text, but a text that is not pairs of hexadecimal digits is dropped.
     Commit,
     /// Dependencies without tag, with spaces between them.
     Dependencies,
@@ -75,6 +76,7 @@ static FIELDS: [InfoField; 18] = [
     InfoField::License,
     InfoField::Origin,
     InfoField::Maintainer,
+    // The fields of lines I, t, k, q, c, and D, p, r, i.
     InfoField::InstalledSize,
     InfoField::BuildTime,
     InfoField::ProviderPriority,
@@ -109,6 +111,7 @@ impl InfoField {
             InfoField::License => b'L',
             InfoField::Origin => b'o',
             InfoField::Maintainer => b'm',
+            // Each line of the field begins with this letter.
             InfoField::InstalledSize => b'I',
             InfoField::BuildTime => b't',
             InfoField::ProviderPriority => b'k',

@@ -1,5 +1,5 @@
 //! The lines of a text database, in the format of version 2 of apk-tools (`lib/apk/db/installed`):
-//! it takes a line, and returns its meaning for a package, a folder or a file.
+//! `read_line` takes a line, and returns its meaning for a package, a folder or a file.
 //!
 //! The contracts cite `InfoFields` (the letters, and the grammar of each one's values),
 //! `InfoValues`, `Accesses` and `Lines` of `specs/`.

@@ -21,39 +21,39 @@ const MARK: u8 = b':';
 /// The letter of a line that starts a folder.
 const FOLDER: u8 = b'F';
 
-/// The letter of a line with the folder's owner and mode.
+/// The letter of a line with the owner and mode of the last folder.
 const FOLDER_ACCESS: u8 = b'M';
 
 /// The letter of a line that starts a file.
 const FILE: u8 = b'R';
 
-/// The letter of a line with the file's owner and mode.
+/// The letter of a line with the owner and mode of the last file.
 const FILE_ACCESS: u8 = b'a';
 
-/// The letter of a line with the file's hash.
+/// The letter of a line with the hash of the last file.
 const FILE_HASH: u8 = b'Z';
 
 /// The meaning of a record's line (the installed database of apk-tools 2).
 #[derive(Drop)]
 pub enum Line<'a> {
-    /// A field of the package.
+    /// A field of the package, and its value.
     Info(InfoField, Value<'a>),
-    /// A folder of this name begins; the root's name is empty.
+    /// A folder with this path begins; the path of the root is empty.
     Folder(&'a [u8]),
-    /// The folder's owner and mode.
+    /// The owner and mode of the last folder.
     FolderAccess(Access<'a>),
-    /// A file of this name begins in the folder.
+    /// A file of this name begins, in the last folder.
     File(&'a [u8]),
-    /// The file's owner and mode.
+    /// The owner and mode of the last file.
     FileAccess(Access<'a>),
-    /// The SHA-1 of the file's bytes.
+    /// The SHA-1 of the bytes of the last file.
     FileHash(Vec<u8>),
     /// A line that has no meaning here, and is skipped.
     Other,
 }
 
-/// Reads a line without its line end. None: it has no `:` after its letter, or its value is not in
-/// the letter's grammar.
+/// Reads a line without its line end. None: the line has no `:` after its first byte (the letter),
+/// or its value is not in the letter's grammar.
 pub fn read_line<'a>(alloc: Global, line: &'a [u8]) -> Result<Option<Line<'a>>, AllocError>
     ensures { IfOk result (λ found. option_map line_view found ≡ record_line_of line.entry.now) }
 {
@@ -63,13 +63,14 @@ pub fn read_line<'a>(alloc: Global, line: &'a [u8]) -> Result<Option<Line<'a>>, 
     }
 }
 
-// Reads the value of a line by its letter. A line with an unknown letter has no meaning.
+// Reads the value of a line by its letter. A line with an unlisted letter is read as `Other`.
 #[tactic(auto, unfolding(crate::specs::Lines::record_line_of_letter))]
 fn read_by_letter<'a>(
     alloc: Global,
     letter: u8,
     value: &'a [u8],
 ) -> Result<Option<Line<'a>>, AllocError>
+    // On Ok, the result is the meaning of the line; None if the value is not in the grammar.
     ensures { IfOk result (λ found. option_map line_view found
         ≡ record_line_of_letter letter value.entry.now) }
 {
@@ -105,6 +106,7 @@ fn file_line(name: &[u8]) -> Option<Line<'_>>
 
 // Reads the line of a file's hash. None: the value is no SHA-1.
 fn read_file_hash<'a>(alloc: Global, value: &[u8]) -> Result<Option<Line<'a>>, AllocError>
+    // On Ok, the result is the line of this hash; None if the value is no SHA-1.
     ensures { IfOk result (λ found. option_map line_view found
         ≡ option_map file_hash_line (sha1_in_text value.now)) }
 {
@@ -114,8 +116,9 @@ fn read_file_hash<'a>(alloc: Global, value: &[u8]) -> Result<Option<Line<'a>>, A
     }
 }
 
-// Reads a line on the package itself; one with an unlisted letter has no meaning that is kept.
+// Reads a line on the package itself. A line with an unlisted letter is read as `Other`.
 fn read_info<'a>(alloc: Global, letter: u8, value: &'a [u8]) -> Result<Option<Line<'a>>, AllocError>
+    // On Ok, the result is the meaning of the line; None if the value is not in the grammar.
     ensures { IfOk result (λ found. option_map line_view found
         ≡ info_record_line (field_of_letter letter) value.entry.now) }
 {

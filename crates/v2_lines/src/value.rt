@@ -35,16 +35,18 @@ pub enum Value<'a> {
     Number(u64),
     /// Dependencies, in their order.
     Needs(Vec<Dep<'a>>),
-    /// Nothing: the text is dropped.
+    /// Nothing: the text of a commit that is not hexadecimal is dropped.
     Nothing,
 }
 
-/// Reads the value of a field. None: it is not in the field's grammar.
+/// Reads the text after the colon of a line as the value of a field. None: the text is not in the
+/// field's grammar.
 pub(crate) fn read_value<'a>(
     alloc: Global,
     field: InfoField,
     text: &'a [u8],
 ) -> Result<Option<Value<'a>>, AllocError>
+    // On Ok, the result has the values that the text gives; None if it is not in the grammar.
     ensures { IfOk result (λ found. option_map line_value_view found
         ≡ values_under_grammar (grammar_of field) text.entry.now) }
 {
@@ -60,7 +62,7 @@ pub(crate) fn read_value<'a>(
     }
 }
 
-// A text as a value, if its rule allows it.
+// A text as a value; `is_good` says whether the grammar of its field allows the text.
 fn text_value_if(text: &[u8], is_good: bool) -> Option<Value<'_>>
     ensures { option_map line_value_view result ≡ text_value_if is_good text.now }
 {
@@ -72,6 +74,7 @@ fn text_value_if(text: &[u8], is_good: bool) -> Option<Value<'_>>
 
 // A number as a value. None: the text is no number below 2^64, or has a leading zero.
 fn number_value<'a>(digits: &[u8]) -> Option<Value<'a>>
+    // The result is the number in these digits, or None.
     ensures { option_map line_value_view result
         ≡ option_map single_number_value (decimal_number digits.now) }
 {
@@ -81,6 +84,7 @@ fn number_value<'a>(digits: &[u8]) -> Option<Value<'a>>
 
 // A hash as a value: `Q1` and its base64. None: the text is no such hash.
 fn read_bytes<'a>(alloc: Global, text: &[u8]) -> Result<Option<Value<'a>>, AllocError>
+    // On Ok, the result has the SHA-1 in the text, or is None.
     ensures { IfOk result (λ found. option_map line_value_view found
         ≡ option_map single_text_value (sha1_in_text text.now)) }
 {
@@ -102,6 +106,7 @@ pub(crate) fn read_sha1(alloc: Global, text: &[u8]) -> Result<Option<Vec<u8>>, A
 
 // The bytes of a base64 text, if there are as many as a SHA-1 has.
 fn read_twenty_bytes(alloc: Global, encoded: &[u8]) -> Result<Option<Vec<u8>>, AllocError>
+    // On Ok, the result is the decoded bytes if they are twenty, or None.
     ensures { IfOk result (λ found. option_map bytes_view found
         ≡ bytes_if_twenty (base64_bytes standard encoded.now)) }
 {
@@ -115,6 +120,7 @@ fn read_twenty_bytes(alloc: Global, encoded: &[u8]) -> Result<Option<Vec<u8>>, A
 
 // A commit as a value: the bytes of pairs of hexadecimal digits; another text is dropped.
 fn read_commit<'a>(alloc: Global, text: &[u8]) -> Result<Option<Value<'a>>, AllocError>
+    // On Ok, the result has the bytes of the commit, or no value; no text is refused.
     ensures { IfOk result (λ found. option_map line_value_view found
         ≡ Some (commit_values (decode_of text.now))) }
 {
@@ -125,9 +131,10 @@ fn read_commit<'a>(alloc: Global, text: &[u8]) -> Result<Option<Value<'a>>, Allo
     }
 }
 
-// Dependencies as a value, with spaces between them. None: one of them is no dependency without
-// tag.
+// The dependencies in a text, with spaces between them, as a value. None: one part of the text is
+// no dependency, or has a tag.
 fn read_needs<'a>(alloc: Global, text: &'a [u8]) -> Result<Option<Value<'a>>, AllocError>
+    // On Ok, the result has the dependencies of all parts that are not empty, or is None.
     ensures { IfOk result (λ found. option_map line_value_view found
         ≡ dependency_values_in (nonempty_parts text.entry.now)) }
 {
@@ -140,8 +147,10 @@ fn read_needs<'a>(alloc: Global, text: &'a [u8]) -> Result<Option<Value<'a>>, Al
     Ok(Some(Value::Needs(needs)))
 }
 
-// Adds a dependency, or nothing for an empty part. False: it is no dependency without tag.
+// Adds the dependency in a part of a text, or nothing for an empty part. False: the part is no
+// dependency, or has a tag.
 fn add_need<'a>(needs: &mut Vec<Dep<'a>>, part: &'a [u8]) -> Result<bool, AllocError>
+    // On Ok true, the definition gives the longer list; on Ok false, it gives None.
     ensures { IfOk result (λ good. (if good then Some (needs_view needs.new) else None)
         ≡ with_needs (needs_view needs.old) (dependency_values_in (nonempty_part part.entry.now))) }
 {

@@ -17,7 +17,8 @@ use texts::{add_package_count, add_read};
 enum Question {
     /// `read TEXT`: the dump of the database that is made of a text database.
     Read,
-    /// `read_repeated FRONT N PART BACK`: the same for the text FRONT, N times PART, and BACK.
+    /// `read_repeated FRONT N PART BACK`: what `read` answers for the text that consists of FRONT,
+    /// N times PART, and BACK.
     ReadRepeated,
     /// `count_packages N`: how many packages are read of a text database with N records.
     CountPackages,

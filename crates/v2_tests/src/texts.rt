@@ -34,8 +34,9 @@ fn add_dump(alloc: Global, payload: &[u8], answer: &mut Vec<u8>) -> Result<(), A
     answer.extend_from_slice(text.as_bytes())
 }
 
-/// Adds to the answer why a text is refused: the number of the first bad line, or the name of
-/// another cause and its fields. If out of memory, nothing is added, and this is returned.
+/// Adds to the answer why a text is refused: the number of the first bad line, the name of another
+/// cause and its fields, or the counts of a database that is too large. Out of memory is returned
+/// as an error.
 fn add_fault(alloc: Global, fault: V2Fault, answer: &mut Vec<u8>) -> Result<(), AllocError> {
     match fault {
         V2Fault::Bad(Cause::TextLine { line }) => {
@@ -80,7 +81,8 @@ fn add_count(alloc: Global, payload: &[u8], answer: &mut Vec<u8>) -> Result<(), 
     add_number(alloc, answer, checked.idb().packages().len() as u128)
 }
 
-/// The database in a payload, after all tests of it passed; otherwise the failed test.
+/// The database in a payload whose shape, texts and numbers pass their tests; otherwise the first
+/// failed test.
 fn checked_database(alloc: Global, payload: &[u8]) -> Result<Checked<'_>, ReadFault>
     // On success the payload is that of a database.
     ensures { IfOk result (λ checked. table_of_checked checked ≡ Tables.Idb) }
