@@ -47,7 +47,7 @@ front_file_len front = front.len
 abbrev pub front_end : Front → ℕ
 front_end front = front.at
 
--- the position of a reader of blocks after a front, in this file
+-- the position of a reader of the blocks of this file after the front
 abbrev pub position_after_front : Front → List ℕ → ReaderPosition
 position_after_front front file = record {
   schema = front.schema;
@@ -72,8 +72,8 @@ pub record IsFrontOf (schema : ℕ) (file : List ℕ) (front : Front) : Type 0 w
   -- the head of the first payload passes its tests
   pub head : payload_head_fault (front_payload front) ≡ None
 
--- the result of reading a front, for a file or for none; an I/O error of the tree and running out of
--- memory say nothing about it
+-- the result of reading the front of a file that must have this schema, or of no file: the front, None
+-- for no file, or the first failed test. After an I/O error or out of memory nothing is stated
 abbrev pub IsFrontRead : ℕ → Option (List ℕ) → Result (Option Front) FrontFault → Type 0
 IsFrontRead schema None (Ok None) = Unit {0}
 IsFrontRead schema None (Ok (Some front)) = ⊥
@@ -93,14 +93,15 @@ abbrev pub position_after_first_block : ℕ → ℕ → List ℕ → ReaderPosit
 position_after_first_block schema at file =
     record { schema = schema; last = Some Adb; at = at; left = drop at file }
 
--- an I/O error of the tree, or out of memory; it says nothing about the container
+-- the fault is an I/O error of the tree, or out of memory, and not a failed test of the container
 abbrev pub IsDiskOrMemoryFault : FrontFault → Type 0
 IsDiskOrMemoryFault (Bad c) = ⊥
 IsDiskOrMemoryFault Disk = Unit {0}
 IsDiskOrMemoryFault Memory = Unit {0}
 
--- the result of reading the front of a file that exists, of which this many bytes were read: the front
--- takes exactly these
+-- the result of reading the front of a file that exists: the front of the file, which ends after the
+-- first `seen` bytes, those that were read; or the first failed test. After an I/O error or out of memory
+-- nothing is stated
 abbrev pub IsFrontReadOfFile : ℕ → Result Front FrontFault → ℕ → List ℕ → Type 0
 IsFrontReadOfFile schema (Ok front) seen file = IsFrontOf schema file front × (front.at ≡ seen)
 IsFrontReadOfFile schema (Err (Bad c)) seen file = front_fault schema file ≡ Some c

@@ -34,8 +34,8 @@ IsNextFile before (Err c) after = (before ≡ refused c) × (after ≡ refused c
 abbrev pub expected_of : Wanted → ExpectedFile
 expected_of w = record { folder = w.folder; file = w.file; size = w.size; hash = w.hash.now }
 
--- the files with contents that are left in some folders: the first of these folders has the position
--- i, and its first j files are passed
+-- the files with contents that are left in some folders: the first of these folders has the position `i`,
+-- and its first `j` files are already passed
 abbrev pub files_left_from : ℕ → ℕ → List Plain → List ExpectedFile
 files_left_from i j [] = []
 files_left_from i j (folder ∷ folders) =
@@ -71,7 +71,7 @@ expected_file_at folder file es = find (is_expected_at folder file) es
 abbrev pub files_left : Rest → FilesRead
 files_left rest = files_read_from_blocks (files_left_in_walk rest.walk) (block_stream_from rest.blocks)
 
--- the files, unless a test failed before: then that fault alone
+-- the files that are still to be read, unless a test failed before: then only the fault of this test
 abbrev pub unless_refused : Option Cause → FilesRead → FilesRead
 unless_refused None files = files
 unless_refused (Some c) files = refused c
@@ -82,14 +82,16 @@ ReadsNext before (Ok None) after = (before ≡ no_more) × (after ≡ no_more)
 ReadsNext before (Ok (Some f)) after = before ≡ given (contents_view f) after
 ReadsNext before (Err c) after = before ≡ refused c
 
--- the contents in a payload are those of the first expected file, and the others are left
+-- `f` has the contents in the payload as those of the first expected file, and the other files stay
+-- expected (`after`)
 abbrev pub ReturnsContentsOfFirst : List ℕ → FileContents → List ExpectedFile → List ExpectedFile → Type 0
 ReturnsContentsOfFirst payload f [] after = ⊥
 ReturnsContentsOfFirst payload f (e ∷ es) after =
     (contents_view f ≡ contents_of_expected payload e) × (es ≡ after)
 
--- the result of the walk for a block of contents at an offset: those of the next file, if no test
--- fails, or the first failed test
+-- the result of the walk for the block of contents with this payload at the offset `at`. If no test
+-- fails, it is the contents of the first file that was left (`before`), and the others are left
+-- (`after`); otherwise it is the first failed test
 abbrev pub ReturnsNextContents : List ℕ → ℕ → List ExpectedFile → Result FileContents Cause
     → List ExpectedFile
     → Type 0

@@ -39,19 +39,20 @@ pub record IsFileOfLength (name : List ℕ) (len : ℕ) (v : TreeState) : Type 0
 abbrev pub tree_fault : Disk
 tree_fault = record {}
 
--- a call that only reads, and is no misuse if the file under the name has this length; `disk_fault` is
--- its result if the tree failed
+-- a call that only reads the tree, and is no misuse if the file under the name has this length.
+-- `disk_fault` is the error of the call if the tree failed; `before` and `now` are the counts of the tree
+-- before and after the call
 pub record ReadsFile {A E : Type 0} (name : List ℕ) (len : ℕ) (disk_fault : E)
     (old new : List TreeState) (before now : Counts) (result : Result A E) : Type 0 where
-  -- the states are unchanged
+  -- the history of the tree is unchanged
   pub same : new ≡ old
   -- no count falls
   pub goes_on : CountsOnlyRise before now
-  -- it reports a failure of the tree only if there was one
+  -- the call reports a failure of the tree only if a call on the tree failed, and its cause was counted
   pub disk : IsErrOf result disk_fault → IsFaultCountedWithCause before now
   -- a result that is no failure of the tree raised neither the count of faults nor that of memory faults
   pub kept : OnOk result (CountsNoNewFault before now)
   -- an error that is no failure of the tree raised neither of these counts
   pub others : IfErr result (λ fault. (fault ≡ disk_fault → ⊥) → CountsNoNewFault before now)
-  -- it is no misuse if the file has this length
+  -- the call is no misuse if the file under the name has this length
   pub proper : IfObservable old (λ v. IsFileOfLength name len v → now.misuses ≡ before.misuses)

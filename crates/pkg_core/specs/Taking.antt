@@ -25,19 +25,21 @@ pub record HasTaken (f : FileCheck) (so_far : List ℕ) : Type 0 where
   -- as many bytes are counted as taken
   pub long : length so_far ≡ f.done
 
--- these bytes of a file with this digest were taken; if none are left (None) they have the digest
+-- exactly `bytes` were taken of a file with the digest `hash`: if no check is left (None), all bytes of
+-- the file, and they have the digest
 abbrev pub HasTakenOrPassedDigest : List ℕ → List ℕ → Option FileCheck → Type 0
 HasTakenOrPassedDigest hash bytes None = hash_fault hash bytes ≡ None
 HasTakenOrPassedDigest hash bytes (Some f) = HasTaken f bytes
 
--- the pieces of the rest of a file, after the bytes that were taken so far, and then further ones
+-- the pieces of the rest of a file (`left`), after the bytes `so_far` that were taken before, and then
+-- the further pieces, of other files
 abbrev pub pieces_in : FileCheck → List ℕ → List ℕ → PiecesRead → PiecesRead
 pieces_in f so_far left further =
     pieces_of_one_file (piece_count_before_last (length left)) (expected_of f.wanted)
     (hash_fault f.wanted.hash.now (so_far ++ left)) left further
 
--- the result for the bytes of a call: they are the next piece, followed by the pieces of the rest or,
--- after the last piece, by the further ones; or the digest differs
+-- the result of taking `bytes`, with `left` as the rest of the file: they are the next piece, followed by
+-- the pieces of the rest or, after the last piece, by the further ones; or the digest differs
 abbrev pub IsTakeResult : FileCheck → List ℕ → List ℕ → List ℕ → PiecesRead
     → Result (Part × Option FileCheck) Cause → Type 0
 IsTakeResult f so_far bytes left further (Ok (part, Some g)) =

@@ -51,7 +51,7 @@ impl HeadBytes {
         // These bytes were read at the offset of the block.
         ensures seen { IfOk result (λ head. (file_len : ℕ)
             → AreBytesRead (T.history tree.old) name.now file_len at head) }
-        // They are the first bytes of the header: all of them, if the file has them.
+        // They are the first bytes of the header: all of its bytes, if the file has them all.
         ensures holds { IfOk result (λ head. IsHeadPrefix head left) }
         // No byte after the header was read.
         ensures short { IfOk result (λ head. length head ≤ head_len head) }
@@ -68,6 +68,8 @@ impl HeadBytes {
         let mut first = [0; 4];
         tree.read_at(name, at, &mut first)?;
         let len = head_len(&first);
+        // A short header is complete; the rest of an extended one that the file cuts off is not
+        // read.
         if len == 4 || len > left {
             return Ok(head_of_four(first));
         }
@@ -77,7 +79,7 @@ impl HeadBytes {
     }
 }
 
-/// The header without bytes.
+/// A header of which no byte was read, as fewer than four bytes are left in the file.
 fn no_head() -> HeadBytes
     ensures { result ≡ [] }
 {
@@ -87,7 +89,7 @@ fn no_head() -> HeadBytes
     }
 }
 
-/// The header after four bytes: a short one, or the front of an incomplete one.
+/// A header of which four bytes were read: a short one, or an extended one that the file cuts off.
 #[tactic(auto, using(crate::proofs::Heads::four_kept))]
 fn head_of_four(first: [u8; 4]) -> HeadBytes
     ensures { result ≡ first }
