@@ -45,6 +45,7 @@ impl Piece {
     /// The bytes of the piece, at most 65,536 (`PIECE_LEN` of `pkg_core`).
     pub fn bytes(&self) -> &[u8]
         ensures bytes { result.now ≡ self.now }
+        // A piece has at most 65,536 bytes.
         ensures few { length result.now ≤ PIECE_LEN }
     {
         &self.bytes[..self.len]
@@ -60,8 +61,9 @@ impl Piece {
         at: u64,
         len: usize,
     ) -> Result<(), PieceFault>
-        // The piece is not above the greatest length.
+        // No more bytes are asked for than a piece may have.
         requires { len ≤ PIECE_LEN }
+        // On Ok, the piece has `len` bytes.
         ensures len { OnOk result (length self.new ≡ len) }
         // The only error is that the tree failed.
         ensures disk { IfErr result (λ fault. fault ≡ DiskFault) }
@@ -97,7 +99,7 @@ impl From<Cause> for PieceFault {
 
     ghost from_gives = { λ cause fault. fault ≡ Bad cause };
 
-    /// A failed test is why there is no piece.
+    /// A failed test becomes `Bad`.
     fn from(cause: Cause) -> PieceFault {
         PieceFault::Bad(cause)
     }
@@ -109,7 +111,7 @@ impl From<Disk> for PieceFault {
 
     ghost from_gives = { λ _ fault. fault ≡ DiskFault };
 
-    /// A failed call of the tree is why there is no piece.
+    /// A failed call of the tree becomes `Disk`.
     fn from(_: Disk) -> PieceFault {
         PieceFault::Disk
     }
