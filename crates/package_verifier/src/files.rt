@@ -37,7 +37,8 @@ pub(crate) fn read_files<T: Tree>(
     front: &Front,
     contents: &Contents<'_>,
 ) -> Result<FilesTest, TreeFault>
-    // For each package of this length that has the bytes that were read.
+    // For each package of this length that has the bytes read from the end of the front on
+    // (`seen`): the result is that of the tests of its files.
     ensures files { IfOk result (λ test. (seen : List ℕ)
         × IsSeenIn (T.history tree.old) name.now (front_file_len front.now) (front_end front.now)
         seen

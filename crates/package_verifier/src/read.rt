@@ -42,7 +42,8 @@ pub fn read_package<T: Tree>(
     tree: &mut T,
     name: &Name,
 ) -> Result<PackageRead, TreeFault>
-    // The result is that for some file, which is the one under the name if the tree is observable.
+    // The result is right for some file, or for none (`found`). If the tree is observable, this is
+    // what the tree has under the name.
     ensures read { IfOk result (λ read. (found : Option (List ℕ))
         × IfObservable (T.history tree.old) (λ v. found ≡ files_of v name.now)
         × IsPackageReadResult name.now found read) }
@@ -65,7 +66,8 @@ fn read_named<T: Tree>(
 ) -> Result<PackageRead, TreeFault>
     // The copy has the bytes of the name.
     requires { own_name ≡ name.now }
-    // If the tree is observable, the result is that for its file of this name.
+    // The result is right for some file, or for none (`found`). If the tree is observable, this is
+    // what the tree has under the name.
     ensures read { IfOk result (λ read. (found : Option (List ℕ))
         × IfObservable (T.history tree.old) (λ v. found ≡ files_of v name.now)
         × IsPackageReadResult name.now found read) }
@@ -88,6 +90,7 @@ fn read_named<T: Tree>(
 
 /// The result for a package of this name with this front, by the result of the tests.
 fn read_by(name: Name, front: Front, test: FilesTest) -> PackageRead
+    // If no test failed, the payload of the front passes all tests of its values.
     requires { HasSoundPayload front test }
     ensures { (pkg : List ℕ) → IsFrontOf PACKAGE_WORD pkg front → IsWholeTested pkg test
         → IsPackageReadResult name (Some pkg) result }
@@ -109,12 +112,14 @@ fn test_values_and_files<T: Tree>(
     name: &Name,
     front: &Front,
 ) -> Result<FilesTest, TreeFault>
-    // For each package with this front that has the bytes that were seen after it.
+    // For each package with this front that has the bytes read after the front (`seen`): the result
+    // is that of all tests of the package.
     ensures whole { IfOk result (λ test. (seen : List ℕ)
         × IsSeenIn (T.history tree.old) name.now (front_file_len front.now) (front_end front.now)
         seen
         × ((pkg : List ℕ) → IsFrontOf PACKAGE_WORD pkg front.now
         → HasBytesAtOffset pkg (front_end front.now) seen → IsWholeTested pkg test)) }
+    // If no test failed, the payload of the front passes all tests of its values.
     ensures payload { IfOk result (HasSoundPayload front.now) }
     // The tree is unchanged. `Disk` is returned only if the tree failed, and no call is a misuse if
     // the file still has its length.
