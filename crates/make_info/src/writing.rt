@@ -20,13 +20,13 @@ use std::alloc::AllocError;
 /// The source of a field of the package's information (apk-v3(5)).
 #[derive(Clone, Copy)]
 enum Column {
-    /// The value of a field that is given once.
+    /// The value of this field of `-I`, which is given once.
     Single(Field),
-    /// All values of a field that may be given several times.
+    /// All values of this field of `-I`, which may be given several times.
     List(Field),
     /// The size of the package's files.
     InstalledSize,
-    /// None: `mkpkg` does not give the field.
+    /// No value: `mkpkg` leaves out the field.
     Null,
 }
 
@@ -78,7 +78,7 @@ impl Information<'_> {
 }
 
 impl Items<'_> {
-    // Writes columns one after the other.
+    // Writes the fields of the table, one after the other.
     fn write_columns(
         &self,
         draft: &mut Draft,
@@ -94,7 +94,7 @@ impl Items<'_> {
         Ok(())
     }
 
-    // Writes one field of the table.
+    // Writes one field of the table, from its source (`column`).
     fn write_column(
         &self,
         draft: &mut Draft,
@@ -139,7 +139,7 @@ impl Items<'_> {
 }
 
 impl Value<'_> {
-    // The number, if the value is one.
+    // The number that the value is; None if the value is no number.
     fn number(&self) -> Option<u64>
         ensures { result ≡ number_in (value_view self.now) }
     {
@@ -149,7 +149,7 @@ impl Value<'_> {
         }
     }
 
-    // Writes the value as a container has it.
+    // Writes the value in the form that it has in a container.
     fn write(&self, draft: &mut Draft) -> Result<(), AllocError>
         ensures { OnOk result
             (draft.new ≡ draft_with (plain_value (value_view self.now)) draft.old) }
