@@ -21,11 +21,11 @@ use std::alloc::AllocError;
 /// root may write.
 const FOLDER_MODE: u64 = 0o755;
 
-/// The mode of every file (420 there): all may read, and root may write.
+/// The mode of every file (420 in `docs/commands.md`, "`mkpkg`"): all may read, and root may write.
 const FILE_MODE: u64 = 0o644;
 
-/// Writes a package with this information, these folders and scripts, with the triggers of the
-/// options, and with the installed size `size`.
+/// Writes the value of a package with this information (`about`), these folders and scripts, the
+/// triggers in the values of the options (`values`), and the installed size `size`.
 pub(crate) fn write_package(
     draft: &mut Draft,
     values: &Values,
@@ -60,7 +60,7 @@ fn write_paths(draft: &mut Draft, folders: &[Folder<'_>]) -> Result<(), AllocErr
     draft.close_array()
 }
 
-/// Writes a folder with its access list and its files.
+/// Writes the entry of a folder: its name, its access list and its files.
 fn write_folder(draft: &mut Draft, folder: &Folder<'_>) -> Result<(), AllocError>
     ensures { OnOk result (draft.new ≡ draft_with (packed_folder folder.now) draft.old) }
 {
@@ -83,7 +83,7 @@ fn write_files(draft: &mut Draft, files: &[File<'_>]) -> Result<(), AllocError>
     draft.close_array()
 }
 
-/// Writes a file with its access list; the time is Null.
+/// Writes the entry of a file: its name, access list, size, time, hash and target.
 fn write_file(draft: &mut Draft, file: &File<'_>) -> Result<(), AllocError>
     ensures { OnOk result (draft.new ≡ draft_with (packed_file file.now) draft.old) }
 {
@@ -91,6 +91,7 @@ fn write_file(draft: &mut Draft, file: &File<'_>) -> Result<(), AllocError>
     draft.blob(file.name)?;
     write_acl(draft, FILE_MODE)?;
     write_size(draft, file.kind.size())?;
+    // The time of the file, which is left out.
     draft.null()?;
     draft.blob(file.kind.hash())?;
     draft.blob(file.kind.target())?;
@@ -134,7 +135,7 @@ fn write_scripts(draft: &mut Draft, scripts: &[Script<'_>]) -> Result<(), AllocE
     draft.close_object()
 }
 
-/// The bytes of the first script of a type, or none if there is none.
+/// The bytes of the first script of this type; empty if there is no script of the type.
 fn script_of<'a>(scripts: &'a [Script<'_>], kind: &[u8]) -> &'a [u8]
     ensures { result.now ≡ script_bytes_of_field (scripts_view scripts.now) kind.now }
 {
@@ -154,6 +155,7 @@ fn write_triggers(draft: &mut Draft, values: &Values) -> Result<(), AllocError>
     draft.open_list()?;
     for i in 0..values.len() {
         let value = values.get(i);
+        // The values of all options are in one list.
         if value.letter == TRIGGER {
             draft.blob(value.text.as_bytes())?;
         }

@@ -10,10 +10,10 @@ use sha2::{Digest, Sha256};
 use std::alloc::{AllocError, Global};
 use std::str;
 
-/// The mark of a link, with which its bytes begin.
+/// The bytes with which a file begins that represents a symbolic link.
 const LINK_MARK: &[u8] = b"!<symlink>";
 
-/// The folders of a package with their files, and the contents blocks of these.
+/// The folders of a package with their files, and the blocks with the contents of these files.
 #[derive(Drop)]
 pub struct Packing<'a> {
     /// The folders, in byte order of their names.
@@ -25,9 +25,9 @@ pub struct Packing<'a> {
 /// A folder of a package, with the files in it.
 #[derive(Drop)]
 pub struct Folder<'a> {
-    /// The name of the folder; empty for the root.
+    /// The name of the folder in the package; empty for the root.
     pub name: &'a [u8],
-    /// The files of the folder, in byte order.
+    /// The files directly in the folder, in byte order of their names.
     pub files: Vec<File<'a>>,
 }
 
