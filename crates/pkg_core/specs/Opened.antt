@@ -105,7 +105,7 @@ ReturnsNextContents payload at before (Err c) after = contents_block_fault paylo
 abbrev pub opened_value : Package → Plain
 opened_value pkg = checked_value pkg.checked
 
--- the bytes of a package's value
+-- the payload of the first block of a package, which has the package's values
 abbrev pub opened_payload : Package → List ℕ
 opened_payload pkg = pkg.payload.now
 

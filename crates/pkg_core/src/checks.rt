@@ -128,6 +128,7 @@ fn verify_other(alloc: Global, bytes: &[u8], which: Which) -> Result<(), Package
 pub(crate) fn hash_fault(hash: &[u8], bytes: &[u8]) -> Option<Cause>
     ensures { result ≡ hash_fault hash.now bytes.now }
 {
+    // The lengths in bytes of a SHA-1, a SHA-256 and a SHA-512.
     match hash.len() {
         20 => sha1_fault(hash, Sha1::digest(bytes)),
         32 => sha256_fault(hash, Sha256::digest(bytes)),

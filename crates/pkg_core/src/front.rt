@@ -25,6 +25,7 @@ impl From<Cause> for FrontFault {
     ghost use Rattle.std.specs.Prelude.{◌≡◌};
     ghost use Rattle.pkg_core.specs.declared.front.FrontFault.TheVariants.{Bad};
 
+    // What `from` returns.
     ghost from_gives = { λ cause fault. fault ≡ Bad cause };
 
     /// A failed test becomes `Bad`.
@@ -37,6 +38,7 @@ impl From<Disk> for FrontFault {
     ghost use Rattle.std.specs.Prelude.{◌≡◌};
     ghost use Rattle.pkg_core.specs.declared.front.FrontFault.TheVariants.{Disk as DiskFault};
 
+    // What `from` returns.
     ghost from_gives = { λ _ fault. fault ≡ DiskFault };
 
     /// A failed call of the tree becomes `Disk`.
@@ -49,6 +51,7 @@ impl From<AllocError> for FrontFault {
     ghost use Rattle.std.specs.Prelude.{◌≡◌};
     ghost use Rattle.pkg_core.specs.declared.front.FrontFault.TheVariants.{Memory};
 
+    // What `from` returns.
     ghost from_gives = { λ _ fault. fault ≡ Memory };
 
     /// A lack of memory becomes `Memory`.

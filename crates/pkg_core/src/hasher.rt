@@ -32,6 +32,7 @@ impl Hasher {
         // The hasher has taken no bytes yet.
         ensures { HasHashedMessage result hash.now [] }
     {
+        // The lengths in bytes of a SHA-1, a SHA-256 and a SHA-512.
         match hash.len() {
             20 => Hasher::Sha1(Sha1::new()),
             32 => Hasher::Sha256(Sha256::new()),

@@ -24,8 +24,10 @@ impl Model for HeadBytes {
 
     ghost Value = { List ℕ };
 
+    // Contracts see the bytes that were read.
     ghost view = { λ head. take head.len head.bytes };
 
+    // At most 16 bytes were read.
     ghost invariant = { λ head. head.len ≤ 16 };
 }
 

@@ -33,6 +33,7 @@ impl From<Cause> for PackageFault {
     ghost use Rattle.std.specs.Prelude.{◌≡◌};
     ghost use Rattle.pkg_core.specs.declared.pack.PackageFault.TheVariants.{Bad};
 
+    // What `from` returns.
     ghost from_gives = { λ cause fault. fault ≡ Bad cause };
 
     /// A failed test becomes `Bad`.
@@ -45,6 +46,7 @@ impl From<ReadFault> for PackageFault {
     ghost use Rattle.std.specs.Prelude.{◌≡◌};
     ghost use Rattle.pkg_core.specs.Refusals.{fault_of_read};
 
+    // What `from` returns.
     ghost from_gives = { λ read fault. fault ≡ fault_of_read read };
 
     /// A failed test of the values becomes `Bad`, and a lack of memory becomes `Memory`.

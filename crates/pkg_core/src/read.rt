@@ -74,8 +74,10 @@ impl Model for Header {
 
     ghost Value = { List ℕ };
 
+    // Contracts see the bytes that were read.
     ghost view = { λ header. take header.len header.bytes };
 
+    // At most 8 bytes were read.
     ghost invariant = { λ header. header.len ≤ 8 };
 }
 
