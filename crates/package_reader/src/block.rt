@@ -54,8 +54,8 @@ pub(crate) fn next_block<'a, T: Tree>(
 ) -> Result<BlockStep<'a>, PieceFault>
     // The place is within the file.
     requires { place.old.at ≤ place.old.len }
-    // The result is right for each package of this length that has, from the old place on, the
-    // bytes that were read (`seen`).
+    // The bytes `seen` were read from the old place on, and end no later than the next read begins.
+    // For each package of this length that has them there, the result is that of the definition.
     ensures block { (seen : List ℕ)
         × IsSeenIn (T.history tree.old) name.now place.old.len place.old.at seen
         × IfOk result (λ step. ReadEndsBeforeNext (place.old.at + length seen) step place.new)
@@ -118,8 +118,8 @@ pub(crate) fn read_block<T: Tree>(
     // The end of the block is below 2^64.
     ensures small { IfOk result (λ read. IfSome read.framing (λ frame.
         place.now.at + raw_size frame < 2 ^ 64)) }
-    // The result is right for each file of this length that has, at the place, the bytes that were
-    // read (`seen`). They are at most the block's header and its positions.
+    // The bytes `seen` were read at the place: at most the block's header and its positions. For
+    // each file of this length that has them there, the result is its block at this place.
     ensures block { (seen : List ℕ)
         × IsSeenIn (T.history tree.old) name.now place.now.len place.now.at seen
         × IfOk result (λ read. AreSeenWithinPositions read.framing (length seen))
@@ -178,8 +178,8 @@ pub(crate) fn next_file<'a, T: Tree>(
 ) -> Result<Option<OpenFile<'a>>, PieceFault>
     // The place is within the file.
     requires { place.old.at ≤ place.old.len }
-    // The result is right for each package of this length that has, from the old place on, the
-    // bytes that were read (`seen`).
+    // The bytes `seen` were read from the old place on, and end no later than the next read begins.
+    // For each package of this length that has them there, the result is that of the definition.
     ensures file { (seen : List ℕ)
         × IsSeenIn (T.history tree.old) name.now place.old.len place.old.at seen
         × IfOk result (λ found. IfSome found (λ next.

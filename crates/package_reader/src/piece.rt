@@ -26,8 +26,10 @@ impl Model for Piece {
 
     ghost Value = { List ℕ };
 
+    // Contracts see the bytes of the piece.
     ghost view = { λ piece. take piece.len piece.bytes };
 
+    // A piece has at most 65,536 bytes.
     ghost invariant = { λ piece. piece.len ≤ PIECE_LEN };
 }
 
@@ -97,6 +99,7 @@ impl From<Cause> for PieceFault {
     ghost use Rattle.std.specs.Prelude.{◌≡◌};
     ghost use Rattle.package_reader.specs.declared.piece.PieceFault.TheVariants.{Bad};
 
+    // What `from` returns.
     ghost from_gives = { λ cause fault. fault ≡ Bad cause };
 
     /// A failed test becomes `Bad`.
@@ -109,6 +112,7 @@ impl From<Disk> for PieceFault {
     ghost use Rattle.std.specs.Prelude.{◌≡◌};
     ghost use Rattle.package_reader.specs.declared.piece.PieceFault.TheVariants.{Disk as DiskFault};
 
+    // What `from` returns.
     ghost from_gives = { λ _ fault. fault ≡ DiskFault };
 
     /// A failed call of the tree becomes `Disk`.

@@ -137,9 +137,9 @@ impl<'a> PieceReader<'a> {
         tree: &mut T,
         piece: &mut Piece,
     ) -> Result<Option<Part>, PieceFault>
-        // For each package of this length that has the bytes read from the old offset on (`seen`):
-        // the result is that of a call for the next piece, and the package has the piece at the
-        // offset that the reader remembers.
+        // The bytes `seen` were read from the old offset on; if a piece is returned, they end at
+        // the new offset. For each package of this length that has them there, the result is the
+        // next of the pieces that were to be read (`before`).
         ensures piece { (seen : List ℕ)
             × IsSeenIn (T.history tree.old) (name_in_tree self.old) (package_len self.old)
             (offset_of self.old) seen
@@ -189,9 +189,11 @@ impl<'a> PieceReader<'a> {
         tree: &mut T,
         piece: &mut Piece,
     ) -> Result<Option<Part>, PieceFault>
+        // No test failed, and the last block was not passed.
         requires { CanContinue self.old }
-        // The result is right for each package of this length that has the bytes read from the old
-        // offset on (`seen`).
+        // The bytes `seen` were read from the old offset on; they end where the next read begins,
+        // if there is one. For each package of this length that has them there, the result is the
+        // next of the pieces that were to be read (`before`).
         ensures piece { (seen : List ℕ)
             × IsSeenIn (T.history tree.old) (name_in_tree self.old) (package_len self.old)
             (offset_of self.old) seen
@@ -248,8 +250,9 @@ impl<'a> PieceReader<'a> {
         tree: &mut T,
         piece: &mut Piece,
     ) -> Result<Option<Part>, PieceFault>
-        // For each package of this length that has the bytes read from the old offset on (`seen`),
-        // the result is right.
+        // The bytes `seen` were read from the old offset on; they end where the next read begins,
+        // if there is one. For each package of this length that has them there, the result is that
+        // of the definition.
         ensures piece { (seen : List ℕ)
             × IsSeenIn (T.history tree.old) (name_in_tree self.old) (package_len self.old)
             (offset_of self.old) seen
@@ -298,8 +301,9 @@ impl<'a> PieceReader<'a> {
 
     /// The file that is open, or the next one; None after the last block.
     fn open_next<T: Tree>(&mut self, tree: &mut T) -> Result<Option<OpenFile<'a>>, PieceFault>
-        // For each package of this length that has the bytes read from the old offset on (`seen`),
-        // the result is right.
+        // The bytes `seen` were read from the old offset on; they end where the next read begins,
+        // if there is one. For each package of this length that has them there, the result is that
+        // of the definition.
         ensures file { (seen : List ℕ)
             × IsSeenIn (T.history tree.old) (name_in_tree self.old) (package_len self.old)
             (offset_of self.old) seen
