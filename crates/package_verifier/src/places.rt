@@ -23,6 +23,7 @@ pub(crate) struct FilePlace {
 /// Records that the file of a part begins at the offset `at`, if the part is the last piece of the
 /// file.
 pub(crate) fn keep_place(places: &mut Vec<FilePlace>, part: Part, at: u64) -> Result<(), AllocError>
+    // On Ok, a last part adds the place of its file at the end, and another part adds nothing.
     ensures { OnOk result (places.new.items ≡ (if part.last
         then places.old.items ++ place_of_part part at ∷ [] else places.old.items)) }
 {

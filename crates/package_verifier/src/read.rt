@@ -88,10 +88,13 @@ fn read_named<T: Tree>(
     }
 }
 
-/// The result for a package of this name with this front, by the result of the tests.
+/// The result of reading the package of this name with this front, given the result of the tests of
+/// its values and files.
 fn read_by(name: Name, front: Front, test: FilesTest) -> PackageRead
     // If no test failed, the payload of the front passes all tests of its values.
     requires { HasSoundPayload front test }
+    // The result is that of `read_package` for each package with this front for which these are the
+    // results of all tests.
     ensures { (pkg : List ℕ) → IsFrontOf PACKAGE_WORD pkg front → IsWholeTested pkg test
         → IsPackageReadResult name (Some pkg) result }
 {

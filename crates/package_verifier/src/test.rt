@@ -56,6 +56,7 @@ pub fn test_package<T: Tree>(
 
 /// The result of the tests, by the result of the read.
 fn test_of(read: &PackageRead) -> PackageTest
+    // If this is the result of reading a file, or none, the returned result is that of testing it.
     ensures { (name : List ℕ) (found : Option (List ℕ)) → IsPackageReadResult name found read.now
         → IsPackageTestResult found result }
 {
@@ -68,6 +69,7 @@ fn test_of(read: &PackageRead) -> PackageTest
 
 /// The result of the tests if this is the first test that failed.
 fn test_by(cause: Cause) -> PackageTest
+    // The result is that for each file whose first failed test is this one.
     ensures { (file : List ℕ) → package_fault file ≡ Some cause
         → IsPackageTestResult (Some file) result }
 {
