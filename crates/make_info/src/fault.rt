@@ -28,6 +28,7 @@ impl From<AllocError> for MakeFault {
     ghost use Rattle.std.specs.Prelude.{◌≡◌};
     ghost use Rattle.make_info.specs.declared.fault.MakeFault.TheVariants.{Memory};
 
+    // What `from` returns.
     ghost from_gives = { λ _ fault. fault ≡ Memory };
 
     /// A lack of memory becomes `Memory`.
@@ -40,6 +41,7 @@ impl From<Disk> for MakeFault {
     ghost use Rattle.std.specs.Prelude.{◌≡◌};
     ghost use Rattle.make_info.specs.declared.fault.MakeFault.TheVariants.{Disk as DiskFault};
 
+    // What `from` returns.
     ghost from_gives = { λ _ fault. fault ≡ DiskFault };
 
     /// A failed call of the tree becomes `Disk`.
@@ -51,6 +53,7 @@ impl From<Disk> for MakeFault {
 impl From<TreeFault> for MakeFault {
     ghost use Rattle.make_info.specs.Faults.{IsMakeFaultOf};
 
+    // What `from` returns.
     ghost from_gives = { λ tree fault. IsMakeFaultOf tree fault };
 
     /// A failed listing or read of the tree becomes `Disk` or `Memory`.
@@ -65,6 +68,7 @@ impl From<TreeFault> for MakeFault {
 impl From<WriteFault> for MakeFault {
     ghost use Rattle.make_info.specs.Faults.{IsMakeFaultOfWriter};
 
+    // What `from` returns.
     ghost from_gives = { λ write fault. IsMakeFaultOfWriter write fault };
 
     /// A failed write of a payload becomes `TooLarge` or `Memory`.

@@ -77,6 +77,7 @@ impl<'a> Model for Information<'a> {
 
     ghost Value = { List FieldWithValue };
 
+    // Contracts see the list of the items.
     ghost view = { λ info. info.entries };
 }
 
@@ -137,8 +138,8 @@ fn add_value<'a>(
     text: &'a [u8],
     too_long: bool,
 ) -> Result<bool, AllocError>
-    // With true, these are the items so far and those of the value; with false, the definition
-    // allows no such value.
+    // If the result is true, the new items are the old ones and those of the value. If it is false,
+    // the definition allows no such value.
     ensures { IfOk result (λ good. (if good then Some entries.new else None)
         ≡ items_with_option_text too_long entries.old text.entry.now) }
 {
@@ -199,6 +200,7 @@ impl<'a> Model for Items<'a> {
 
     ghost Value = { List FieldWithValue };
 
+    // Contracts see the list of the items.
     ghost view = { λ entries. map item_view entries.entries.items };
 }
 
@@ -223,6 +225,7 @@ impl<'a> Items<'a> {
 
     // Adds an item at the end.
     fn push(&mut self, field: Field, value: Value<'a>) -> Result<(), AllocError>
+        // On Ok, the item is the last one.
         ensures { OnOk result (self.new ≡ self.old ++ field_with_value field
             (value_view value.entry) ∷ []) }
     {
@@ -233,8 +236,8 @@ impl<'a> Items<'a> {
     /// Adds the items of a value for its field. The result is false if the value is not in the
     /// field's grammar.
     pub(crate) fn add(&mut self, given: FieldText<'a>) -> Result<bool, AllocError>
-        // With true, these are the items so far and those of the value; with false, the definition
-        // allows no such value.
+        // If the result is true, the new items are the old ones and those of the value. If it is
+        // false, the definition allows no such value.
         ensures { IfOk result (λ good. (if good then Some self.new else None)
             ≡ items_with_values_of_field self.old given.entry.field
             (values_by_kind (kind_of_field given.entry.field) given.entry.value.now)) }
@@ -254,8 +257,8 @@ impl<'a> Items<'a> {
     // Adds an item with this text, if the rule of the field allows it (`is_good`). The result is
     // false if the rule does not.
     fn add_text(&mut self, field: Field, text: &'a [u8], is_good: bool) -> Result<bool, AllocError>
-        // With true, these are the items so far and those of the value; with false, the definition
-        // allows no such value.
+        // If the result is true, the new items are the old ones and those of the value. If it is
+        // false, the definition allows no such value.
         ensures { IfOk result (λ good. (if good then Some self.new else None)
             ≡ items_with_values_of_field self.old field (text_value_if is_good text.entry.now)) }
     {
@@ -269,8 +272,8 @@ impl<'a> Items<'a> {
     // Adds an item with the bytes that hexadecimal digits encode. The result is false if the text
     // is not hexadecimal.
     fn add_bytes(&mut self, field: Field, digits: &'a [u8]) -> Result<bool, AllocError>
-        // With true, these are the items so far and those of the value; with false, the definition
-        // allows no such value.
+        // If the result is true, the new items are the old ones and those of the value. If it is
+        // false, the definition allows no such value.
         ensures { IfOk result (λ good. (if good then Some self.new else None)
             ≡ items_with_values_of_field self.old field (values_of_hex_digits
             (decode_of digits.entry.now))) }
@@ -288,8 +291,8 @@ impl<'a> Items<'a> {
     // Adds an item with the number that the digits encode. The result is false if the text is no
     // number below 2^64, or has a leading zero.
     fn add_number(&mut self, field: Field, digits: &[u8]) -> Result<bool, AllocError>
-        // With true, these are the items so far and those of the value; with false, the definition
-        // allows no such value.
+        // If the result is true, the new items are the old ones and those of the value. If it is
+        // false, the definition allows no such value.
         ensures { IfOk result (λ good. (if good then Some self.new else None)
             ≡ items_with_values_of_field self.old field (option_map (λ n. number n ∷ [])
             (decimal_number digits.now))) }
@@ -304,8 +307,8 @@ impl<'a> Items<'a> {
     // Adds an item for each dependency in the text, which has spaces between them. The result is
     // false if one of them is no dependency without tag.
     fn add_needs(&mut self, field: Field, texts: &'a [u8]) -> Result<bool, AllocError>
-        // With true, these are the items so far and those of the value; with false, the definition
-        // allows no such value.
+        // If the result is true, the new items are the old ones and those of the value. If it is
+        // false, the definition allows no such value.
         ensures { IfOk result (λ good. (if good then Some self.new else None)
             ≡ items_with_values_of_field self.old field (dependency_values_in
             (nonempty_parts texts.entry.now))) }
@@ -321,8 +324,8 @@ impl<'a> Items<'a> {
     // Adds an item with the dependency of a part between spaces, or no item for an empty part. The
     // result is false if the part is no dependency without tag.
     fn add_need(&mut self, field: Field, part: &'a [u8]) -> Result<bool, AllocError>
-        // With true, these are the items so far and those of the value; with false, the definition
-        // allows no such value.
+        // If the result is true, the new items are the old ones and those of the value. If it is
+        // false, the definition allows no such value.
         ensures { IfOk result (λ good. (if good then Some self.new else None)
             ≡ items_with_values_of_field self.old field (dependency_values_in
             (nonempty_part part.entry.now))) }
@@ -341,8 +344,8 @@ impl<'a> Items<'a> {
 
     // Adds an item for each text between spaces that is not empty. The result is always true.
     fn add_texts(&mut self, field: Field, texts: &'a [u8]) -> Result<bool, AllocError>
-        // With true, these are the items so far and those of the value; with false, the definition
-        // allows no such value.
+        // If the result is true, the new items are the old ones and those of the value. If it is
+        // false, the definition allows no such value.
         ensures { IfOk result (λ good. (if good then Some self.new else None)
             ≡ items_with_values_of_field self.old field (Some (text_values
             (nonempty_parts texts.entry.now)))) }

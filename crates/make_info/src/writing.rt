@@ -58,9 +58,12 @@ const COLUMNS: [Column; 22] = [
 ];
 
 impl Information<'_> {
-    /// Writes the information, with the size of the package's files: 22 fields in order.
+    /// Writes the information, with the size of the package's files (`installed_size`): 22 fields
+    /// in order.
     #[tactic(auto, unfolding(crate::specs::Information::information_value))]
     pub fn write(&self, draft: &mut Draft, installed_size: u64) -> Result<(), AllocError>
+        // On Ok, the draft has one value more: the information of the package, as an object of
+        // table 3.
         ensures { OnOk result
             (draft.new ≡ draft_with (information_value self.now installed_size) draft.old) }
     {
@@ -85,6 +88,7 @@ impl Items<'_> {
         columns: &[Column],
         installed_size: u64,
     ) -> Result<(), AllocError>
+        // On Ok, the draft has one value more for each of the fields, in order.
         ensures { OnOk result (draft.new
             ≡ draft_with_all (column_values_by_installed_size self.now installed_size columns.now) draft.old) }
     {
