@@ -217,6 +217,8 @@ fn test_files(pkg: &mut Package<'_>) -> Result<(), Cause>
 
 /// The refusal of the package that the operand at this place names, for the fault of the package.
 fn refused(place: u32, fault: PackageFault) -> MakeFault
+    // If the fault is that of the first failed test (`failed`), the refusal has this test as its
+    // cause.
     ensures { (failed : Option Cause) → IsFaultOf fault failed → IsRefusedAt place result failed }
 {
     match fault {

@@ -167,6 +167,8 @@ fn entry_of(alloc: Global, place: u32, found: Option<Vec<u8>>) -> Result<Entry, 
 ///
 /// `TooLarge` if the payload exceeds a limit of the writer, or `Memory`.
 fn index_file(alloc: Global, description: &[u8], entries: Vec<Entry>) -> Result<Vec<u8>, MakeFault>
+    // The result is the index of the definition, or the refusal; out of memory may occur in any
+    // case.
     ensures { AgreesUnlessMemory (λ file. file.items) result
         (index_of_entries description.now (map entry_view entries.items)) }
 {
@@ -213,6 +215,7 @@ fn write_index(
     description: &[u8],
     entries: &[Entry],
 ) -> Result<(), AllocError>
+    // On Ok, the draft has the values that are written here, as one value more.
     ensures { OnOk result (draft.new
         ≡ draft_with (value_of_index description.now (map entry_view entries.now)) draft.old) }
 {
@@ -224,6 +227,7 @@ fn write_index(
 
 /// Writes entries as an array, in their order.
 fn write_entries(alloc: Global, draft: &mut Draft, entries: &[Entry]) -> Result<(), AllocError>
+    // On Ok, the draft has the values that are written here, as one value more.
     ensures { OnOk result (draft.new
         ≡ draft_with (array_or_null (plains_of_list (map entry_view entries.now))) draft.old) }
 {

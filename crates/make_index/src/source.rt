@@ -27,8 +27,9 @@ use std::alloc::{AllocError, Global};
 pub(crate) struct EntryPayload {
     /// The bytes of the payload.
     pub(crate) payload: Vec<u8>,
-    // The payload can be read, and its root is an object of the fields of table 3.
+    // The head of the payload passes its test.
     ghost head: { is_none (payload_head_fault payload.items) ≡ true },
+    // The root of the payload is a sound object of the fields of table 3.
     ghost sound: { is_sound payload.items (Kinds.Obj Tables.PkgInfo)
         (root_word_of_payload payload.items)
         ≡ true },
@@ -59,6 +60,7 @@ impl EntrySource {
 
     /// Writes the entry into a draft.
     pub(crate) fn write(&self, alloc: Global, draft: &mut Draft) -> Result<(), AllocError>
+        // On Ok, the draft has one value more: the entry of the package.
         ensures { OnOk result (draft.new ≡ draft_with (entry_of_source self.now) draft.old) }
     {
         match self {
@@ -74,6 +76,8 @@ impl EntryPayload {
     /// Writes the entry into a draft, with the id and the length of the file that the entry already
     /// has.
     fn write(&self, alloc: Global, draft: &mut Draft) -> Result<(), AllocError>
+        // On Ok, the draft has one value more: the copy of the entry that is the root of this
+        // payload.
         ensures { OnOk result (draft.new ≡ draft_with
             (copy_of_entry (root_value Tables.PkgInfo self.now.payload.items)) draft.old) }
     {
@@ -90,6 +94,7 @@ impl EntryPayload {
 impl PackageFile {
     /// Writes the entry into a draft: the package is opened once more.
     fn write(&self, alloc: Global, draft: &mut Draft) -> Result<(), AllocError>
+        // On Ok, the draft has one value more: the entry of the package in this file.
         ensures { OnOk result
             (draft.new ≡ draft_with (entry_of_package self.now.file.items) draft.old) }
     {
@@ -112,6 +117,8 @@ fn write_package(
 ) -> Result<(), AllocError>
     // The id is the SHA-256 digest of the payload.
     requires { id.now ≡ sha256 (opened_payload pkg.now) }
+    // On Ok, the draft has one value more: the information of the package, with its id and the
+    // length of its file.
     ensures { OnOk result (draft.new ≡ draft_with
         (info_with_id_and_size (entry_in (opened_value pkg.now) PACKAGE_INFO) (sha256
         (opened_payload pkg.now))
