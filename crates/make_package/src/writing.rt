@@ -34,6 +34,7 @@ pub(crate) fn write_package(
     scripts: &[Script<'_>],
     size: u64,
 ) -> Result<(), AllocError>
+    // On Ok, the draft has one value more: the package with these parts.
     ensures { OnOk result (draft.new ≡ draft_with
         (package_with (information_value about.now size) (map packed_folder folders.now)
         (scripts_view scripts.now) (texts_of (values_of_letter TRIGGER values.now))
@@ -50,6 +51,7 @@ pub(crate) fn write_package(
 
 /// Writes the folders of a package, each with its files.
 fn write_paths(draft: &mut Draft, folders: &[Folder<'_>]) -> Result<(), AllocError>
+    // On Ok, the draft has one value more: the array of these entries, or Null if there are none.
     ensures { OnOk result (draft.new
         ≡ draft_with (array_or_null (plains_of_list (map packed_folder folders.now))) draft.old) }
 {
@@ -62,6 +64,7 @@ fn write_paths(draft: &mut Draft, folders: &[Folder<'_>]) -> Result<(), AllocErr
 
 /// Writes the entry of a folder: its name, its access list and its files.
 fn write_folder(draft: &mut Draft, folder: &Folder<'_>) -> Result<(), AllocError>
+    // On Ok, the draft has one value more: the entry of the folder.
     ensures { OnOk result (draft.new ≡ draft_with (packed_folder folder.now) draft.old) }
 {
     draft.open_list()?;
@@ -73,6 +76,7 @@ fn write_folder(draft: &mut Draft, folder: &Folder<'_>) -> Result<(), AllocError
 
 /// Writes the files of a folder.
 fn write_files(draft: &mut Draft, files: &[File<'_>]) -> Result<(), AllocError>
+    // On Ok, the draft has one value more: the array of these entries, or Null if there are none.
     ensures { OnOk result (draft.new
         ≡ draft_with (array_or_null (plains_of_list (map packed_file files.now))) draft.old) }
 {
@@ -85,6 +89,7 @@ fn write_files(draft: &mut Draft, files: &[File<'_>]) -> Result<(), AllocError>
 
 /// Writes the entry of a file: its name, access list, size, time, hash and target.
 fn write_file(draft: &mut Draft, file: &File<'_>) -> Result<(), AllocError>
+    // On Ok, the draft has one value more: the entry of the file.
     ensures { OnOk result (draft.new ≡ draft_with (packed_file file.now) draft.old) }
 {
     draft.open_list()?;
@@ -100,6 +105,7 @@ fn write_file(draft: &mut Draft, file: &File<'_>) -> Result<(), AllocError>
 
 /// Writes an access list: this mode, and `root` as user and as group.
 fn write_acl(draft: &mut Draft, mode: u64) -> Result<(), AllocError>
+    // On Ok, the draft has one value more: the access list.
     ensures { OnOk result (draft.new ≡ draft_with (access_value mode) draft.old) }
 {
     draft.open_list()?;
@@ -121,6 +127,7 @@ pub(crate) struct Script<'a> {
 /// Writes the scripts: a field for each type, in the order of table 6. A type without script is
 /// NULL.
 fn write_scripts(draft: &mut Draft, scripts: &[Script<'_>]) -> Result<(), AllocError>
+    // On Ok, the draft has one value more: the object of the scripts, or Null if there are none.
     ensures { OnOk result
         (draft.new ≡ draft_with (value_of_scripts (scripts_view scripts.now)) draft.old) }
 {
@@ -149,6 +156,7 @@ fn script_of<'a>(scripts: &'a [Script<'_>], kind: &[u8]) -> &'a [u8]
 
 /// Writes the triggers: the values of `-t`, in the order given.
 fn write_triggers(draft: &mut Draft, values: &Values) -> Result<(), AllocError>
+    // On Ok, the draft has one value more: the array of the texts of `-t`, or Null without `-t`.
     ensures { OnOk result (draft.new ≡ draft_with (array_or_null (plains_of_list (map blob_or_null
         (texts_of (values_of_letter TRIGGER values.now))))) draft.old) }
 {
