@@ -120,6 +120,7 @@ fn target(alloc: Global, text: &[u8]) -> Result<Text, AllocError>
 /// The text after the mark of a link. None is returned exactly if the bytes are no link.
 #[tactic(auto, unfolding(crate::specs::Package::is_link_file))]
 fn link_text(bytes: &[u8]) -> Option<&[u8]>
+    // None exactly if the bytes are not those of a link; otherwise the text after the mark.
     ensures { MatchOption result (is_link_file bytes.now ≡ false) (λ text.
         (is_link_file bytes.now ≡ true) × (text.now ≡ link_text bytes.now)) }
 {

@@ -25,8 +25,10 @@ impl<'a> Model for FolderNames<'a> {
 
     ghost Value = { List (List ℕ) };
 
+    // Contracts see the names of the folders.
     ghost view = { λ folders. map (λ name. name.now) folders.names.items };
 
+    // The names are in byte order, each once.
     ghost invariant = { λ folders. IsStrictlySortedBy (slice_cmp nat_cmp)
         (map (λ name. name.now) folders.names.items) };
 }
@@ -121,6 +123,7 @@ pub(crate) fn names_in_folders<'a>(
     names: &'a Names,
     folders: &FolderNames<'_>,
 ) -> Result<Vec<Vec<&'a Name>>, AllocError>
+    // There is a list for each folder, in the order of the folders.
     ensures { IfOk result (λ files. map names_borrowed files.items ≡ map
         (tree_names_in_package_folder dir.now names.now) folders.now) }
 {

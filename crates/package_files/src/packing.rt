@@ -34,6 +34,7 @@ const MOST_AROUND_FILE: usize = 16 + 8 + 7;
 /// Reserves room for `more` further bytes. If the buffer has to grow, it also gets room for an
 /// eighth of its length: so its room is not doubled, and it still grows seldom.
 fn reserve_room(bytes: &mut Vec<u8>, more: usize) -> Result<(), AllocError>
+    // The bytes are unchanged; only the room is larger.
     ensures { bytes.new.items ≡ bytes.old.items }
 {
     if bytes.capacity() - bytes.len() < more {
@@ -47,6 +48,7 @@ fn reserve_room(bytes: &mut Vec<u8>, more: usize) -> Result<(), AllocError>
 /// from 1. Room for the whole block is reserved first. A position of more than 32 bits is cut: a
 /// package with so many files exceeds the limits of a payload.
 fn begin_block(blocks: &mut Vec<u8>, position: (u64, u64), size: u64) -> Result<(), AllocError>
+    // On Ok, the header and the two positions are appended to the blocks.
     ensures { OnOk result (blocks.new.items
         ≡ blocks.old.items ++ contents_front position.0 position.1 size) }
 {
