@@ -62,6 +62,7 @@ pub(crate) fn package_of(alloc: Global, sizes: &[u32], flaw: Flaw) -> Result<Vec
 /// The payload of the block with the contents of the file with the index `i`, counted from 0, with
 /// a flaw.
 fn contents_with(alloc: Global, sizes: &[u32], i: usize, flaw: Flaw) -> Result<Vec<u8>, AllocError>
+    // The index is that of one of the files.
     requires { i < length sizes.now }
 {
     match flaw {
@@ -169,6 +170,7 @@ fn add_words(payload: &mut Vec<u8>, words: &[u32]) -> Result<u32, AllocError> {
 
 /// The low 28 bits of a number, which are the offset in a word of a payload.
 pub(crate) fn low_word(number: usize) -> u32
+    // The result has at most 28 bits.
     ensures { result < 2 ^ 28 }
 {
     (number & 0x0fff_ffff) as u32
