@@ -66,14 +66,17 @@ enum Question {
 // The first word of each question.
 #[rattlefmt::skip]
 const QUESTIONS: [(&[u8], Question); 26] = [
+    // Questions about names.
     (b"name", Question::Name),
     (b"names", Question::Names),
+    // Questions and calls to the sink.
     (b"new_sink", Question::NewSink),
     (b"fail_after", Question::SetSink),
     (b"take_at_most", Question::SetSink),
     (b"write", Question::Write),
     (b"write_all", Question::Write),
     (b"sink_bytes", Question::SinkBytesAndWants),
+    // Questions and calls to the tree.
     (b"new_tree", Question::NewTree),
     (b"put", Question::Put),
     (b"can_put", Question::Put),
@@ -87,6 +90,7 @@ const QUESTIONS: [(&[u8], Question); 26] = [
     (b"image", Question::Image),
     (b"turns", Question::Turns),
     (b"sync_names", Question::SyncNames),
+    // Calls that change a file of the tree, or sync it.
     (b"create", Question::Call),
     (b"append", Question::Call),
     (b"sync", Question::Call),
