@@ -1,5 +1,5 @@
--- Whether bytes are what a package's entry of a file says of them. The rules are in
--- `docs/commands.md`, "What a change does with files", what counts as changed; the fields in
+-- Whether bytes are what a package's entry of a file says of them. The rules are in `docs/commands.md`,
+-- "What a change does with files", part "Configuration files", the table; the fields in
 -- `docs/formats.md`, "Schemas", table 4.
 use Rattle.std.specs.Prelude.{ℕ, ◌==◌, Bool, not, ◌&&◌, if◌then◌else◌, List, ◌++◌, length, drop, codes, bytes_eq, is_none}
 use Rattle.adb_view.specs.Plain.{Plain}

@@ -1,5 +1,6 @@
 //! What an entry says of a file's bytes, and a comparison of a file of a tree with two entries. The
-//! rules are in `docs/commands.md`, "What a change does with files", what counts as changed.
+//! rules are in `docs/commands.md`, "What a change does with files", part "Configuration files",
+//! the table.
 
 ghost use Rattle.std.specs.Prelude.{◌≡◌, ℕ, List, length, Option, Some, IfOk};
 ghost use Rattle.std.specs.Option.{option_map};

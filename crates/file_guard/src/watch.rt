@@ -1,5 +1,6 @@
 //! A comparison of a file's bytes with an entry, piece by piece. It serves `compare_file`; the
-//! rules are in `docs/commands.md`, "What a change does with files", what counts as changed.
+//! rules are in `docs/commands.md`, "What a change does with files", part "Configuration files",
+//! the table.
 
 ghost use Rattle.std.specs.Prelude.{◌≡◌, ℕ, Bool, List, [], ◌++◌, Some};
 ghost use Rattle.file_guard.specs.Listed.{is_as_described};

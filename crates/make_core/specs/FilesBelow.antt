@@ -1,7 +1,6 @@
--- The files of a package: those below a folder of a tree.
--- The rule is in `docs/commands.md`, "`mkpkg`": "With `-F DIR` the package holds all files
--- below DIR, under their names below it." Serves the law
--- `a_made_package_has_the_files_below_its_folder`.
+-- The files of a package: those below a folder of a tree. The rule is in `docs/commands.md`, "`mkpkg`":
+-- "With `-F DIR`, the package contains all files below DIR, at their paths relative to DIR". Serves the
+-- law `a_made_package_has_the_files_below_its_folder`.
 use Rattle.std.specs.Prelude.{◌≡◌, ℕ, List, ◌∷◌, ◌++◌, map, Some, All}
 use Rattle.std.specs.List.Sorted.{IsPermutation}
 use Rattle.base_core.specs.Files.{Files}

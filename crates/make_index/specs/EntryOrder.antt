@@ -1,6 +1,5 @@
--- The order of the entries of an index.
--- The rule is in `docs/commands.md`, "`mkndx PACKAGE..`": "Packages are ordered by name,
--- version, the version's text and id".
+-- The order of the entries of an index. The rule is in `docs/commands.md`, "`mkndx PACKAGE..`": "The
+-- entries are sorted by name, then by version, then by the text of the version, and then by id".
 use Rattle.std.specs.Prelude.{ℕ, List}
 use Rattle.std.specs.Ordering.{on, then_cmp}
 use Rattle.std.specs.declared.cmp.Ordering.{Ordering}

@@ -1,7 +1,6 @@
--- The values of `-I` of a command: the field of each, among them the package's name and version, and
--- the file that is made.
--- The rules are in `docs/commands.md`, "`mkpkg`", the first paragraphs, and in "Words", the rows of
--- `-I` and `-o`.
+-- The values of `-I` of a command: the field of each, among them the package's name and version, and the
+-- file that is made. The rules are in `docs/commands.md`, "`mkpkg`", the first paragraph and part
+-- "Information", and in "Words", the rows of `-I` and `-o`.
 use Rattle.command_core.specs.declared.values.TheConstants.{INFO, OUTPUT}
 use Rattle.std.specs.Prelude.{ℕ, ◌+◌, ◌==◌, nat_lt, Bool, false, List, [], ◌∷◌, length, take, drop, position, Option, Some, None, option_map, option_and_then, is_some, not, ◌&&◌, if◌then◌else◌}
 use Rattle.std.specs.List.{filter}

@@ -1,6 +1,6 @@
--- A package that was made, and its contents in the terms of the format (apk-package(5)).
--- The rules are in `docs/commands.md`, "`mkpkg`", the paragraph on `-F DIR`; the names of fields in
--- `docs/formats.md`, "Schemas". It serves the laws of `src/packages.rt`.
+-- A package that was made, and its contents in the terms of the format (apk-package(5)). The rules are in
+-- `docs/commands.md`, "`mkpkg`", part "Files"; the names of fields in `docs/formats.md`, "Schemas". It
+-- serves the laws of `src/packages.rt`.
 use Rattle.command_core.specs.declared.values.TheConstants.{FILES, TRIGGER}
 use Rattle.std.specs.Prelude.{◌≡◌, ◌↔◌, ◌⊎◌, ◌==◌, ℕ, ◌+◌, ◌*◌, ◌^◌, ◌<◌, List, [], length, map, codes, sum_by, Ok, All}
 use Rattle.std.specs.List.{filter, flat_map}

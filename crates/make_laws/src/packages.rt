@@ -1,6 +1,5 @@
-//! The contents of a package that was made: laws over the definitions of `make_package`.
-//! The rules are in `docs/commands.md`, "`mkpkg`": the paragraph on `-F DIR`, and the options
-//! `-I`, `-s` and `-t`.
+//! The contents of a package that was made: laws over the definitions of `make_package`. The rules
+//! are in `docs/commands.md`, "`mkpkg`", parts "Information", "Scripts" and "Files".
 ghost use Rattle.make_core.specs.adb_fields.FirstPair.{IsIn};
 ghost use Rattle.make_core.specs.adb_fields.Repeated.{folders_in};
 ghost use Rattle.command_core.specs.Command.{CommandLine};

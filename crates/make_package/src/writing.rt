@@ -17,11 +17,12 @@ use command_core::{TRIGGER, Values};
 use package_files::{Draft, File, Folder, Information, write_number, write_size};
 use std::alloc::AllocError;
 
-/// The mode of every folder (493 in `docs/commands.md`, "`mkpkg`"): all may read and enter, and
-/// root may write.
+/// The mode of every folder (`docs/commands.md`, "`mkpkg`", part "Files"): all may read and enter,
+/// and root may write.
 const FOLDER_MODE: u64 = 0o755;
 
-/// The mode of every file (420 in `docs/commands.md`, "`mkpkg`"): all may read, and root may write.
+/// The mode of every file (`docs/commands.md`, "`mkpkg`", part "Files"): all may read, and root may
+/// write.
 const FILE_MODE: u64 = 0o644;
 
 /// Writes the value of a package with this information (`about`), these folders and scripts, the

@@ -1,5 +1,5 @@
--- The folders of a package, and the folder of each file below a folder of the tree.
--- The rule is in `docs/commands.md`, "`mkpkg`", the paragraph on `-F DIR`.
+-- The folders of a package, and the folder of each file below a folder of the tree. The rule is in
+-- `docs/commands.md`, "`mkpkg`", part "Files".
 use Rattle.std.specs.Prelude.{ℕ, ◌+◌, ◌==◌, Bool, if◌then◌else◌, List, [], ◌∷◌, length, drop, map, filter, bytes_eq}
 use Rattle.std.specs.List.{flat_map, before_last, after_last}
 use Rattle.std.specs.Ordering.{nat_cmp}

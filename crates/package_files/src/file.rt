@@ -1,6 +1,6 @@
-//! The packed files of a package, and what their bytes are (apk-package(5)).
-//! The rules are in `docs/commands.md`, "`mkpkg`", the paragraph on `-F DIR` (when a file is a
-//! symbolic link), and in `docs/formats.md`, "The texts", field 406 (its target).
+//! The packed files of a package, and what their bytes are (apk-package(5)). The rules are in
+//! `docs/commands.md`, "`mkpkg`", part "Files" (when a file is a symbolic link), and in
+//! `docs/formats.md`, "The texts", field 406 (its target).
 ghost use Rattle.std.specs.Prelude.{◌≡◌, ◌∷◌, true, false, IfOk, MatchOption};
 ghost use Rattle.std.specs.Str.{is_utf8};
 ghost use Rattle.package_files.specs.Package.{is_link_file, link_text, has_contents, kind_of_file, size_of_kind, hash_of_kind, target_of_kind};

@@ -1,6 +1,6 @@
-//! The folders of a package, and the folder of each file below a folder of the tree.
-//! The rule is in `docs/commands.md`, "`mkpkg`", the paragraph on `-F DIR`: "Its folders are
-//! the root and each folder that holds a file at any depth, in byte order".
+//! The folders of a package, and the folder of each file below a folder of the tree. The rule is in
+//! `docs/commands.md`, "`mkpkg`", part "Files": "The package lists DIR itself as the root folder.
+//! It also lists each folder below DIR that has a file at any depth".
 ghost use Rattle.std.specs.Prelude.{◌≡◌, ◌<◌, ◌≤◌, ◌+◌, ◌-◌, not, [], length, drop, map, replicate, slice_get, OnOk, IfOk};
 ghost use Rattle.std.specs.List.{suffix_len};
 ghost use Rattle.package_files.specs.Folders.{is_slash, folder_of, last_part_of, folders_above, with_folders_inserted, with_folder_inserted, path_relative_to, all_folders_above, tree_names_in_package_folder};

@@ -1,5 +1,5 @@
 -- A single file of a package that is read in pieces. The rules are in `docs/formats.md`, "The other
--- blocks", the paragraph of pieces. Serves the contracts of `FilePieces`.
+-- blocks", point 2 of the last list (the pieces). Serves the contracts of `FilePieces`.
 use Rattle.std.specs.Prelude.{◌≡◌, ◌<◌, ℕ, ◌+◌, ◌⊎◌, Bool, true, false, List, [], ◌++◌, length, Option, Some, None, option_map, Result, Ok, Err}
 use Rattle.base_core.specs.declared.cause.Cause.{Cause}
 use Rattle.pkg_core.specs.Contents.{ExpectedFile, hash_fault}

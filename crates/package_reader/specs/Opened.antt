@@ -1,6 +1,6 @@
 -- A file of a package that is read in pieces, in terms of the package's bytes. The rules are in
--- `docs/formats.md`, "The other blocks", the paragraph of pieces. Serves the contracts of `OpenFile`
--- and `open_at`.
+-- `docs/formats.md`, "The other blocks", point 2 of the last list (the pieces). Serves the contracts of
+-- `OpenFile` and `open_at`.
 use Rattle.std.specs.Prelude.{◌≡◌, ℕ, ◌+◌, ◌-◌, nat_lt, if◌then◌else◌, true, false, List, [], ◌++◌, length, take, drop, Option, Some, None, Result, Ok, Err}
 use Rattle.base_core.specs.declared.cause.Cause.{Cause}
 use Rattle.base_core.specs.declared.cause.Cause.TheVariants.{DataOrder, DataSize}

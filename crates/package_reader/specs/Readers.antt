@@ -1,6 +1,6 @@
 -- The position of a reader of the pieces of a package, and the result of a call. The rules are in
--- `docs/formats.md`, "The other blocks", the paragraph of pieces; the order of the files in the
--- paragraph above it. Serves the contracts of `PieceReader`.
+-- `docs/formats.md`, "The other blocks", point 2 of the last list; the order of the files in the second
+-- paragraph. Serves the contracts of `PieceReader`.
 use Rattle.std.specs.Prelude.{◌≡◌, ℕ, ◌+◌, ◌-◌, if◌then◌else◌, List, [], ◌∷◌, is_none, Option, Some, None, IfSome, Result, Ok, Err}
 use Rattle.base_core.specs.declared.cause.Cause.{Cause}
 use Rattle.pkg_core.specs.Contents.{ExpectedFile}

@@ -1,5 +1,5 @@
 //! The pieces of a single file of a package. The rules are in `docs/formats.md`, "The other
-//! blocks", the paragraph of pieces.
+//! blocks", point 2 of the last list (the pieces).
 
 ghost use Rattle.std.specs.Option.{ForSome};
 ghost use Rattle.std.specs.Prelude.{◌≡◌, ◌<◌, ◌≤◌, Some};

@@ -1,5 +1,5 @@
 //! A file of a package that is read in pieces. The rules are in `docs/formats.md`, "The other
-//! blocks", the paragraph of pieces.
+//! blocks", point 2 of the last list (the pieces).
 
 ghost use Rattle.std.specs.Prelude.{◌≡◌, ◌≤◌, ◌<◌, ◌+◌, ◌++◌, ◌^◌, [], ℕ, List, None, Some, length, IfNone, IfOk, IfSome, IsOkAnd};
 ghost use Rattle.std.specs.Result.{result_err};

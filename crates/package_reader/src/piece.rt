@@ -1,5 +1,5 @@
 //! The buffer of a piece, and why there is no next one. The rules are in `docs/formats.md`, "The
-//! other blocks", the paragraph of pieces.
+//! other blocks", point 2 of the last list (the pieces).
 
 ghost use Rattle.std.specs.Prelude.{◌≡◌, ◌≤◌, ◌+◌, ℕ, [], length, IfErr, OnOk};
 ghost use Rattle.pkg_core.specs.Seen.{AreBytesRead, ReadsFile};

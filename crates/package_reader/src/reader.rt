@@ -1,5 +1,5 @@
 //! A reader of the pieces of a package's files in order. The rules are in `docs/formats.md`, "The
-//! other blocks", the paragraph of pieces; the order of the files in the paragraph above it.
+//! other blocks", point 2 of the last list; the order of the files in the second paragraph.
 
 ghost use Rattle.std.specs.Option.{ForSome};
 ghost use Rattle.std.specs.Prelude.{◌≤◌, ◌≡◌, List};

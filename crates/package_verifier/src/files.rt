@@ -1,5 +1,5 @@
 //! The contents of a package's files are read once and tested, piece by piece. The rules are in
-//! `docs/formats.md`, "The other blocks", the paragraph of pieces.
+//! `docs/formats.md`, "The other blocks", point 2 of the last list (the pieces).
 
 ghost use Rattle.std.specs.Prelude.{◌≡◌, ℕ, List, Some, length, IfOk};
 ghost use Rattle.adb_block.specs.Reading.{block_stream_from};

@@ -1,7 +1,7 @@
 //! A package in a tree that was read and tested once. The rules are in `docs/formats.md`, "The
-//! other blocks", the last two paragraphs (the front, and pieces). What is kept of a package in
-//! memory is described in the README of this crate and in `docs/DECISIONS.md`, "Packages that are
-//! not held whole".
+//! other blocks", the last list (the front, and the pieces). What is kept of a package in memory is
+//! described in the README of this crate and in `docs/DECISIONS.md`, "Packages that are not in
+//! memory as a whole".
 
 ghost use Rattle.std.specs.Prelude.{◌≡◌, true, is_none};
 ghost use Rattle.package_reader.specs.adb_schema.Soundness.{payload_fault};

@@ -1,6 +1,6 @@
 //! The reader and the tests of a package in a tree: its front, its values, and then the blocks
 //! after them piece by piece. The rules are in `docs/formats.md`, "Tests of a container", and "The
-//! other blocks", the paragraphs of a front and of pieces.
+//! other blocks", the last list (the front, and the pieces).
 
 ghost use Rattle.std.specs.Prelude.{◌≡◌, ℕ, List, Option, Some, IfOk};
 ghost use Rattle.package_reader.specs.adb_schema.declared.read.TheConstants.{PACKAGE_WORD};

@@ -1,5 +1,5 @@
 //! Packages in a tree: their fronts (headers and first blocks), and their files, which are read in
-//! pieces. The tests are in `docs/formats.md`, "The other blocks", its last two paragraphs.
+//! pieces. The tests are in `docs/formats.md`, "The other blocks", the last list.
 
 use crate::made::{Flaw, low_word, package_of};
 use crate::{add_cause, add_part, small_number};

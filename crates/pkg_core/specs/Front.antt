@@ -1,6 +1,6 @@
 -- The front of a container: its header and its first block, and their tests. The rules are in
--- `docs/formats.md`, "The other blocks", the paragraph of a front; the tests in "Container", the table,
--- and "Values", the first paragraph.
+-- `docs/formats.md`, "The other blocks", point 1 of the last list (the front); the tests in "Container",
+-- the table, and "Values", the first paragraph.
 use Rattle.std.specs.Prelude.{◌≡◌, ℕ, ◌==◌, if◌then◌else◌, List, length, drop, Option, Some, None, Result, Ok, Err}
 use Rattle.base_core.specs.declared.cause.Cause.{Cause}
 use Rattle.base_core.specs.declared.cause.Cause.TheVariants.{WrongSchema}

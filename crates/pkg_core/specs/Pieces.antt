@@ -1,6 +1,5 @@
 -- The contents of a package's files in pieces, or the first failed test. The rules are in
--- `docs/formats.md`, "The other blocks", the paragraph of pieces; the tests in the paragraph of blocks
--- of contents above it.
+-- `docs/formats.md`, "The other blocks", point 2 of the last list; the tests in the first list.
 use Rattle.std.specs.Prelude.{ℕ, zero, suc, ◌-◌, ◌/◌, ◌==◌, ◌++◌, nat_lt, Bool, true, false, not, if◌then◌else◌, List, [], ◌∷◌, length, take, drop, Option, Some, None}
 use Rattle.base_core.specs.declared.cause.Cause.{Cause}
 use Rattle.base_core.specs.declared.cause.Cause.TheVariants.{Truncated, DataOrder, DataSize}

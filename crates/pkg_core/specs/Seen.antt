@@ -1,6 +1,6 @@
--- Which bytes of a file were read, and the effect of reads on the tree. The result of a read of a tree
--- is defined in `docs/crash-safety.md`, "What each call does". That the tests depend only on bytes that
--- were read is stated in `docs/formats.md`, "The other blocks", the paragraph of a front.
+-- Which bytes of a file were read, and the effect of reads on the tree. The result of a read of a tree is
+-- defined in `docs/crash-safety.md`, "What each call does". That the tests depend only on bytes that were
+-- read is stated in `docs/formats.md`, "The other blocks", point 1 of the last list (the front).
 use Rattle.std.specs.Prelude.{◌≡◌, ◌≤◌, ℕ, ◌+◌, List, length, take, drop, Some, IfSome, Result, OnOk, IfErr, IsErrOf}
 use Rattle.base_core.specs.Calls.{IfObservable}
 use Rattle.base_core.specs.Faults.{Counts, CountsOnlyRise, IsFaultCountedWithCause, CountsNoNewFault}

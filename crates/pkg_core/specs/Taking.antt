@@ -1,5 +1,5 @@
--- The progress of a file whose bytes are taken in pieces. The rules are in `docs/formats.md`, "The
--- other blocks", the paragraph of pieces. Serves the contracts of `FileCheck` and `open_file`.
+-- The progress of a file whose bytes are taken in pieces. The rules are in `docs/formats.md`, "The other
+-- blocks", point 2 of the last list (the pieces). Serves the contracts of `FileCheck` and `open_file`.
 use Rattle.std.specs.Prelude.{◌≡◌, ℕ, ◌-◌, min, true, false, List, [], ◌++◌, length, Option, Some, None, Result, Ok, Err}
 use Rattle.base_core.specs.declared.cause.Cause.{Cause}
 use Rattle.pkg_core.specs.Contents.{contents_bytes, hash_fault}

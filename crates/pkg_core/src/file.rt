@@ -1,6 +1,5 @@
 //! The check of one file of a package whose contents are taken in pieces. The rules are in
-//! `docs/formats.md`, "The other blocks", the paragraph of pieces; the tests in the paragraph of
-//! blocks of contents above it.
+//! `docs/formats.md`, "The other blocks", point 2 of the last list; the tests in the first list.
 
 ghost use Rattle.std.specs.Prelude.{◌≡◌, ◌<◌, ◌≤◌, ◌+◌, ◌-◌, ℕ, List, [], ◌∷◌, ◌++◌, length, take, None, IfNone, IfOk, IfSome};
 ghost use Rattle.adb_schema.specs.Soundness.{contents_positions};

@@ -1,5 +1,5 @@
 //! The front of a container in a tree: its header and its first block. The rules are in
-//! `docs/formats.md`, "The other blocks", the paragraph of a front.
+//! `docs/formats.md`, "The other blocks", point 1 of the last list (the front).
 
 ghost use Rattle.std.specs.Prelude.{◌≤◌};
 

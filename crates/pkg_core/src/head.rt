@@ -1,5 +1,5 @@
 //! The header of a block in a file of a tree. The rules are in `docs/formats.md`, "Container", the
-//! paragraph of a block.
+//! second paragraph and the table of a long header.
 
 ghost use Rattle.std.specs.Prelude.{◌≡◌, ◌≤◌, ◌<◌, ◌+◌, ◌^◌, ℕ, [], ◌++◌, length, IfOk};
 ghost use Rattle.adb_block.specs.Frames.{IsHeadPrefix, head_len};

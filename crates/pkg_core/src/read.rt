@@ -1,5 +1,6 @@
 //! The reader of a container's front in a tree. The rules are in `docs/formats.md`, "The other
-//! blocks", the paragraph of a front; the tests and their order in "Container", the table.
+//! blocks", point 1 of the last list (the front); the tests and their order in "Container", the
+//! table.
 
 ghost use Rattle.std.specs.Prelude.{◌≡◌, ◌≤◌, ◌+◌, ◌-◌, ℕ, List, Option, None, true, length, min, take, IfOk, IfErr, IfSome};
 ghost use Rattle.adb_block.specs.Framing.{next_step};
