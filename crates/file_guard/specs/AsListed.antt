@@ -55,7 +55,7 @@ abbrev pub is_as_listed : Plain → List ℕ → Bool
 is_as_listed entry bytes =
     is_as_listed_by_size_hash_target (file_size entry) (file_hash entry) (file_target entry) bytes
 
--- whether two entries describe the same bytes: their sizes, hashes and targets are equal
+-- whether two entries of files give the same size, the same hash and the same target
 unfoldable pub do_entries_agree : Plain → Plain → Bool
 do_entries_agree a b =
     (file_size a == file_size b)

@@ -86,7 +86,8 @@ abbrev pub package_version_in : List OptionValue → Option (List ℕ)
 package_version_in values =
     option_and_then (value_if_passes is_version) (first_text_for Fields.Version values)
 
--- the name of a package's file, NAME-VERSION.apk; None if its name or its version is lacking
+-- the name of a package's file, NAME-VERSION.apk, from the package's name and version; None if one of
+-- them is None
 abbrev pub package_file_name_of : Option (List ℕ) → Option (List ℕ) → Option (List ℕ)
 package_file_name_of name version =
     option_and_then (λ name. option_map (package_file_name name) version) name

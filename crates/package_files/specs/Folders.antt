@@ -52,7 +52,7 @@ with_folder_inserted name [] = name ∷ []
 with_folder_inserted name (x ∷ xs) =
     with_folder_inserted_by_order (slice_cmp nat_cmp name x) name x xs (with_folder_inserted name xs)
 
--- a sorted list of names with the names of another list inserted, one by one
+-- the sorted list `so_far` with the names of the other list inserted, one by one
 abbrev pub with_folders_inserted : List (List ℕ) → List (List ℕ) → List (List ℕ)
 with_folders_inserted so_far [] = so_far
 with_folders_inserted so_far (name ∷ names) = with_folders_inserted (with_folder_inserted name so_far) names
@@ -70,7 +70,7 @@ pub record FolderListing : Type 0 where
   -- the names in the tree of the files directly in this folder
   pub files : List (List ℕ)
 
--- the path, relative to a folder, of a name below it: the name without the folder and the slash
+-- the path of `name` relative to the folder `folder` above it: the name without the folder and the slash
 -- after it
 abbrev pub path_relative_to : List ℕ → List ℕ → List ℕ
 path_relative_to folder name = drop (length folder + 1) name

@@ -39,7 +39,8 @@ next_read_offset place (Some o) = o.at
 abbrev pub offset_of : PieceReader → ℕ
 offset_of reader = next_read_offset reader.place reader.opened
 
--- the files whose last piece is still to be read: the open file, and those that the walk has left
+-- the files whose last piece is still to be read: the open file, if one is open, and those that the walk
+-- has left
 abbrev pub files_to_read_in : BlockPlace → Option OpenFile → List ExpectedFile
 files_to_read_in place None = files_left_in_walk place.walk
 files_to_read_in place (Some o) = expected_of o.file.wanted ∷ files_left_in_walk place.walk
@@ -112,8 +113,8 @@ pub record IsOfFirstExpected (before : List ExpectedFile) (part : Part)
   -- the first one is still expected unless this was its last piece
   pub left : after ≡ (if part.last then others else first ∷ others)
 
--- the expected files before and after a call: the pieces are in the order of the files, and at the end
--- no file is expected
+-- the files that are expected `before` and `after` a call for the next piece. A piece is one of the first
+-- expected file; without a piece no file was expected
 abbrev pub IsReturnedInOrder : List ExpectedFile → Option Part → List ExpectedFile → Type 0
 IsReturnedInOrder before None after = before ≡ []
 IsReturnedInOrder before (Some part) after = IsOfFirstExpected before part after
@@ -199,7 +200,8 @@ pub record IsStartOf (old : PieceReader) (o : OpenFile) (start : ℕ) : Type 0 w
   -- if a file was already open, it began at the same offset
   pub same : IfSome old.opened (λ o. start ≡ start_of_file old)
 
--- the result of reading the next piece, as *ReturnsNextPiece*, without a promise after a failed test
+-- the result of reading the next piece, as in *ReturnsNextPiece*; after the end or a failed test, nothing
+-- is stated of the pieces that later calls return
 abbrev pub IsPieceRead : PieceReader → List ℕ → PiecesRead → List ℕ
     → Result (Option Part) PieceFault → Type 0
 IsPieceRead new pkg before bytes (Ok (Some part)) = (after : PiecesRead)

@@ -69,7 +69,8 @@ abbrev pub is_before_file : ℕ → ℕ → ℕ → ℕ → Bool
 is_before_file folder file other_folder other_file =
     nat_lt folder other_folder || ((folder == other_folder) && nat_lt file other_file)
 
--- each of these places is of a file after the one with these positions
+-- each of these places is that of a file after the file at the position `file` in the folder at the
+-- position `folder`
 abbrev pub ArePlacedAfter : ℕ → ℕ → List FilePlace → Type 0
 ArePlacedAfter folder file [] = Unit {0}
 ArePlacedAfter folder file (place ∷ places) =
@@ -85,7 +86,8 @@ AreInFileOrder (place ∷ places) =
 abbrev pub is_place_of : ℕ → ℕ → FilePlace → Bool
 is_place_of folder file place = (place.folder == folder) && (place.file == file)
 
--- the offset at which the file with these positions begins, if its place is among these
+-- the offset at which the contents begin of the file at the position `file` in the folder at the position
+-- `folder`; None if its place is not among these
 abbrev pub offset_of_file : ℕ → ℕ → List FilePlace → Option ℕ
 offset_of_file folder file places =
     option_map (λ place. place.at) (find (is_place_of folder file) places)

@@ -34,8 +34,8 @@ pub record ExpectedFile : Type 0 where
   -- its digest
   pub hash : List ℕ
 
--- the file `file` at the position `i` of a folder, if the file has contents: it has no target, and its
--- size is above 0
+-- the expected file for the entry `file`, at the position `i` in the folder at the position `folder`; no
+-- element if the file has no contents. A file has contents if it has no target, and its size is above 0
 abbrev pub expected_at : ℕ → ℕ → Plain → List ExpectedFile
 expected_at folder i file =
     if is_file_with_contents file
@@ -193,7 +193,8 @@ contents_fault es r = fault_of_files_read (files_read_from_blocks es r)
 
 -- ---- the bytes of one file
 
--- whether contents are of the file at these positions
+-- whether these contents are those of the file at the position `file` in the folder at the position
+-- `folder`
 abbrev pub is_contents_of_file : ℕ → ℕ → Contents → Bool
 is_contents_of_file folder file contents = (contents.folder == folder) && (contents.file == file)
 
@@ -202,7 +203,7 @@ abbrev pub bytes_or_none : Option Contents → List ℕ
 bytes_or_none None = []
 bytes_or_none (Some contents) = contents.bytes
 
--- the bytes of the file with these positions, among the contents of a package; a file without contents
--- is empty
+-- the bytes of the file at the position `file` in the folder at the position `folder`, among the contents
+-- of a package; no bytes if none of the contents is that of the file
 abbrev pub bytes_of_file : ℕ → ℕ → List Contents → List ℕ
 bytes_of_file folder file contents = bytes_or_none (find (is_contents_of_file folder file) contents)

@@ -21,8 +21,8 @@ front_block_fault done = None
 front_block_fault (fault c) = Some c
 front_block_fault (more b at r) = payload_head_fault b.payload
 
--- the first failed test of the front of a file with this result for its header; the file must have
--- this schema
+-- the first failed test of the front of a file that must have the schema `schema`, given the result of
+-- reading its header: the schema found, or a fault
 abbrev pub front_fault_after_header : ℕ → List ℕ → Result ℕ Cause → Option Cause
 front_fault_after_header schema file (Err c) = Some c
 front_fault_after_header schema file (Ok found) =
@@ -88,7 +88,8 @@ IsFrontRead schema (Some file) (Err Memory) = Unit {0}
 
 -- ---- the front of a file that exists
 
--- the position of a reader of blocks after the first block of a file, which ends at this offset
+-- the position of a reader of the blocks of this file after the first block, which ends at the offset
+-- `at`
 abbrev pub position_after_first_block : ℕ → ℕ → List ℕ → ReaderPosition
 position_after_first_block schema at file =
     record { schema = schema; last = Some Adb; at = at; left = drop at file }

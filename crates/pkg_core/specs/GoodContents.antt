@@ -29,7 +29,7 @@ AreContentsOf (e ∷ es) (contents ∷ others) = IsContentsOf e contents × AreC
 
 -- ---- if the values of the package are good
 
--- the digest is that of the bytes, by one of the three functions
+-- `hash` is the digest of the bytes by SHA-1, SHA-256 or SHA-512
 abbrev pub IsDigestOf : List ℕ → List ℕ → Type 0
 IsDigestOf hash bytes = (hash ≡ sha1 bytes) ⊎ ((hash ≡ sha256 bytes) ⊎ (hash ≡ sha512 bytes))
 

@@ -21,8 +21,9 @@ use Rattle.pkg_core.specs.declared.walk.FileContents.{FileContents}
 abbrev pub contents_view : FileContents → Contents
 contents_view f = record { folder = f.path; file = f.file; bytes = f.bytes.now }
 
--- the result of a call for the next file, by the files left before and after it: the next file; None if
--- no file is left; or the first failed test, which each later call returns again
+-- the result of a call for the next file; `before` are the files that were left before the call, and
+-- `after` those left after it. It is the first file left; None if no file is left; or the first failed
+-- test, which each later call returns again
 abbrev pub IsNextFile : FilesRead → Result (Option FileContents) Cause → FilesRead → Type 0
 IsNextFile before (Ok None) after = (before ≡ no_more) × (after ≡ no_more)
 IsNextFile before (Ok (Some f)) after = before ≡ given (contents_view f) after
@@ -30,7 +31,7 @@ IsNextFile before (Err c) after = (before ≡ refused c) × (after ≡ refused c
 
 -- ---- the walk over the files
 
--- the file that is wanted next
+-- the wanted file, as contracts see it
 abbrev pub expected_of : Wanted → ExpectedFile
 expected_of w = record { folder = w.folder; file = w.file; size = w.size; hash = w.hash.now }
 
@@ -48,19 +49,20 @@ files_left_in_walk walk =
     files_left_from (walk.folder + 1) walk.file
     (drop walk.folder (list_of (entries_in (list_value walk.folders))))
 
--- the walk takes the first of the files before it and has the others after it, or returns None if there
--- is none
+-- the walk returns the first of the files that were left (`before`), and the others are left then
+-- (`after`); or None, if no file was left
 abbrev pub TakesFirstExpected : List ExpectedFile → Option Wanted → List ExpectedFile → Type 0
 TakesFirstExpected before None after = (before ≡ []) × (after ≡ [])
 TakesFirstExpected before (Some w) after = before ≡ expected_of w ∷ after
 
 -- ---- one file
 
--- whether a file is the one at these positions
+-- whether the expected file `e` is at the position `file` in the folder at the position `folder`
 abbrev pub is_expected_at : ℕ → ℕ → ExpectedFile → Bool
 is_expected_at folder file e = (e.folder == folder) && (e.file == file)
 
--- the file with these positions among files that have contents, if it is there
+-- the file at the position `file` in the folder at the position `folder`, among these expected files;
+-- None if it is not there
 abbrev pub expected_file_at : ℕ → ℕ → List ExpectedFile → Option ExpectedFile
 expected_file_at folder file es = find (is_expected_at folder file) es
 

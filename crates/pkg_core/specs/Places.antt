@@ -63,14 +63,14 @@ place_after place frame = record {
   at = place.at + whole_size frame (place.len - place.at);
 }
 
--- all bytes of a file that a step opened are still to be taken: those of the block's payload after the
--- positions
+-- if the step opened a file, all its bytes are still to be taken: those of the payload of the block of
+-- this frame after the positions
 abbrev pub HasWholeFileLeft : Frame → Step → Type 0
 HasWholeFileLeft frame End = Unit {0}
 HasWholeFileLeft frame Passed = Unit {0}
 HasWholeFileLeft frame (Opened f) = POSITIONS_LEN + file_bytes_left f ≡ frame.payload_len
 
--- a step opens a file only by a block of contents
+-- if the step opened a file, the block of this frame is one of contents
 abbrev pub OpensOnlyContents : Frame → Step → Type 0
 OpensOnlyContents frame End = Unit {0}
 OpensOnlyContents frame Passed = Unit {0}
@@ -83,8 +83,9 @@ IsWalkAfterStep before Passed after = after ≡ before
 IsWalkAfterStep before (Opened f) after =
     files_left_in_walk before ≡ expected_of f.wanted ∷ files_left_in_walk after
 
--- the result of a step at a place of this file: no block is left; a block was passed; the contents of a
--- file begin, and the pieces after them are those from the new position; or the first failed test
+-- the result of a step from the place `before` of this file to the place `after`. `End`: no piece is
+-- left. `Passed`: the pieces are those from the new place on. `Opened`: the pieces are those of the
+-- opened file, and then those from the new place on. Or the first failed test
 abbrev pub IsStepResult : Option Frame → BlockPlace → List ℕ → Result Step Cause → BlockPlace → Type 0
 IsStepResult framing before file (Ok End) after = pieces_at before file ≡ no_piece
 IsStepResult framing before file (Ok Passed) after = pieces_at before file ≡ pieces_at after file

@@ -7,21 +7,21 @@ use Rattle.base_core.specs.Faults.{Counts, CountsOnlyRise, IsFaultCountedWithCau
 use Rattle.base_core.specs.Tree.{TreeState, files_of}
 use Rattle.base_core.specs.declared.tree.Disk.{Disk}
 
--- the file has these bytes at an offset
+-- the file has these bytes from the offset `at` on
 abbrev pub HasBytesAtOffset : List ℕ → ℕ → List ℕ → Type 0
 HasBytesAtOffset file at bytes = take (length bytes) (drop at file) ≡ bytes
 
--- a read saw these bytes: if the tree is observable, and the file under this name has this length, it
--- has them at this offset
+-- a read of the file under this name, from the offset `at` on, returned these bytes. If the tree is
+-- observable, and its file has the length `len`, the file has these bytes there
 abbrev pub AreBytesRead : List TreeState → List ℕ → ℕ → ℕ → List ℕ → Type 0
 AreBytesRead history name len at bytes =
     IfObservable history
     (λ v. IfSome (files_of v name) (λ file. length file ≡ len → HasBytesAtOffset file at bytes))
 
--- a read saw these bytes, and they are within a file of this length
+-- a read from the offset `at` on returned these bytes, and they end within a file of the length `len`
 pub record IsSeenIn (history : List TreeState) (name : List ℕ) (len at : ℕ)
     (bytes : List ℕ) : Type 0 where
-  -- a read saw these bytes at the offset
+  -- the read returned these bytes
   pub seen : AreBytesRead history name len at bytes
   -- they end within the length
   pub within : at + length bytes ≤ len

@@ -51,14 +51,16 @@ IsTakeResult f so_far bytes left further (Ok (part, None)) =
 IsTakeResult f so_far bytes left further (Err c) =
     pieces_in f so_far (bytes ++ left) further ≡ refusal c
 
--- the result is a part of this file, and, unless it is the last, the same file with its rest
+-- the returned part is of this file. If it is not the last one, the check of the rest of the same file is
+-- returned with it
 abbrev pub IsPartOfCheckedFile : FileCheck → Part × Option FileCheck → Type 0
 IsPartOfCheckedFile f (part, Some g) =
     (part ≡ part_of (expected_of f.wanted) false) × (g.wanted ≡ f.wanted)
 IsPartOfCheckedFile f (part, None) = part ≡ part_of (expected_of f.wanted) true
 
--- the result of opening a file for a block of contents with this payload: the contents are those of a
--- file of which nothing was taken yet; or the first failed test
+-- the result of opening the file of a block of contents with this payload; `before` are the pieces from
+-- this block on, and `further` those after it. The check of a file of which no bytes were taken yet: the
+-- pieces are those of its bytes, and then the further ones. Or the first failed test
 abbrev pub IsOpenResult : PiecesRead → List ℕ → PiecesRead → Result FileCheck Cause → Type 0
 IsOpenResult before payload further (Ok f) =
     (before ≡ pieces_in f [] (contents_bytes payload) further) × HasTaken f []
