@@ -215,7 +215,7 @@ fn write_index(
     description: &[u8],
     entries: &[Entry],
 ) -> Result<(), AllocError>
-    // On Ok, the draft has the values that are written here, as one value more.
+    // On Ok, the draft has one value more: the object of the index.
     ensures { OnOk result (draft.new
         ≡ draft_with (value_of_index description.now (map entry_view entries.now)) draft.old) }
 {
@@ -227,7 +227,7 @@ fn write_index(
 
 /// Writes entries as an array, in their order.
 fn write_entries(alloc: Global, draft: &mut Draft, entries: &[Entry]) -> Result<(), AllocError>
-    // On Ok, the draft has the values that are written here, as one value more.
+    // On Ok, the draft has one value more: the array of the entries, or Null if there are none.
     ensures { OnOk result (draft.new
         ≡ draft_with (array_or_null (plains_of_list (map entry_view entries.now))) draft.old) }
 {

@@ -55,7 +55,8 @@ pub(crate) fn next_block<'a, T: Tree>(
     // The place is within the file.
     requires { place.old.at ≤ place.old.len }
     // The bytes `seen` were read from the old place on, and end no later than the next read begins.
-    // For each package of this length that has them there, the result is that of the definition.
+    // For each package of this length that has them there, the result is that for the block at the
+    // old place (*IsNextBlock*).
     ensures block { (seen : List ℕ)
         × IsSeenIn (T.history tree.old) name.now place.old.len place.old.at seen
         × IfOk result (λ step. ReadEndsBeforeNext (place.old.at + length seen) step place.new)
@@ -71,7 +72,7 @@ pub(crate) fn next_block<'a, T: Tree>(
     // the new place.
     ensures further { IfOk result (λ step. IsAtLaterPlace place.old step place.new) }
     // The tree is unchanged. `Disk` is returned only if the tree failed, and no call is a misuse if
-    // the file still has its length.
+    // the tree has a file of this length under the name.
     ensures tree { ReadsFile name.now place.old.len DiskFault (T.history tree.old)
         (T.history tree.new) (T.counts tree.old) (T.counts tree.new) result }
 {
@@ -126,7 +127,7 @@ pub(crate) fn read_block<T: Tree>(
         × ((file : List ℕ) → length file ≡ place.now.len → HasBytesAtOffset file place.now.at seen
         → IsBlockRead place.now file result) }
     // The tree is unchanged. `Disk` is returned only if the tree failed, and no call is a misuse if
-    // the file still has its length.
+    // the tree has a file of this length under the name.
     ensures tree { ReadsFile name.now place.now.len DiskFault (T.history tree.old)
         (T.history tree.new) (T.counts tree.old) (T.counts tree.new) result }
 {
@@ -155,7 +156,7 @@ fn read_positions<T: Tree>(
     // The only error is that the tree failed.
     ensures disk { IfErr result (λ fault. fault ≡ DiskFault) }
     // The tree is unchanged. `Disk` is returned only if the tree failed, and no call is a misuse if
-    // the file still has its length.
+    // the tree has a file of this length under the name.
     ensures tree { (file_len : ℕ) → at ≤ file_len
         → IfSome framing (λ frame. at + raw_size frame ≤ file_len)
         → ReadsFile name.now file_len DiskFault (T.history tree.old) (T.history tree.new)
@@ -179,7 +180,8 @@ pub(crate) fn next_file<'a, T: Tree>(
     // The place is within the file.
     requires { place.old.at ≤ place.old.len }
     // The bytes `seen` were read from the old place on, and end no later than the next read begins.
-    // For each package of this length that has them there, the result is that of the definition.
+    // For each package of this length that has them there, the result is the next of its files with
+    // contents, or None (*IsFileFound*).
     ensures file { (seen : List ℕ)
         × IsSeenIn (T.history tree.old) name.now place.old.len place.old.at seen
         × IfOk result (λ found. IfSome found (λ next.
@@ -197,7 +199,7 @@ pub(crate) fn next_file<'a, T: Tree>(
     ensures room { IfOk result (λ found. IfSome found (λ next.
         next.at + file_bytes_left next.file ≤ place.new.at)) }
     // The tree is unchanged. `Disk` is returned only if the tree failed, and no call is a misuse if
-    // the file still has its length.
+    // the tree has a file of this length under the name.
     ensures tree { ReadsFile name.now place.old.len DiskFault (T.history tree.old)
         (T.history tree.new) (T.counts tree.old) (T.counts tree.new) result }
 {

@@ -182,7 +182,7 @@ impl<'a> FilePieces<'a> {
         // The length of the package is unchanged.
         ensures len { package_len_of_file self.new ≡ package_len_of_file self.old }
         // The tree is unchanged. `Disk` is returned only if the tree failed, and no call is a
-        // misuse if the file still has its length.
+        // misuse if the tree has a file of this length under the name.
         ensures tree { ReadsFile (package_name_of_file self.old) (package_len_of_file self.old)
             DiskFault
             (T.history tree.old) (T.history tree.new) (T.counts tree.old) (T.counts tree.new)
@@ -223,7 +223,7 @@ impl<'a> FilePieces<'a> {
         // The length of the package is unchanged.
         ensures len { package_len_of_file self.new ≡ package_len_of_file self.old }
         // The tree is unchanged. `Disk` is returned only if the tree failed, and no call is a
-        // misuse if the file still has its length.
+        // misuse if the tree has a file of this length under the name.
         ensures tree { ReadsFile (package_name_of_file self.old) (package_len_of_file self.old)
             DiskFault
             (T.history tree.old) (T.history tree.new) (T.counts tree.old) (T.counts tree.new)

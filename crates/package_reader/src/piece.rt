@@ -73,7 +73,7 @@ impl Piece {
         ensures seen { OnOk result ((file_len : ℕ)
             → AreBytesRead (T.history tree.old) name.now file_len at self.new) }
         // The tree is unchanged. `Disk` is returned only if the tree failed, and no call is a
-        // misuse if the file still has its length.
+        // misuse if the tree has a file of this length under the name.
         ensures tree { (file_len : ℕ) → at + len ≤ file_len
             → ReadsFile name.now file_len DiskFault (T.history tree.old) (T.history tree.new)
             (T.counts tree.old) (T.counts tree.new) result }

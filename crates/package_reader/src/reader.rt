@@ -101,9 +101,11 @@ impl<'a> PieceReader<'a> {
         requires { place.at ≤ place.len }
         // The reader reads the package of the given name.
         ensures name { name_in_tree result ≡ name.entry.now }
-        // The reader is at the given place, no file is open, and files may be left.
+        // The reader is at the given place.
         ensures place { result.place ≡ place.entry }
+        // No file is open.
         ensures opened { result.opened ≡ None }
+        // No test failed, and the last block was not passed.
         ensures due { result.due ≡ Files }
     {
         PieceReader {
@@ -170,7 +172,7 @@ impl<'a> PieceReader<'a> {
         // The length of the package is unchanged.
         ensures len { package_len self.new ≡ package_len self.old }
         // The tree is unchanged. `Disk` is returned only if the tree failed, and no call is a
-        // misuse if the file still has its length.
+        // misuse if the tree has a file of this length under the name.
         ensures tree { ReadsFile (name_in_tree self.old) (package_len self.old) DiskFault
             (T.history tree.old) (T.history tree.new) (T.counts tree.old) (T.counts tree.new)
             result }
@@ -224,7 +226,7 @@ impl<'a> PieceReader<'a> {
         // The length of the package is unchanged.
         ensures len { package_len self.new ≡ package_len self.old }
         // The tree is unchanged. `Disk` is returned only if the tree failed, and no call is a
-        // misuse if the file still has its length.
+        // misuse if the tree has a file of this length under the name.
         ensures tree { ReadsFile (name_in_tree self.old) (package_len self.old) DiskFault
             (T.history tree.old) (T.history tree.new) (T.counts tree.old) (T.counts tree.new)
             result }
@@ -251,8 +253,8 @@ impl<'a> PieceReader<'a> {
         piece: &mut Piece,
     ) -> Result<Option<Part>, PieceFault>
         // The bytes `seen` were read from the old offset on; they end where the next read begins,
-        // if there is one. For each package of this length that has them there, the result is that
-        // of the definition.
+        // if there is one. For each package of this length that has them there, the result is the
+        // next of the pieces that were to be read (*IsPieceRead*).
         ensures piece { (seen : List ℕ)
             × IsSeenIn (T.history tree.old) (name_in_tree self.old) (package_len self.old)
             (offset_of self.old) seen
@@ -284,7 +286,7 @@ impl<'a> PieceReader<'a> {
         // The length of the package is unchanged.
         ensures len { package_len self.new ≡ package_len self.old }
         // The tree is unchanged. `Disk` is returned only if the tree failed, and no call is a
-        // misuse if the file still has its length.
+        // misuse if the tree has a file of this length under the name.
         ensures tree { ReadsFile (name_in_tree self.old) (package_len self.old) DiskFault
             (T.history tree.old) (T.history tree.new) (T.counts tree.old) (T.counts tree.new)
             result }
@@ -302,8 +304,8 @@ impl<'a> PieceReader<'a> {
     /// The file that is open, or the next one; None after the last block.
     fn open_next<T: Tree>(&mut self, tree: &mut T) -> Result<Option<OpenFile<'a>>, PieceFault>
         // The bytes `seen` were read from the old offset on; they end where the next read begins,
-        // if there is one. For each package of this length that has them there, the result is that
-        // of the definition.
+        // if there is one. For each package of this length that has them there, the result is the
+        // file of the next piece, or None if no piece is left (*IsFileOpened*).
         ensures file { (seen : List ℕ)
             × IsSeenIn (T.history tree.old) (name_in_tree self.old) (package_len self.old)
             (offset_of self.old) seen
@@ -332,7 +334,7 @@ impl<'a> PieceReader<'a> {
         // The length of the package is unchanged.
         ensures len { package_len self.new ≡ package_len self.old }
         // The tree is unchanged. `Disk` is returned only if the tree failed, and no call is a
-        // misuse if the file still has its length.
+        // misuse if the tree has a file of this length under the name.
         ensures tree { ReadsFile (name_in_tree self.old) (package_len self.old) DiskFault
             (T.history tree.old) (T.history tree.new) (T.counts tree.old) (T.counts tree.new)
             result }

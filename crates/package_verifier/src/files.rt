@@ -47,7 +47,7 @@ pub(crate) fn read_files<T: Tree>(
         (expected_files_of_package (value_of_contents contents.now))
         (block_stream_from (position_after_front front.now pkg))) pkg test)) }
     // The tree is unchanged. `Disk` is returned only if the tree failed, and no call is a misuse if
-    // the file still has its length.
+    // the tree has a file of this length under the name.
     ensures tree { ReadsFile name.now (front_file_len front.now) DiskFault (T.history tree.old)
         (T.history tree.new) (T.counts tree.old) (T.counts tree.new) result }
 {

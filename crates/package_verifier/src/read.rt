@@ -125,7 +125,7 @@ fn test_values_and_files<T: Tree>(
     // If no test failed, the payload of the front passes all tests of its values.
     ensures payload { IfOk result (HasSoundPayload front.now) }
     // The tree is unchanged. `Disk` is returned only if the tree failed, and no call is a misuse if
-    // the file still has its length.
+    // the tree has a file of this length under the name.
     ensures tree { ReadsFile name.now (front_file_len front.now) DiskFault (T.history tree.old)
         (T.history tree.new) (T.counts tree.old) (T.counts tree.new) result }
 {

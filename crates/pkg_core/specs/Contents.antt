@@ -149,7 +149,8 @@ abbrev pub files_unless_fault : Option Cause → FilesRead → FilesRead
 files_unless_fault None files = files
 files_unless_fault (Some c) files = refused c
 
--- the contents of an expected file: the bytes after its positions
+-- the contents of the expected file `e`, from a block with this payload: the bytes after the two
+-- positions
 abbrev pub contents_of_expected : List ℕ → ExpectedFile → Contents
 contents_of_expected payload e = record { folder = e.folder; file = e.file; bytes = contents_bytes payload }
 

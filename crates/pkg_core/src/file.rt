@@ -134,8 +134,8 @@ pub fn open_file<'a>(
 ) -> Result<FileCheck<'a>, Cause>
     // The payload has at least the two positions of contents.
     requires { POSITIONS_LEN ≤ len }
-    // For each payload of this length that begins with these positions, the result is that of the
-    // definition. `further` gives the pieces of the blocks after this one.
+    // For each payload of this length that begins with these positions, the result is that of
+    // *IsOpenResult*. `further` gives the pieces of the blocks after this one.
     ensures opened { (payload : List ℕ) (further : List ExpectedFile → PiecesRead)
         → length payload ≡ len → take POSITIONS_LEN payload ≡ positions.now
         → IsOpenResult (pieces_of_payload payload further (files_left_in_walk walk.old)) payload

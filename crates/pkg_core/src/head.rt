@@ -58,7 +58,7 @@ impl HeadBytes {
         // No byte after the header was read.
         ensures short { IfOk result (λ head. length head ≤ head_len head) }
         // The tree is unchanged. `Disk` is returned only if the tree failed, and no call is a
-        // misuse if the file still has its length.
+        // misuse if the tree has a file of this length under the name.
         ensures tree { (file_len : ℕ) → at + left ≤ file_len
             → ReadsFile name.now file_len tree_fault (T.history tree.old) (T.history tree.new)
             (T.counts tree.old) (T.counts tree.new) result }

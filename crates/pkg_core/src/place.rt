@@ -58,7 +58,7 @@ impl<'a> BlockPlace<'a> {
         // The block ends within the file.
         requires fits { IfSome framing (λ frame. raw_size frame ≤ self.old.len - self.old.at) }
         // For each file of this length that has this block at the place, the result and the new
-        // place are those of the definition.
+        // place are those of *IsStepResult*.
         ensures step { (file : List ℕ) → length file ≡ self.old.len
             → IsFrameOrEndOfStep (Ok framing) (drop self.old.at file) (block_step_at self.old file)
             → HasPositions framing positions.now self.old file
@@ -90,8 +90,8 @@ impl<'a> BlockPlace<'a> {
     /// clauses are those of `step`.
     #[tactic(auto, using(crate::proofs::Placed::end_good, crate::proofs::Placed::end_bad))]
     fn end(&mut self) -> Result<Step<'a>, Cause>
-        // For each file in which no block is left at the place, the result is that of the
-        // definition.
+        // For each file in which no block is left at the place, the result is that of
+        // *IsStepResult*.
         ensures step { (file : List ℕ) → block_step_at self.old file ≡ ended
             → IsStepResult None self.old file result self.new }
         // The length of the file is unchanged.
@@ -121,7 +121,7 @@ impl<'a> BlockPlace<'a> {
         // The block ends within the file.
         requires fits { raw_size frame ≤ self.old.len - self.old.at }
         // For each file of this length that has this block at the place, the result and the new
-        // place are those of the definition.
+        // place are those of *IsStepResult*.
         ensures step { (file : List ℕ) → length file ≡ self.old.len
             → IsFrameOrEndOfStep (Ok (Some frame)) (drop self.old.at file)
             (block_step_at self.old file)
@@ -160,7 +160,7 @@ impl<'a> BlockPlace<'a> {
         // The block is one of contents.
         requires kind { frame.kind ≡ Kinds.Contents }
         // For each file of this length that has this block at the place, the result and the new
-        // place are those of the definition.
+        // place are those of *IsStepResult*.
         ensures step { (file : List ℕ) → length file ≡ self.old.len
             → IsFrameOrEndOfStep (Ok (Some frame)) (drop self.old.at file)
             (block_step_at self.old file)

@@ -94,7 +94,7 @@ impl Header {
         // The only error is that the tree failed.
         ensures disk { IfErr result (λ fault. fault ≡ DiskFault) }
         // The tree is unchanged. `Disk` is returned only if the tree failed, and no call is a
-        // misuse if the file still has its length.
+        // misuse if the tree has a file of this length under the name.
         ensures tree { ReadsFile name.now len DiskFault (T.history tree.old) (T.history tree.new)
             (T.counts tree.old) (T.counts tree.new) result }
     {
@@ -131,7 +131,7 @@ fn read_payload<T: Tree>(
     // An error is that the tree failed, or out of memory.
     ensures good { IfErr result (λ fault. IsDiskOrMemoryFault fault) }
     // The tree is unchanged. `Disk` is returned only if the tree failed, and no call is a misuse if
-    // the file still has its length.
+    // the tree has a file of this length under the name.
     ensures tree { (file_len : ℕ) → at + len ≤ file_len → ReadsFile name.now file_len DiskFault
         (T.history tree.old) (T.history tree.new) (T.counts tree.old) (T.counts tree.new) result }
 {
@@ -157,7 +157,7 @@ fn read_present<T: Tree>(
         × ((file : List ℕ) → length file ≡ len → HasBytesAtOffset file 0 seen
         → IsFrontReadOfFile schema result (length seen) file) }
     // The tree is unchanged. `Disk` is returned only if the tree failed, and no call is a misuse if
-    // the file still has its length.
+    // the tree has a file of this length under the name.
     ensures tree { ReadsFile name.now len DiskFault (T.history tree.old) (T.history tree.new)
         (T.counts tree.old) (T.counts tree.new) result }
 {

@@ -29,8 +29,8 @@ pub struct Walk<'a> {
     file: usize,
 }
 
-/// A file whose contents are expected: the positions of its folder and of itself in it, which count
-/// from 1, its size in bytes, and its digest.
+/// A file whose contents are expected: the position of its folder, the position of the file in this
+/// folder, the size in bytes, and the digest. Positions count from 1.
 #[derive(Clone, Copy)]
 pub struct Wanted<'a> {
     /// The position of the file's folder in the package, counted from 1.
@@ -182,8 +182,8 @@ fn has_contents(file: &FileInfo<'_>) -> bool
 /// folder and that of the file, four bytes each.
 pub const POSITIONS_LEN: usize = 8;
 
-/// The contents of a file, with the positions of its folder (`path`) and of itself in it, which
-/// count from 1. The bytes are borrowed.
+/// The contents of a file, with the position of its folder (`path`) and the position of the file in
+/// this folder. The bytes are borrowed.
 #[derive(Clone, Copy)]
 pub struct FileContents<'a> {
     /// The position of the file's folder in the package, counted from 1.
