@@ -24,8 +24,8 @@ pub record IsFileBelow (files : Files) (dir folder : List ℕ) (file : Plain) : 
   -- the file of the package is the value made of its name and these bytes
   pub is : file ≡ value_of_file (record { name = name_of file; bytes = bytes })
 
--- the package has exactly the files of these names, which are below the folder `dir` of the tree, each
--- once; and each of its files is made of the bytes under its name
+-- the package has exactly the files of these names, each once. The names are below the folder `dir` of
+-- the tree, and each file of the package is made of the bytes under its name
 pub record HasJustNamedFilesBelowFolder (files : Files) (dir : List ℕ) (names : List (List ℕ))
     (pkg : Plain) :
     Type 0 where

@@ -17,8 +17,8 @@ use Rattle.adb_view.specs.FieldIndexes.{INDEX_PACKAGES}
 abbrev pub packages_in : Plain → List Plain
 packages_in index = entries_at INDEX_PACKAGES index
 
--- `files` are the bytes that the reads of the operands' files find, in their order, and each passes all
--- tests of a package; the read for the first operand has the number `n`
+-- `files` are the bytes that the reads of the operands' files find, in their order. Each passes all tests
+-- of a package. The read for the first operand has the number `n`
 abbrev pub AreSoundPackages : Reads → ℕ → List Operand → List (List ℕ) → Type 0
 AreSoundPackages read n [] [] = Unit {0}
 AreSoundPackages read n [] (file ∷ files) = ⊥

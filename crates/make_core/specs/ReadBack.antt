@@ -18,8 +18,8 @@ use Rattle.make_package.specs.package_files.Package.{Script, SourceFolder, conte
 use Rattle.make_package.specs.package_files.Sources.{source_folders_of_first_option, and_then, scripts_from_read, texts_of, values_of_letter}
 use Rattle.make_index.specs.pkg_core.Whole.{PackageWithContents}
 
--- the value and the contents of the package of a command, given its parts in the order in which they are
--- read: the scripts, the information of `-I` (`about`) and the folders
+-- the value and the contents of the package of a command, given its parts in the order of their reads.
+-- The parts are the scripts, the information of `-I` (`about`) and the folders
 abbrev pub packed_of_parts :
     CommandLine → List Script → List FieldWithValue → List SourceFolder
     → Result PackageWithContents MakeFault

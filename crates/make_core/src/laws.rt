@@ -139,8 +139,8 @@ pub fn a_made_package_has_the_files_below_its_folder()
     the_first_pair_in_one_of_several_lists_is_reported();
 }
 
-/// A missing file is reported at the place of the option that gives it: of a `-s` whose file is
-/// absent, or of the first `-F`, if a file that was listed below its folder is absent.
+/// A missing file is reported at the place of the option that gives it. This is a `-s` whose file
+/// is absent, or the first `-F`, if a file listed below its folder is absent.
 pub fn a_missing_file_is_reported_at_its_option()
     ensures { (command : CommandLine) (names : List (List ℕ)) (read : Reads) (place : ℕ)
         → made_package command names read ≡ Err (FileMissing place)

@@ -33,14 +33,14 @@ value_of_index description entries =
 
 -- ---- the packages, operand by operand
 
--- the entry of the package in the file with these bytes; or, if a test of the file failed (`cause`), the
+-- the entry of the package in the file with these bytes. If a test of the file failed (`cause`), the
 -- refusal at the place of the operand that names the file
 abbrev pub entry_unless_fault : ℕ → List ℕ → Option Cause → Result Plain MakeFault
 entry_unless_fault place file None = Ok (entry_of_package file)
 entry_unless_fault place file (Some cause) = Err (FileBad place cause)
 
--- the entry of the package that was found under the name of the operand at this place; a refusal at this
--- place if no file was found, or if a test of it fails
+-- the entry of the package that was found under the name of the operand at this place. If no file was
+-- found, or a test of it fails, a refusal at this place
 abbrev pub found_entry : ℕ → Option (List ℕ) → Result Plain MakeFault
 found_entry place None = Err (FileMissing place)
 found_entry place (Some file) = entry_unless_fault place file (package_fault file)

@@ -141,8 +141,8 @@ dependency_values_in [] = Some []
 dependency_values_in (part ∷ parts) =
     dependency_value_and_others (untagged_dependency_in part) (dependency_values_in parts)
 
--- the values that the text `value` gives to a field of this kind: any number of them for a list, one for
--- another kind; None if the text is not in the grammar of the kind
+-- the values that the text `value` gives to a field of this kind: any number for a list, one for another
+-- kind. None if the text is not in the grammar of the kind
 abbrev pub values_by_kind : Kind → List ℕ → Option (List FieldValue)
 values_by_kind Kinds.PackageName value = text_value_if (is_package_name value) value
 values_by_kind Kinds.PackageVersion value = text_value_if (is_version value) value

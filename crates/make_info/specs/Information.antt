@@ -14,7 +14,7 @@ use Rattle.make_info.specs.FieldTexts.{FieldText, field_text_in, values_of_info,
 use Rattle.make_info.specs.Values.{number_value, size_value}
 
 -- An item of a package's information: a field with one value. The information is the list of all items,
--- in the order in which `-I` gives them: a list field has one item for each part of each text, another
+-- in the order in which `-I` gives them. A list field has one item for each part of each text, another
 -- field has one item.
 pub record FieldWithValue : Type 0 where
   -- the field of `-I`
@@ -44,7 +44,7 @@ abbrev pub items_of_option : OptionValue → Option (List FieldWithValue)
 items_of_option v = option_and_then items_of_text (field_text_in v.text)
 
 -- whether a text FIELD:VALUE is for a field that may be given only once, and one of the values `before`
--- is for the same field; false if the text was no FIELD:VALUE (None)
+-- is for this field. False if the text was no FIELD:VALUE (None)
 abbrev pub gives_single_field_again : List OptionValue → Option FieldText → Bool
 gives_single_field_again before None = false
 gives_single_field_again before (Some given) =
@@ -55,9 +55,9 @@ gives_single_field_again before (Some given) =
 abbrev pub repeats_single_field : List OptionValue → OptionValue → Bool
 repeats_single_field before v = gives_single_field_again before (field_text_in v.text)
 
--- whether the value `v` of `-I` offends (is refused) after the values `before`: it is not in its field's
--- grammar, its field may be given only once and was given before, or it is the version and `too_long` is
--- true (the default name of the output is too long)
+-- whether the value `v` of `-I` offends (is refused) after the values `before`. It offends if it is not
+-- in its field's grammar, or if its field may be given only once and was given before. The version also
+-- offends if `too_long` is true: the default name of the output is too long
 abbrev pub offends : Bool → List OptionValue → OptionValue → Bool
 offends too_long before v =
     not (is_some (items_of_option v))
@@ -86,9 +86,9 @@ abbrev pub unless_offence :
 unless_offence None otherwise = otherwise
 unless_offence (Some place) otherwise = Err place
 
--- the information that the values of all options give, or the first place that offends as an error: that
--- of a value of `-I`, or `behind`, the place after the last argument, if the name or the version is
--- missing
+-- the information that the values of all options give, or the first place that offends as an error. This
+-- is the place of a value of `-I`; or, if the name or the version is missing, `behind`, the place after
+-- the last argument
 unfoldable pub information_of : List OptionValue → ℕ → Result (List FieldWithValue) ℕ
 information_of values behind =
     let own = values_of_info values in

@@ -103,9 +103,9 @@ is_list_field f = false
 abbrev pub IsGivenFor : Field → OptionValue → Type 0
 IsGivenFor f option = (value : List ℕ) × (option.text ≡ option_text f value)
 
--- a value of `-I` (`option`) is accepted after the values `before`: its text is valid for its field; if
--- the field is no list, no earlier value is for it; and it is no version if `too_long` is true
--- (NAME-VERSION.apk would be too long)
+-- a value of `-I` (`option`) is accepted after the values `before`. Its text is valid for its field. If
+-- the field is no list, no earlier value is for it. If `too_long` is true (NAME-VERSION.apk would be too
+-- long), it is no version
 pub record IsAcceptedInfoOption (too_long : Bool) (before : List OptionValue) (option : OptionValue) :
     Type 0 where
   -- the field that the option names

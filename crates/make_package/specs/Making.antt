@@ -19,8 +19,8 @@ use Rattle.package_files.specs.Sources.{and_then, values_of_letter, texts_of, sc
 
 -- ---- the file
 
--- the container of a package with the value `v` and these contents; or, if the value exceeds a limit of
--- the writer, the error with the two counts at which it does
+-- the container of a package with the value `v` and these contents. If the value exceeds a limit of the
+-- writer, the error with the two counts at which it does
 abbrev pub container_unless_too_large :
     Option PayloadCounts → Plain → List Contents → Result (List ℕ) MakeFault
 container_unless_too_large None v contents = Ok (container_of_value_and_contents PACKAGE_WORD v contents)

@@ -24,8 +24,8 @@ abbrev pub contents_front : ℕ → ℕ → ℕ → List ℕ
 contents_front folder file size =
     head_bytes Kinds.Contents (8 + size) ++ (to_le_bytes w32 folder ++ to_le_bytes w32 file)
 
--- `later` is `before`, followed by the first bytes of the block of a file with these positions (its
--- header and the two positions), and then the bytes of the file, from the offset `at` on
+-- `later` is `before`, followed by the block of a file with these positions, without its padding. The
+-- block has its header and the two positions, and then, from the offset `at` on, the bytes of the file
 pub record HasBlockFront (folder file : ℕ) (before later : List ℕ) (at : ℕ) : Type 0 where
   -- the offset is within the bytes
   pub within : at ≤ length later

@@ -51,8 +51,8 @@ AreNamesBelowFirstFolder (folder ∷ others) names =
 abbrev pub script_with : List ℕ → List ℕ → Script
 script_with kind bytes = record { field = kind; bytes = bytes }
 
--- the script that the value `v` of `-s` gives as TYPE:FILE, with the bytes that the read with the number
--- `n` finds in FILE; or the fault if FILE is absent
+-- the script that the value `v` of `-s` gives as TYPE:FILE. The read with the number `n` finds its bytes
+-- in FILE. If FILE is absent, its fault
 abbrev pub script_at : Reads → ℕ → OptionValue → Result Script MakeFault
 script_at read n v =
     and_then (found_bytes_or_missing v.place (read n (without_dot_slash (script_file v.text))))
@@ -96,8 +96,8 @@ source_folders_at_place_from_read place read n folders =
     results_from_read (λ (folder : FolderListing). length folder.files)
     (source_folder_read_at place read) n folders
 
--- the source folders of a package, given the values of `-F` and the names that are listed below the
--- folder of the first value; no folders if `-F` is not given. The first read has the number `n`
+-- the source folders of a package, given the values of `-F`, and the names listed below the folder of the
+-- first value. Without `-F` there are no folders. The first read has the number `n`
 abbrev pub source_folders_of_first_option :
     Reads → ℕ → List OptionValue → List (List ℕ) → Result (List SourceFolder) MakeFault
 source_folders_of_first_option read n [] names = Ok []

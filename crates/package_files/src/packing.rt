@@ -43,10 +43,10 @@ fn reserve_room(bytes: &mut Vec<u8>, more: usize) -> Result<(), AllocError>
     Ok(())
 }
 
-/// Appends the first bytes of the block with the contents of a file of `size` bytes: the header of
-/// the block, the position of the file's folder, and the position of the file in it, which count
-/// from 1. Room for the whole block is reserved first. A position of more than 32 bits is cut: a
-/// package with so many files exceeds the limits of a payload.
+/// Appends the first bytes of the block with the contents of a file of `size` bytes. These are the
+/// header of the block, the position of the file's folder, and the position of the file in it.
+/// Positions count from 1. Room for the whole block is reserved first. A position of more than 32
+/// bits is cut: a package with so many files exceeds the limits of a payload.
 fn begin_block(blocks: &mut Vec<u8>, position: (u64, u64), size: u64) -> Result<(), AllocError>
     // On Ok, the header and the two positions are appended to the blocks.
     ensures { OnOk result (blocks.new.items

@@ -65,9 +65,9 @@ IsNotDiskResult (Ok value) = Unit {0}
 IsNotDiskResult (Err (Bad c)) = Unit {0}
 IsNotDiskResult (Err Disk) = ⊥
 
--- the result of a call for the next piece of an open file, whose pieces `before` were still to be read:
--- `bytes` are the first of them, followed by those of the rest of the file or, after its last piece, by
--- the pieces `further`; or the digest differs
+-- the result of a call for the next piece of an open file; the pieces `before` were still to be read.
+-- `bytes` are the first of them, followed by the pieces of the rest of the file. After its last piece the
+-- pieces `further` follow. An error is that the digest differs
 abbrev pub IsResultOfNextPiece : List ℕ → List ℕ → List ℕ → PiecesRead → PiecesRead
     → Result (Part × Option OpenFile) PieceFault → Type 0
 IsResultOfNextPiece so_far pkg bytes further before (Ok (part, Some o)) = (after : PiecesRead)

@@ -86,9 +86,9 @@ IsReading reader pkg pieces = AreUnreadPieces reader.due reader.place reader.ope
 
 -- ---- the results
 
--- the result of a call for the next piece, if the pieces `before` were to be read: the first of them,
--- with `bytes`; None, as no piece is left; or the first failed test, which each later call returns again.
--- `AreUnreadBytes` holds of the pieces that are then still to be read
+-- the result of a call for the next piece, if the pieces `before` were to be read. It is the first of
+-- them, with `bytes`, or None if no piece was left. An error is the first failed test, which each later
+-- call returns again. `AreUnreadBytes` holds of the pieces that are then still to be read
 abbrev pub ReturnsNextPiece : (PiecesRead → Type 0) → PiecesRead → List ℕ
     → Result (Option Part) PieceFault → Type 0
 ReturnsNextPiece AreUnreadBytes before bytes (Ok (Some part)) =
@@ -182,8 +182,8 @@ IsFileFound before pkg (Ok (Some o)) after =
 IsFileFound before pkg (Err (Bad c)) after = pieces_at before pkg ≡ refusal c
 IsFileFound before pkg (Err Disk) after = Unit {0}
 
--- the result of the search for the file of the next piece, if the pieces `before` were to be read: the
--- file that is already open, or else the next one; None if no piece is left; or the first failed test
+-- the result of the search for the file of the next piece, if the pieces `before` were to be read. It is
+-- the file that is already open, or else the next one; None if no piece is left; or the first failed test
 abbrev pub IsFileOpened : PieceReader → List ℕ → PiecesRead
     → Result (Option OpenFile) PieceFault → PieceReader → Type 0
 IsFileOpened old pkg before (Ok None) new = before ≡ no_piece

@@ -57,14 +57,14 @@ HasSoundPayload front (Bad c) = Unit {0}
 
 -- ---- in the order of the files
 
--- the file with the first two positions (folder and file) precedes the file with the other two: its
--- folder is earlier, or the folder is the same and the file is earlier in it
+-- the file with the first two positions (folder and file) precedes the file with the other two. Its
+-- folder is earlier; or both are in one folder, and the file is earlier in it
 abbrev pub IsBeforeFile : ℕ → ℕ → ℕ → ℕ → Type 0
 IsBeforeFile folder file other_folder other_file =
     (folder < other_folder) ⊎ ((folder ≡ other_folder) × (file < other_file))
 
--- whether the file with the first two positions (folder and file) precedes the file with the other two:
--- its folder is earlier, or the folder is the same and the file is earlier in it
+-- whether the file with the first two positions (folder and file) precedes the file with the other two.
+-- Its folder is earlier; or both are in one folder, and the file is earlier in it
 abbrev pub is_before_file : ℕ → ℕ → ℕ → ℕ → Bool
 is_before_file folder file other_folder other_file =
     nat_lt folder other_folder || ((folder == other_folder) && nat_lt file other_file)

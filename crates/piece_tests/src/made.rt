@@ -8,9 +8,9 @@ use sha1::Sha1;
 use sha2::Digest;
 use std::alloc::{AllocError, Global};
 
-/// The first 24 bytes of a payload: its head, in which the word of the root is not set yet, and
-/// then the information of the package `a` of version `1`. The object of the information is at
-/// offset 12.
+/// The first 24 bytes of a payload. Its head, in which the word of the root is not set yet, is
+/// followed by the information of the package `a` of version `1`. The object of the information is
+/// at offset 12.
 const INFO: &[u8] = b"\0\0\0\0\0\0\0\0\x01a\x011\x03\0\0\0\x08\0\0\x80\x0a\0\0\x80";
 
 /// A flaw that a package is made with.
@@ -74,8 +74,9 @@ fn contents_with(alloc: Global, sizes: &[u32], i: usize, flaw: Flaw) -> Result<V
     }
 }
 
-/// The payload of the block with the contents of a file that follows `before` other files: the
-/// positions of its folder and of the file in it, which count from 1, and the bytes of the file.
+/// The payload of the block with the contents of a file that follows `before` other files. It has
+/// the positions of the folder and of the file in it, which count from 1, and then the bytes of the
+/// file.
 fn contents_of(alloc: Global, before: usize, size: u32) -> Result<Vec<u8>, AllocError> {
     let mut payload = Vec::new(alloc);
     // All files are in folder 1.

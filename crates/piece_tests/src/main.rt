@@ -162,8 +162,8 @@ fn add_each(
     Ok(())
 }
 
-/// Adds to `answer` the positions of the folder and the file that a piece belongs to, the length of
-/// the piece, and `last` if it is the last piece of the file.
+/// Adds to `answer` the positions of the folder and the file that a piece belongs to, and the
+/// length of the piece. Adds `last` if it is the last piece of the file.
 pub(crate) fn add_part(
     alloc: Global,
     part: Part,

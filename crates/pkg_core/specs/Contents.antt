@@ -138,7 +138,7 @@ pub record Contents : Type 0 where
   pub bytes : List ℕ
 
 -- the result of reading the files with contents in order: each file that is read (`given`), and then the
--- end after the last one (`no_more`), or the first failed test (`refused`)
+-- end (`no_more`) or the first failed test (`refused`)
 pub data FilesRead : Type 0 where
   no_more : FilesRead
   refused : Cause → FilesRead
@@ -205,6 +205,6 @@ bytes_or_none None = []
 bytes_or_none (Some contents) = contents.bytes
 
 -- the bytes of the file at the position `file` in the folder at the position `folder`, among the contents
--- of a package; no bytes if none of the contents is that of the file
+-- of a package. There are none if no contents are those of this file
 abbrev pub bytes_of_file : ℕ → ℕ → List Contents → List ℕ
 bytes_of_file folder file contents = bytes_or_none (find (is_contents_of_file folder file) contents)

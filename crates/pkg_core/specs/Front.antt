@@ -100,8 +100,8 @@ IsDiskOrMemoryFault (Bad c) = ⊥
 IsDiskOrMemoryFault Disk = Unit {0}
 IsDiskOrMemoryFault Memory = Unit {0}
 
--- the result of reading the front of a file that exists: the front of the file, which ends after the
--- first `seen` bytes, those that were read; or the first failed test. After an I/O error or out of memory
+-- the result of reading the front of a file that exists: its front, or the first failed test. The front
+-- ends after the first `seen` bytes of the file, which were read. After an I/O error or out of memory
 -- nothing is stated
 abbrev pub IsFrontReadOfFile : ℕ → Result Front FrontFault → ℕ → List ℕ → Type 0
 IsFrontReadOfFile schema (Ok front) seen file = IsFrontOf schema file front × (front.at ≡ seen)

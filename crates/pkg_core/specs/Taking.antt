@@ -38,8 +38,9 @@ pieces_in f so_far left further =
     pieces_of_one_file (piece_count_before_last (length left)) (expected_of f.wanted)
     (hash_fault f.wanted.hash.now (so_far ++ left)) left further
 
--- the result of taking `bytes`, with `left` as the rest of the file: they are the next piece, followed by
--- the pieces of the rest or, after the last piece, by the further ones; or the digest differs
+-- the result of taking `bytes`, with `left` as the rest of the file. `bytes` are the next piece, followed
+-- by the pieces of the rest or, after the last piece, by the further ones. An error is that the digest
+-- differs
 abbrev pub IsTakeResult : FileCheck → List ℕ → List ℕ → List ℕ → PiecesRead
     → Result (Part × Option FileCheck) Cause → Type 0
 IsTakeResult f so_far bytes left further (Ok (part, Some g)) =

@@ -62,8 +62,9 @@ impl<'a> FileCheck<'a> {
     pub fn take(self, bytes: &[u8]) -> Result<(Part, Option<FileCheck<'a>>), Cause>
         // The piece has the length that the reader expects next.
         requires { length bytes.now ≡ next_piece_len self }
-        // If `so_far` was taken before, and `left` is the rest of the file after these bytes: these
-        // bytes are the next piece, or the digest of the whole file differs (*IsTakeResult*).
+        // Let `so_far` be the bytes taken before, and `left` the rest of the file after these
+        // bytes. Then these bytes are the next piece, or the digest of the whole file differs
+        // (*IsTakeResult*).
         ensures taken { (so_far left : List ℕ) (further : PiecesRead) → HasTaken self.entry so_far
             → length (so_far ++ (bytes.now ++ left)) ≡ self.entry.wanted.size
             → IsTakeResult self.entry so_far bytes.now left further result }
