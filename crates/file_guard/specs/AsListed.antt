@@ -42,7 +42,7 @@ abbrev pub link_bytes : Plain → List ℕ
 link_bytes entry = link_bytes_to (file_target entry)
 
 -- Whether `bytes` are as an entry with this size, hash and target lists them. With a target, they are the
--- bytes of the link; with a hash, they have this hash; with neither, the size is 0 and there are no
+-- bytes of the link; with a hash, they have this hash. With neither, the size is 0 and there are no
 -- bytes.
 unfoldable pub is_as_listed_by_size_hash_target : ℕ → List ℕ → List ℕ → List ℕ → Bool
 is_as_listed_by_size_hash_target size hash target bytes =

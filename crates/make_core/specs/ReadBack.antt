@@ -39,7 +39,7 @@ packed_package command names read =
     (values_of_letter FILES command.values) names)
     (packed_of_parts command scripts about)))
 
--- the value of the index with this description and these entries, which are sorted here; or the fault
+-- the value of the index with this description and these entries, which are sorted here. Or the fault
 -- that is given in place of the entries
 abbrev pub index_value_of_entries : List ℕ → Result (List Plain) MakeFault → Result Plain MakeFault
 index_value_of_entries description (Ok entries) =

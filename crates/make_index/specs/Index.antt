@@ -62,13 +62,13 @@ found_entries read n (o ∷ operands) =
 
 -- ---- the file
 
--- the bytes of the index with this payload; or, if the payload exceeds a limit of the writer, the error
+-- the bytes of the index with this payload. Or, if the payload exceeds a limit of the writer, the error
 -- with the two counts at which it does
 abbrev pub index_container : Result (List ℕ) PayloadCounts → Result (List ℕ) MakeFault
 index_container (Ok payload) = Ok (file_of INDEX_WORD payload)
 index_container (Err counts) = Err (TooLarge counts.0 counts.1)
 
--- the bytes of the index with this description and these entries, which are sorted here; or the refusal
+-- the bytes of the index with this description and these entries, which are sorted here. Or the refusal
 -- if its payload exceeds a limit of the writer
 unfoldable pub index_of_entries : List ℕ → List Plain → Result (List ℕ) MakeFault
 index_of_entries description entries =

@@ -74,7 +74,7 @@ AgreesUnlessMemoryOrDisk view (Err Disk) wanted = Unit {0}
 AgreesUnlessMemoryOrDisk view (Err fault) wanted = wanted ≡ Err fault
 
 -- the refusal of the package that the operand at this place names: `FileBad` with the first test that
--- fails (`failed`), or out of memory; no other fault
+-- fails (`failed`), or out of memory. No other fault
 abbrev pub IsRefusedAt : ℕ → MakeFault → Option Cause → Type 0
 IsRefusedAt place (FileBad at cause) failed = (at ≡ place) × (failed ≡ Some cause)
 IsRefusedAt place Memory failed = Unit {0}

@@ -142,7 +142,7 @@ fn read_parts(alloc: Global, place: u32, file: &[u8]) -> Result<Parts, MakeFault
     // The parts give the name, the version and the id of the package's entry.
     ensures keys { IfOk result (λ parts.
         IsEntryWithKeys parts.name.items parts.version.items parts.id (entry_of_package file.now)) }
-    // A returned payload has the entry of the package as its root.
+    // The entry of the package is the copy of the root of a returned payload (*HoldsEntry*).
     ensures payload { IfOk result (λ parts.
         IfSome parts.payload (λ payload. HoldsEntry payload.items (entry_of_package file.now))) }
 {

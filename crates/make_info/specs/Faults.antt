@@ -20,7 +20,7 @@ IsMakeFaultOfWriter (Writes.TooLarge bytes values) fault = fault ≡ TooLarge by
 IsMakeFaultOfWriter Writes.Memory fault = fault ≡ Memory
 
 -- the fault of reading a package's information, whose definition gives `answer`: `InfoBad` at the place
--- in `answer`, or out of memory, which says nothing about `answer`; no other fault
+-- in `answer`, or out of memory, which says nothing about `answer`. No other fault
 abbrev pub IsInfoFault : {A : Type 0} → MakeFault → Result A ℕ → Type 0
 IsInfoFault (FileMissing place) answer = ⊥
 IsInfoFault (FileBad place cause) answer = ⊥
@@ -30,7 +30,7 @@ IsInfoFault Disk answer = ⊥
 IsInfoFault Memory answer = Unit {0}
 
 -- the fault of writing a payload, whose definition gives `written`: `TooLarge` with the counts in
--- `written`, or out of memory, which says nothing about `written`; no other fault
+-- `written`, or out of memory, which says nothing about `written`. No other fault
 abbrev pub IsOverflowFault : MakeFault → Result (List ℕ) PayloadCounts → Type 0
 IsOverflowFault (TooLarge bytes values) written = written ≡ Err (bytes, values)
 IsOverflowFault Memory written = Unit {0}

@@ -26,7 +26,7 @@ pub record FieldWithValue : Type 0 where
 abbrev pub field_with_value : Field → FieldValue → FieldWithValue
 field_with_value f value = record { field = f; value = value }
 
--- the items `before`, followed by one item of the field for each of the values; None if the values are
+-- the items `before`, followed by one item of the field for each of the values. None if the values are
 -- None, as the text was not allowed
 abbrev pub items_with_values_of_field :
     List FieldWithValue → Field → Option (List FieldValue) → Option (List FieldWithValue)
@@ -164,7 +164,7 @@ number_in (text bytes) = None
 number_in (number n) = Some n
 number_in (need d) = None
 
--- the value of `-I` for the priority in replacing, if it is given; it is a field of the package, and not
+-- the value of `-I` for the priority in replacing, if it is given. It is a field of the package, and not
 -- of the object of its information
 abbrev pub replaces_priority : List FieldWithValue → Option ℕ
 replaces_priority info =

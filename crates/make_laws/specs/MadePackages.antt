@@ -48,7 +48,7 @@ pub record HasFoldersAndFilesInByteOrder (pkg : Plain) : Type 0 where
 abbrev pub IsAbovePath : List ℕ → List ℕ → Type 0
 IsAbovePath folder path = (folder ≡ []) ⊎ IsFolderOf folder path
 
--- the folder of the package is above the path of one of the names; a path is a name without the folder
+-- the folder of the package is above the path of one of the names. A path is a name without the folder
 -- `dir` of the tree
 abbrev pub IsAboveOnePath : List ℕ → List (List ℕ) → List ℕ → Type 0
 IsAboveOnePath dir names folder =

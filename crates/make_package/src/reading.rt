@@ -23,7 +23,7 @@ use package_files::{MakeFault, Packing, pack_names, read_file};
 use std::alloc::{AllocError, Global};
 
 /// The names of the files below the folder that the first `-F` gives, in byte order and each once,
-/// whatever the tree returns; no names if `-F` is not given.
+/// whatever the tree returns. No names if `-F` is not given.
 pub(crate) fn list_names<T: Tree>(
     alloc: Global,
     tree: &mut T,

@@ -10,7 +10,7 @@ use Rattle.std.specs.declared.alloc.Global.{Global}
 abbrev pub names_borrowed : Vec (Bor (List ℕ)) Global → List (List ℕ)
 names_borrowed names = map (λ (name : Bor (List ℕ)). name.now) names.items
 
--- the result of a search for `name` in a list without repeats: the index of the name, counted from 0;
+-- the result of a search for `name` in a list without repeats: the index of the name, counted from 0.
 -- None if the list does not have it
 abbrev pub IsIndexOf : List ℕ → List (List ℕ) → Option ℕ → Type 0
 IsIndexOf name names None =

@@ -19,7 +19,7 @@ folder_of path = before_last is_slash path
 abbrev pub last_part_of : List ℕ → List ℕ
 last_part_of path = after_last is_slash path
 
--- the texts before each slash of a text that begins with the byte `b`; `folders` are the texts before
+-- the texts before each slash of a text that begins with the byte `b`. `folders` are the texts before
 -- each slash of the rest of this text. If `b` is a slash, the first of them is empty
 abbrev pub prefixes_extended_by_first_byte : ℕ → List (List ℕ) → List (List ℕ)
 prefixes_extended_by_first_byte b folders =

@@ -39,7 +39,7 @@ abbrev pub texts_of : List OptionValue → List (List ℕ)
 texts_of values = map (λ (v : OptionValue). v.text) values
 
 -- the names are names below the folder that the first of these values of `-F` gives, in byte order and
--- each once; without a value nothing is stated
+-- each once. Without a value nothing is stated
 abbrev pub AreNamesBelowFirstFolder : List OptionValue → List (List ℕ) → Type 0
 AreNamesBelowFirstFolder [] names = Unit {0}
 AreNamesBelowFirstFolder (folder ∷ others) names =

@@ -314,8 +314,8 @@ fn read_in_block<T: Tree>(
     // file's bytes begin after them, at the returned offset.
     ensures begun { IfOk result (λ found. IfSome found (HasBlockFront position.0 position.1
         blocks.old.items blocks.new.items)) }
-    // If the tree is observable, the bytes from the returned offset on are those of its file; None
-    // is returned exactly if it has no file under the name.
+    // If the tree is observable, the bytes from the returned offset on are those of its file. None
+    // is returned exactly if the tree has no file under the name.
     ensures answer { IfOk result (λ found. IfObservable (T.history tree.old) (λ v.
         option_map (λ at. drop at blocks.new.items) found ≡ files_of v name.now)) }
 {

@@ -36,7 +36,7 @@ AreSeenWithinPositions None seen = Unit {0}
 AreSeenWithinPositions (Some frame) seen = seen ≤ frame.head_len + min POSITIONS_LEN frame.payload_len
 
 -- the result of reading the header and the positions of the block at this place of the file: its frame
--- and its positions; or the first failed test
+-- and its positions. Or the first failed test
 abbrev pub IsBlockRead : BlockPlace → List ℕ → Result BlockRead PieceFault → Type 0
 IsBlockRead place file (Ok read) =
     IsFrameOrEndOfStep (Ok read.framing) (drop place.at file) (block_step_at place file)

@@ -165,7 +165,7 @@ pub record KeepsFileStart (part : Part) (len : ℕ) (old new : PieceReader) : Ty
 -- ---- inside
 
 -- the walk before and after the search for the next file: it passes the file that was found, and no
--- other; if none was found, no file was expected
+-- other. If none was found, no file was expected
 abbrev pub FindsNextFile : Walk → Option OpenFile → Walk → Type 0
 FindsNextFile before None after = files_left_in_walk before ≡ []
 FindsNextFile before (Some found) after =
@@ -200,7 +200,7 @@ pub record IsStartOf (old : PieceReader) (o : OpenFile) (start : ℕ) : Type 0 w
   -- if a file was already open, it began at the same offset
   pub same : IfSome old.opened (λ o. start ≡ start_of_file old)
 
--- the result of reading the next piece, as in *ReturnsNextPiece*; after the end or a failed test, nothing
+-- the result of reading the next piece, as in *ReturnsNextPiece*. After the end or a failed test, nothing
 -- is stated of the pieces that later calls return
 abbrev pub IsPieceRead : PieceReader → List ℕ → PiecesRead → List ℕ
     → Result (Option Part) PieceFault → Type 0
@@ -211,7 +211,7 @@ IsPieceRead new pkg before bytes (Err (Bad c)) = before ≡ refusal c
 IsPieceRead new pkg before bytes (Err Disk) = Unit {0}
 
 -- the files that were expected before a file was opened (`before`): this file, and then those that the
--- walk has left; none if no file was opened
+-- walk has left. None if no file was opened
 abbrev pub OpensFirstOrNoneExpected : List ExpectedFile → Option OpenFile → BlockPlace → Type 0
 OpensFirstOrNoneExpected before None place = before ≡ []
 OpensFirstOrNoneExpected before (Some o) place =

@@ -66,7 +66,7 @@ pub(crate) fn next_block<'a, T: Tree>(
     ensures len { place.new.len ≡ place.old.len }
     // The new place is within the package.
     ensures within { place.new.at ≤ place.new.len }
-    // The walk passes an opened file, and no other; at the end it expects no file.
+    // The walk passes an opened file, and no other; at the end no file was expected.
     ensures walk { IfOk result (λ step. IsWalkAfterBlock place.old.walk step place.new.walk) }
     // If a block was passed, the new place is after the old one. An opened file ends no later than
     // the new place.
@@ -192,8 +192,8 @@ pub(crate) fn next_file<'a, T: Tree>(
     ensures len { place.new.len ≡ place.old.len }
     // The new place is within the package.
     ensures within { place.new.at ≤ place.new.len }
-    // The walk passes the file that was found, and no other with contents; if none was found, it
-    // expects no file.
+    // The walk passes the file that was found, and no other with contents; if none was found, no
+    // file was expected.
     ensures walk { IfOk result (λ found. FindsNextFile place.old.walk found place.new.walk) }
     // The next file ends no later than the new place.
     ensures room { IfOk result (λ found. IfSome found (λ next.

@@ -37,14 +37,14 @@ AreAtPlaces pkg (place ∷ places) (contents ∷ others) =
 -- ---- the result of the tests
 
 -- the result of the tests of the files of a package: no test fails, and each file with contents has them
--- at its place; or the first failed test
+-- at its place. Or the first failed test
 abbrev pub AreFilesTested : FilesRead → List ℕ → FilesTest → Type 0
 AreFilesTested files pkg (Sound places) =
     (fault_of_files_read files ≡ None) × AreAtPlaces pkg places.items (contents_in files)
 AreFilesTested files pkg (Bad c) = fault_of_files_read files ≡ Some c
 
--- the result of all tests of a package: no test fails, and each file with contents has them at its place;
--- or the first failed test
+-- the result of all tests of a package: no test fails, and each file with contents has them at its place.
+-- Or the first failed test
 abbrev pub IsWholeTested : List ℕ → FilesTest → Type 0
 IsWholeTested pkg (Sound places) =
     (package_fault pkg ≡ None) × AreAtPlaces pkg places.items (contents_in (files_read_from_package pkg))
@@ -87,7 +87,7 @@ abbrev pub is_place_of : ℕ → ℕ → FilePlace → Bool
 is_place_of folder file place = (place.folder == folder) && (place.file == file)
 
 -- the offset at which the contents begin of the file at the position `file` in the folder at the position
--- `folder`; None if its place is not among these
+-- `folder`. None if its place is not among these
 abbrev pub offset_of_file : ℕ → ℕ → List FilePlace → Option ℕ
 offset_of_file folder file places =
     option_map (λ place. place.at) (find (is_place_of folder file) places)

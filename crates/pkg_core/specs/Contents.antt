@@ -34,7 +34,7 @@ pub record ExpectedFile : Type 0 where
   -- its digest
   pub hash : List ℕ
 
--- the expected file for the entry `file`, at the position `i` in the folder at the position `folder`; no
+-- the expected file for the entry `file`, at the position `i` in the folder at the position `folder`. No
 -- element if the file has no contents. A file has contents if it has no target, and its size is above 0
 abbrev pub expected_at : ℕ → ℕ → Plain → List ExpectedFile
 expected_at folder i file =

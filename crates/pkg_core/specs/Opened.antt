@@ -50,7 +50,7 @@ files_left_in_walk walk =
     (drop walk.folder (list_of (entries_in (list_value walk.folders))))
 
 -- the walk returns the first of the files that were left (`before`), and the others are left then
--- (`after`); or None, if no file was left
+-- (`after`). Or None, if no file was left
 abbrev pub TakesFirstExpected : List ExpectedFile → Option Wanted → List ExpectedFile → Type 0
 TakesFirstExpected before None after = (before ≡ []) × (after ≡ [])
 TakesFirstExpected before (Some w) after = before ≡ expected_of w ∷ after
@@ -93,7 +93,7 @@ ReturnsContentsOfFirst payload f (e ∷ es) after =
 
 -- the result of the walk for the block of contents with this payload at the offset `at`. If no test
 -- fails, it is the contents of the first file that was left (`before`), and the others are left
--- (`after`); otherwise it is the first failed test
+-- (`after`). Otherwise it is the first failed test
 abbrev pub ReturnsNextContents : List ℕ → ℕ → List ExpectedFile → Result FileContents Cause
     → List ExpectedFile
     → Type 0

@@ -59,7 +59,7 @@ IsPartOfCheckedFile f (part, Some g) =
     (part ≡ part_of (expected_of f.wanted) false) × (g.wanted ≡ f.wanted)
 IsPartOfCheckedFile f (part, None) = part ≡ part_of (expected_of f.wanted) true
 
--- the result of opening the file of a block of contents with this payload; `before` are the pieces from
+-- the result of opening the file of a block of contents with this payload. `before` are the pieces from
 -- this block on, and `further` those after it. The check of a file of which no bytes were taken yet: the
 -- pieces are those of its bytes, and then the further ones. Or the first failed test
 abbrev pub IsOpenResult : PiecesRead → List ℕ → PiecesRead → Result FileCheck Cause → Type 0

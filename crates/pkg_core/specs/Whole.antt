@@ -35,7 +35,7 @@ fault_of_further_blocks which value r = further_blocks_fault_unless_package whic
 unfoldable pub container_fault_of_table : Which → List ℕ → Option Cause
 container_fault_of_table which file = file_fault_with_rest_test (fault_of_further_blocks which) which file
 
--- the first failed test of a file with this schema, given the table of the schema; None is the table of
+-- the first failed test of a file with this schema, given the table of the schema. None is the table of
 -- any other schema than the four
 abbrev pub container_fault_after_schema : List ℕ → ℕ → Option Which → Option Cause
 container_fault_after_schema file schema None = Some (WrongSchema schema)

@@ -84,7 +84,7 @@ pub(crate) fn add_call(
 }
 
 /// Renames a file to the name in the third word of the row, and returns whether the rename
-/// succeeds; false if the word is no name.
+/// succeeds. False if the word is no name.
 fn rename_succeeds(
     alloc: Global,
     tree: &mut MemoryTree,
