@@ -1,5 +1,5 @@
--- Whether bytes are what a package's entry of a file says of them. The rules are in
--- `docs/commands.md`, "What a change does with files", what counts as changed; the fields in
+-- Whether bytes are what a package's entry of a file says of them. The rules are in `docs/commands.md`,
+-- "What a change does with files", part "Configuration files", the table; the fields in
 -- `docs/formats.md`, "Schemas", table 4.
 use Rattle.std.specs.Prelude.{ℕ, ◌==◌, Bool, not, ◌&&◌, if◌then◌else◌, List, ◌++◌, length, drop, codes, bytes_eq, is_none}
 use Rattle.adb_view.specs.Plain.{Plain}
@@ -7,24 +7,25 @@ use Rattle.adb_view.specs.FieldIndexes.{FILE_HASHES, FILE_SIZE, FILE_TARGET}
 use Rattle.adb_view.specs.Values.{entry_in, int_in, text_in}
 use Rattle.pkg_core.specs.Contents.{hash_fault}
 
--- the size of a file in bytes, by its entry; 0 if the entry gives none
+-- the size in bytes that the entry of a file gives; 0 if it gives none
 abbrev pub file_size : Plain → ℕ
 file_size entry = int_in (entry_in entry FILE_SIZE)
 
--- the digest of a file, by its entry; its length says which function it is; no bytes if the entry gives
--- none
+-- the digest that the entry of a file gives, whose length selects the function; no bytes if the entry
+-- gives none
 abbrev pub file_hash : Plain → List ℕ
 file_hash entry = text_in (entry_in entry FILE_HASHES)
 
--- the target of a file, by its entry: for a link `00 a0` and the link's text; otherwise no bytes
+-- the target that the entry of a file gives: for a link `00 a0` and the link's text, for another file no
+-- bytes
 abbrev pub file_target : Plain → List ℕ
 file_target entry = text_in (entry_in entry FILE_TARGET)
 
--- whether the entry is of a symbolic link
+-- whether the entry is that of a symbolic link: its target is not empty
 abbrev pub has_target : Plain → Bool
 has_target entry = not (length (file_target entry) == 0)
 
--- where the text of a link begins in its target, counted from 0: after `00 a0`
+-- the offset in a target at which the text of the link begins, counted from 0: after `00 a0`
 abbrev pub link_text_offset : ℕ
 link_text_offset = 2
 
@@ -40,8 +41,9 @@ link_bytes_to target = codes "!<symlink>" ++ link_text_of_target target
 abbrev pub link_bytes : Plain → List ℕ
 link_bytes entry = link_bytes_to (file_target entry)
 
--- Whether bytes are as an entry with this size, hash and target lists them: a link's bytes; bytes with
--- the hash; or, if there is no hash, no bytes at a size of 0.
+-- Whether `bytes` are as an entry with this size, hash and target lists them. With a target, they are the
+-- bytes of the link; with a hash, they have this hash. With neither, the size is 0 and there are no
+-- bytes.
 unfoldable pub is_as_listed_by_size_hash_target : ℕ → List ℕ → List ℕ → List ℕ → Bool
 is_as_listed_by_size_hash_target size hash target bytes =
     if not (length target == 0) then bytes_eq bytes (link_bytes_to target)
@@ -53,7 +55,7 @@ abbrev pub is_as_listed : Plain → List ℕ → Bool
 is_as_listed entry bytes =
     is_as_listed_by_size_hash_target (file_size entry) (file_hash entry) (file_target entry) bytes
 
--- whether two entries describe the same bytes: their sizes, hashes and targets are equal
+-- whether two entries of files give the same size, the same hash and the same target
 unfoldable pub do_entries_agree : Plain → Plain → Bool
 do_entries_agree a b =
     (file_size a == file_size b)

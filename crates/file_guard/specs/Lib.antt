@@ -1,9 +1,9 @@
--- passed on: a crate above that names this one need not name these
+-- re-exported, so that a crate that uses this one need not name these crates
 pub use Rattle.pkg_core.specs as pkg_core
 pub use Rattle.pkg_core.specs.adb_fields as adb_fields
 pub use Rattle.pkg_core.specs.adb_schema as adb_schema
--- what the contract of `apk` says
+-- cited by the contract of `apk`
 pub mod AsListed
--- what only inner contracts and proofs use
+-- used only by contracts of inner functions, and by proofs
 pub mod Listed
 pub mod Watching

@@ -16,19 +16,19 @@ pub record DescribesEntry (listed : ListedFile) (entry : Plain) : Type 0 where
   -- the link target is the entry's
   pub target : listed.target.now ≡ file_target entry
 
--- whether bytes are as a `ListedFile` describes; without one, none are
+-- whether the bytes are as the `ListedFile` describes them; without a `ListedFile`, no bytes are
 abbrev pub is_as_described : Option ListedFile → List ℕ → Bool
 is_as_described None bytes = false
 is_as_described (Some listed) bytes =
     is_as_listed_by_size_hash_target listed.size listed.hash.now listed.target.now bytes
 
--- whether bytes are as the new `ListedFile` describes, and whether they are as the old one
--- describes; without one, no bytes are
+-- the two answers for these bytes: whether they are as the first `ListedFile` (`new`) describes, and
+-- whether they are as the second one (`old`) describes
 abbrev pub comparison_of_bytes : Option ListedFile → Option ListedFile → List ℕ → Comparison
 comparison_of_bytes new old bytes =
     record { as_new = is_as_described new bytes; as_old = is_as_described old bytes }
 
--- how the file under the name compares, if there is one
+-- the two answers for the file that was found under a name; None if there is no file
 abbrev pub comparison_of_found_file : Option ListedFile → Option ListedFile → Option (List ℕ)
     → Option Comparison
 comparison_of_found_file new old found = option_map (comparison_of_bytes new old) found

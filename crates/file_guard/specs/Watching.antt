@@ -6,9 +6,9 @@ use Rattle.pkg_core.specs.Hashing.{HasHashedMessage}
 use Rattle.file_guard.specs.declared.watch.Watch.{Watch}
 use Rattle.file_guard.specs.declared.watch.Watch.TheVariants.{Never, Exactly, Hashed}
 
--- What a `Watch` says of a test of the whole file, after the bytes `so_far` were read: the test
--- fails, or it requires exactly these remaining bytes, or it requires that all bytes together have
--- this digest.
+-- What a `Watch` says of the test of the whole file, after the bytes `so_far` were read. The test fails
+-- whatever follows (`Never`); it passes exactly if these bytes follow (`Exactly`). Or it passes exactly
+-- if all bytes together have this digest (`Hashed`).
 abbrev pub IsWatchOfTest : Watch → (List ℕ → Bool) → List ℕ → Type 0
 IsWatchOfTest Never test so_far = (further : List ℕ) → test (so_far ++ further) ≡ false
 IsWatchOfTest (Exactly first second) test so_far =

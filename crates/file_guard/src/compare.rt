@@ -1,5 +1,6 @@
 //! What an entry says of a file's bytes, and a comparison of a file of a tree with two entries. The
-//! rules are in `docs/commands.md`, "What a change does with files", what counts as changed.
+//! rules are in `docs/commands.md`, "What a change does with files", part "Configuration files",
+//! the table.
 
 ghost use Rattle.std.specs.Prelude.{◌≡◌, ℕ, List, length, Option, Some, IfOk};
 ghost use Rattle.std.specs.Option.{option_map};
@@ -15,20 +16,20 @@ use crate::watch::Watch;
 use base_core::{Disk, Name, Tree};
 use pkg_core::{FileInfo, PIECE_LEN};
 
-/// How a file compares with two entries.
+/// How the bytes of a file compare with two entries, a new and an old one.
 #[derive(Clone, Copy, Debug, PartialEq, Eq)]
 pub struct Comparison {
-    /// Its bytes are as the new entry lists them.
+    /// Whether the bytes of the file are as the new entry lists them.
     pub as_new: bool,
-    /// Its bytes are as the old entry lists them.
+    /// Whether the bytes of the file are as the old entry lists them.
     pub as_old: bool,
 }
 
-/// Compares the file under a name with two entries. Either may be absent: then no bytes are as it
-/// lists them. Returns None exactly if the name is absent. The file is read once, in pieces of
-/// 65,536 bytes, and the tree is unchanged, whatever is returned. If contracts cannot speak of the
-/// tree's files, as of the host's, the answer is correct for some bytes that the file may have, or
-/// for its absence.
+/// Compares the file under a name with two entries, `new` and `old`. An entry may be absent: then
+/// no bytes are as that entry lists them. Returns None exactly if there is no file under the name.
+/// The file is read once, in pieces of 65,536 bytes, and the tree is unchanged, whatever is
+/// returned. If contracts cannot speak of the tree's files, as of the host's, the answer is correct
+/// for some bytes that the file may have, or for its absence.
 ///
 /// # Errors
 ///
@@ -39,12 +40,13 @@ pub fn compare_file<T: Tree>(
     new: Option<ListedFile<'_>>,
     old: Option<ListedFile<'_>>,
 ) -> Result<Option<Comparison>, Disk>
-    // Of every tree: the answer is correct for some bytes that the file may have, or for its
-    // absence.
+    // For every tree: the answer is correct for some bytes that the file may have, or for its
+    // absence (`file`).
     ensures found { IfOk result (λ answer. (file : Option (List ℕ))
         × IfObservable (T.history tree.old) (λ v. file ≡ files_of v name.now)
         × (answer ≡ comparison_of_found_file new.entry old.entry file)) }
-    // If the tree's files are observable, it is right of the file under the name.
+    // If the tree's files are observable, the answer is correct for the file that the tree has
+    // under the name.
     ensures answer { IfOk result (λ found. IfObservable (T.history tree.old) (λ v.
         found ≡ comparison_of_found_file new.entry old.entry (files_of v name.now))) }
     // The tree is only read: no file changes, no I/O error is hidden, and no call is a misuse.
@@ -55,8 +57,8 @@ pub fn compare_file<T: Tree>(
     compare_file_in(tree, name, new, old, &mut piece)
 }
 
-/// The same as `compare_file`, in a piece that the caller lends, so that many files can share one
-/// piece. The contents of the piece before the call do not matter.
+/// Compares as `compare_file` does, but reads into a piece that the caller lends, so that many
+/// files can share one piece of memory. The bytes in the piece before the call do not matter.
 ///
 /// # Errors
 ///
@@ -68,12 +70,13 @@ pub fn compare_file_in<T: Tree>(
     old: Option<ListedFile<'_>>,
     piece: &mut [u8; PIECE_LEN],
 ) -> Result<Option<Comparison>, Disk>
-    // Of every tree: the answer is correct for some bytes that the file may have, or for its
-    // absence.
+    // For every tree: the answer is correct for some bytes that the file may have, or for its
+    // absence (`file`).
     ensures found { IfOk result (λ answer. (file : Option (List ℕ))
         × IfObservable (T.history tree.old) (λ v. file ≡ files_of v name.now)
         × (answer ≡ comparison_of_found_file new.entry old.entry file)) }
-    // If the tree's files are observable, it is right of the file under the name.
+    // If the tree's files are observable, the answer is correct for the file that the tree has
+    // under the name.
     ensures answer { IfOk result (λ found. IfObservable (T.history tree.old) (λ v.
         found ≡ comparison_of_found_file new.entry old.entry (files_of v name.now))) }
     // The tree is only read: no file changes, no I/O error is hidden, and no call is a misuse.
@@ -96,7 +99,7 @@ fn compare_present<T: Tree>(
     old: Option<ListedFile<'_>>,
     piece: &mut [u8; PIECE_LEN],
 ) -> Result<Comparison, Disk>
-    // If the tree is observable, the file has this length.
+    // If the tree is observable, it has a file of this length under the name.
     requires { IfObservable (T.history tree.old) (λ v.
         Some size ≡ option_map length (files_of v name.now)) }
     // On Ok, the result compares some bytes, the file's if the tree is observable, with the
@@ -108,12 +111,14 @@ fn compare_present<T: Tree>(
     ensures tree { OnlyReads (record {}) (T.history tree.old) (T.history tree.new)
         (T.counts tree.old) (T.counts tree.new) result }
 {
+    // What the bytes that are not read yet have to be, by the new entry and by the old one.
     let mut for_new = Watch::new(new);
     let mut for_old = Watch::new(old);
     let mut at = 0;
     while at < size {
         let len = (size - at).min(PIECE_LEN as u64);
         let bytes = &mut piece[..len as usize];
+        // Each piece is read once, and compared with both entries.
         tree.read_at(name, at, bytes)?;
         for_new = for_new.take(bytes);
         for_old = for_old.take(bytes);
@@ -125,19 +130,20 @@ fn compare_present<T: Tree>(
     })
 }
 
-/// What an entry of a file says of its bytes.
+/// What an entry of a file says of the bytes of this file.
 #[derive(Clone, Copy)]
 pub struct ListedFile<'a> {
-    /// How many bytes there are; 0 if the entry gives no size.
+    /// How many bytes the file has; 0 if the entry gives no size.
     pub size: u64,
-    /// The digest of the bytes, whose length says which function it is; empty if there is none.
+    /// The digest of the bytes of the file; its length selects the function. Empty if the entry
+    /// gives no digest.
     pub hash: &'a [u8],
-    /// A link's target, after a number of two bytes; empty if it is no link.
+    /// For a link, the two bytes `00 a0` and then the text of the link; empty for any other file.
     pub target: &'a [u8],
 }
 
 impl<'a> ListedFile<'a> {
-    /// Whether two entries say the same of the bytes.
+    /// Whether two entries give the same size, the same digest and the same target.
     #[tactic(auto, unfolding(crate::specs::AsListed::do_entries_agree))]
     pub fn agrees(&self, other: &ListedFile<'_>) -> bool
         ensures { (a b : Plain) → DescribesEntry self.now a → DescribesEntry other.now b
@@ -147,7 +153,7 @@ impl<'a> ListedFile<'a> {
     }
 }
 
-/// What the entry of a file says of its bytes.
+/// What the entry of a file says of the bytes of this file.
 pub fn listed_file<'a>(file: &FileInfo<'a>) -> ListedFile<'a>
     ensures { DescribesEntry result (file_value file.now) }
 {

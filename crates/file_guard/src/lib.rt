@@ -1,5 +1,5 @@
 //! Whether a file of a tree has the bytes that a package's entry describes. The rules are in
-//! `docs/commands.md`, "What a change does with files", what counts as changed.
+//! `docs/commands.md`, "What a change does with files", part "Configuration files", the table.
 //!
 //! `ListedFile` is what an entry of a file (apk-package(5)) says of its bytes. `compare_file` reads
 //! the file under a name once, piece by piece, and compares it with the entry of the added package

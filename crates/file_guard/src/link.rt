@@ -11,7 +11,8 @@ pub const LINK_MARK: &[u8] = b"!<symlink>";
 /// Where the text of a link begins in its target, counted from 0: after `00 a0`.
 const LINK_TEXT_AT: usize = 2;
 
-/// The text of a link with this target; none if the target is too short to have one.
+/// The text of a link whose entry has this target: the bytes after the first two. Empty if the
+/// target is too short.
 pub fn link_text_of_target(target: &[u8]) -> &[u8]
     ensures { result.now ≡ link_text_of_target target.now }
 {

@@ -1,5 +1,6 @@
 //! A comparison of a file's bytes with an entry, piece by piece. It serves `compare_file`; the
-//! rules are in `docs/commands.md`, "What a change does with files", what counts as changed.
+//! rules are in `docs/commands.md`, "What a change does with files", part "Configuration files",
+//! the table.
 
 ghost use Rattle.std.specs.Prelude.{◌≡◌, ℕ, Bool, List, [], ◌++◌, Some};
 ghost use Rattle.file_guard.specs.Listed.{is_as_described};
@@ -9,8 +10,8 @@ use crate::compare::ListedFile;
 use crate::link::{LINK_MARK, link_text_of_target};
 use pkg_core::Hasher;
 
-/// What the remaining bytes have to be. `Watching` of `specs/` relates this to the test of all
-/// bytes.
+/// The comparison of a file with an entry, after some bytes of the file were read: what the
+/// remaining bytes have to be. `Watching` of `specs/` relates this to the test of all bytes.
 #[derive(Drop)]
 pub(crate) enum Watch<'a> {
     /// Whatever the remaining bytes are, the file is not as listed.
@@ -23,8 +24,8 @@ pub(crate) enum Watch<'a> {
 }
 
 impl<'a> Watch<'a> {
-    /// The watch of an entry, before the first byte of the file; without an entry, nothing is as
-    /// listed.
+    /// The comparison with an entry, before the first byte of the file was read. Without an entry,
+    /// no bytes are as listed.
     pub fn new(listed: Option<ListedFile<'a>>) -> Watch<'a>
         ensures { IsWatchOfTest result (is_as_described listed.entry) [] }
     {
@@ -34,8 +35,10 @@ impl<'a> Watch<'a> {
         }
     }
 
-    /// The watch after more bytes of the file.
+    /// The comparison after these further bytes of the file were read.
     pub fn take(self, bytes: &[u8]) -> Watch<'a>
+        // If this was the comparison for a test after `so_far`, the result is the one after
+        // `so_far` and these bytes.
         ensures { (test : List ℕ → Bool) (so_far : List ℕ) → IsWatchOfTest self.entry test so_far
             → IsWatchOfTest result test (so_far ++ bytes.now) }
     {
@@ -49,8 +52,9 @@ impl<'a> Watch<'a> {
         }
     }
 
-    /// Whether the file is as listed, if no bytes remain.
+    /// Whether the file is as listed, if all its bytes were read.
     pub fn has_listed_bytes(self) -> bool
+        // The result is that of the test for all bytes that were read.
         ensures { (test : List ℕ → Bool) (bytes : List ℕ) → IsWatchOfTest self.entry test bytes
             → result ≡ test bytes }
     {
@@ -62,8 +66,9 @@ impl<'a> Watch<'a> {
     }
 }
 
-/// The watch of a file with this entry: its link's bytes, its digest, or no bytes are expected; by
-/// a size alone nothing is as listed.
+/// The comparison with this entry, before the first byte was read. For a link its bytes are
+/// expected, for another entry its digest, and for the size 0 no bytes. An entry with a size above
+/// 0 and no digest lists no bytes.
 fn watch_listed<'a>(listed: ListedFile<'a>) -> Watch<'a>
     ensures { IsWatchOfTest result (is_as_described (Some listed.entry)) [] }
 {
@@ -79,12 +84,14 @@ fn watch_listed<'a>(listed: ListedFile<'a>) -> Watch<'a>
     Watch::Never
 }
 
-/// The bytes expected after some bytes, if these two runs of bytes were expected.
+/// The comparison after `bytes` were read, if exactly the bytes `first` and then `second` had to
+/// follow.
 fn bytes_behind<'a>(first: &'a [u8], second: &'a [u8], bytes: &[u8]) -> Watch<'a>
     ensures { (test : List ℕ → Bool) (so_far : List ℕ)
         → IsWatchOfTest (Watch.Exactly first.entry second.entry) test so_far
         → IsWatchOfTest result test (so_far ++ bytes.now) }
 {
+    // How many of the bytes are compared with `first`; those after them are compared with `second`.
     let len = bytes.len().min(first.len());
     let Some(first_left) = first.strip_prefix(&bytes[..len]) else {
         return Watch::Never;

@@ -1,7 +1,6 @@
--- The files of a package: those below a folder of a tree.
--- The rule is in `docs/commands.md`, "`mkpkg`": "With `-F DIR` the package holds all files
--- below DIR, under their names below it." Serves the law
--- `a_made_package_has_the_files_below_its_folder`.
+-- The files of a package: those below a folder of a tree. The rule is in `docs/commands.md`, "`mkpkg`":
+-- "With `-F DIR`, the package contains all files below DIR, at their paths relative to DIR". Serves the
+-- law `a_made_package_has_the_files_below_its_folder`.
 use Rattle.std.specs.Prelude.{◌≡◌, ℕ, List, ◌∷◌, ◌++◌, map, Some, All}
 use Rattle.std.specs.List.Sorted.{IsPermutation}
 use Rattle.base_core.specs.Files.{Files}
@@ -11,11 +10,12 @@ use Rattle.make_index.specs.adb_fields.Repeated.{files_in, folders_in, name_of, 
 use Rattle.make_package.specs.package_files.Folders.{path_relative_to}
 use Rattle.make_package.specs.package_files.Package.{value_of_file}
 
--- the name in the tree of a path below a folder: the folder, a slash (47) and the path
+-- the name in the tree of a path below the folder `dir`: the folder, a slash (47) and the path
 abbrev pub path_joined_to_folder : List ℕ → List ℕ → List ℕ
 path_joined_to_folder dir path = dir ++ 47 ∷ path
 
--- a file of a package, in a folder of the package, is what the bytes under its path in the tree are
+-- the file `file`, in the folder `folder` of a package, is made of the bytes that the tree has under its
+-- path below the folder `dir` of the tree
 pub record IsFileBelow (files : Files) (dir folder : List ℕ) (file : Plain) : Type 0 where
   -- the bytes of the file in the tree
   pub bytes : List ℕ
@@ -24,8 +24,8 @@ pub record IsFileBelow (files : Files) (dir folder : List ℕ) (file : Plain) : 
   -- the file of the package is the value made of its name and these bytes
   pub is : file ≡ value_of_file (record { name = name_of file; bytes = bytes })
 
--- the paths in a package are exactly those of some names below a folder of the tree, each once, and
--- each of its files is the one under its name
+-- the package has exactly the files of these names, each once. The names are below the folder `dir` of
+-- the tree, and each file of the package is made of the bytes under its name
 pub record HasJustNamedFilesBelowFolder (files : Files) (dir : List ℕ) (names : List (List ℕ))
     (pkg : Plain) :
     Type 0 where

@@ -13,12 +13,12 @@ use Rattle.make_index.specs.make_info.Reads.{Reads}
 use Rattle.make_index.specs.pkg_core.Whole.{package_fault}
 use Rattle.adb_view.specs.FieldIndexes.{INDEX_PACKAGES}
 
--- the entries that an index has of its packages
+-- the entries of an index, one for each package
 abbrev pub packages_in : Plain → List Plain
 packages_in index = entries_at INDEX_PACKAGES index
 
--- the read of each operand finds its file, which passes all tests of a package; the read of the
--- first operand has the number `n`
+-- `files` are the bytes that the reads of the operands' files find, in their order. Each passes all tests
+-- of a package. The read for the first operand has the number `n`
 abbrev pub AreSoundPackages : Reads → ℕ → List Operand → List (List ℕ) → Type 0
 AreSoundPackages read n [] [] = Unit {0}
 AreSoundPackages read n [] (file ∷ files) = ⊥
@@ -27,8 +27,8 @@ AreSoundPackages read n (o ∷ operands) (file ∷ files) =
     (read n (without_dot_slash o.text) ≡ Some file) × (package_fault file ≡ None)
     × AreSoundPackages read (n + 1) operands files
 
--- an index has the entries of exactly the packages that operands name, in order (*entry_cmp*); the
--- order of two equal ones is not defined here. `files` are the operands' files, in their order; reads
+-- the index has exactly the entries of the packages that the operands name, in order (*entry_cmp*); the
+-- order of two equal entries is not defined here. `files` are the operands' files, in their order; reads
 -- are numbered from 0
 pub record HasSortedEntriesOfOperands (read : Reads) (operands : List Operand) (index : Plain) :
     Type 0 where

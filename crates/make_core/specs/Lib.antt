@@ -1,7 +1,7 @@
 -- The definitions of this crate, whose rules are in `docs/commands.md`, "`mkpkg`" and "`mkndx
 -- PACKAGE..`".
 
--- passed on: a crate above that names this one need not name these
+-- re-exported, so that a crate that uses this one need not name these crates
 pub use Rattle.make_index.specs as make_index
 pub use Rattle.make_index.specs.adb_copy as adb_copy
 pub use Rattle.make_index.specs.adb_fields as adb_fields
@@ -11,7 +11,7 @@ pub use Rattle.make_index.specs.pkg_core as pkg_core
 pub use Rattle.make_package.specs as make_package
 pub use Rattle.make_package.specs.adb_sound as adb_sound
 pub use Rattle.make_package.specs.package_files as package_files
--- what its laws say
+-- cited by the laws of this crate
 pub mod FilesBelow
 pub mod IndexOrder
 pub mod Missing

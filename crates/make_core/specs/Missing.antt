@@ -8,23 +8,23 @@ use Rattle.command_core.specs.Values.{script_file}
 use Rattle.command_core.specs.declared.values.OptionValue.{OptionValue}
 use Rattle.make_index.specs.make_info.Reads.{Reads}
 
--- a read finds nothing under a name
+-- some read finds no file under the name
 abbrev pub IsAbsent : Reads → List ℕ → Type 0
 IsAbsent read name = (n : ℕ) × (read n name ≡ None)
 
--- the place is that of a script's option whose file is absent
+-- the place is that of a value of `-s` whose file is absent
 pub record IsPlaceOfScriptOptionWithoutFile (read : Reads) (scripts : List OptionValue)
     (place : ℕ) : Type 0 where
   -- the option that names the script's file
   pub script : OptionValue
-  -- it is one of the given options
+  -- the option is one of the given values of `-s`
   pub given : Contains scripts script
-  -- it is at this place of the command line
+  -- the option is at this place of the command line
   pub at : script.place ≡ place
   -- a read of the script's file finds nothing
   pub absent : IsAbsent read (without_dot_slash (script_file script.text))
 
--- the place is that of `-F`, and one of the names that were listed below its folder is absent
+-- the place is that of the first `-F`, and one of the files that were listed below its folder is absent
 pub record IsPlaceOfFolderWithMissingFile (read : Reads) (folders : List OptionValue)
     (names : List (List ℕ))
     (place : ℕ) : Type 0 where
@@ -34,11 +34,11 @@ pub record IsPlaceOfFolderWithMissingFile (read : Reads) (folders : List OptionV
   pub others : List OptionValue
   -- all options that name a folder, in their order
   pub given : folders ≡ folder ∷ others
-  -- the first is at this place of the command line
+  -- the first option is at this place of the command line
   pub at : folder.place ≡ place
   -- the name of the absent file
   pub name : List ℕ
-  -- it is one of the listed names
+  -- the name is one of the listed names
   pub listed : Contains names name
-  -- a read of it finds nothing
+  -- some read of this file finds nothing
   pub absent : IsAbsent read name

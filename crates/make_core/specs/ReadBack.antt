@@ -18,8 +18,8 @@ use Rattle.make_package.specs.package_files.Package.{Script, SourceFolder, conte
 use Rattle.make_package.specs.package_files.Sources.{source_folders_of_first_option, and_then, scripts_from_read, texts_of, values_of_letter}
 use Rattle.make_index.specs.pkg_core.Whole.{PackageWithContents}
 
--- the value and the contents of a package, given what was read of each part, in the order in which the
--- parts are read
+-- the value and the contents of the package of a command, given its parts in the order of their reads.
+-- The parts are the scripts, the information of `-I` (`about`) and the folders
 abbrev pub packed_of_parts :
     CommandLine → List Script → List FieldWithValue → List SourceFolder
     → Result PackageWithContents MakeFault
@@ -29,7 +29,8 @@ packed_of_parts command scripts about folders =
     (texts_of (values_of_letter TRIGGER command.values)) (replaces_priority about))
     (contents_of_folders 1 folders))
 
--- the value and the contents of the package that a command describes
+-- the value and the contents of the package that a command describes, or the first refusal; `names` are
+-- the names below its folder
 abbrev pub packed_package : CommandLine → List (List ℕ) → Reads → Result PackageWithContents MakeFault
 packed_package command names read =
     and_then (scripts_from_read read 0 (values_of_letter SCRIPT command.values)) (λ scripts.
@@ -38,13 +39,14 @@ packed_package command names read =
     (values_of_letter FILES command.values) names)
     (packed_of_parts command scripts about)))
 
--- the value of an index with these entries, sorted; or the fault of the first operand without one
+-- the value of the index with this description and these entries, which are sorted here. Or the fault
+-- that is given in place of the entries
 abbrev pub index_value_of_entries : List ℕ → Result (List Plain) MakeFault → Result Plain MakeFault
 index_value_of_entries description (Ok entries) =
     Ok (value_of_index description (sorted_by entry_cmp entries))
 index_value_of_entries description (Err fault) = Err fault
 
--- the value of the index that a command describes
+-- the value of the index that a command describes, or the first refusal
 abbrev pub index_value_of_command : CommandLine → Reads → Result Plain MakeFault
 index_value_of_command command read =
     index_value_of_entries (description_in command.values) (found_entries read 0 command.operands)

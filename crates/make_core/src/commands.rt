@@ -29,18 +29,21 @@ use std::alloc::Global;
 pub fn mkpkg<T: Tree>(alloc: Global, command: &Command, tree: &mut T) -> Result<Vec<u8>, MakeFault>
     // The command is `mkpkg`.
     requires { command.now.applet ≡ Applet.Mkpkg }
-    // If the tree's files are observable: the package is theirs, or the refusal.
+    // If the tree is observable, a returned package is made of its files.
     ensures ok { IfOk result (λ file. IfObservable (T.history tree.old) (λ v.
         IsMadeFromTree command.now v (Ok file.items))) }
-    // If the tree is observable, an error other than I/O or memory is that of its files.
+    // If the tree is observable, an error other than an I/O error or out of memory is the refusal
+    // that follows from its files.
     ensures err { IfErr result (λ fault. UnlessDiskOrMemory fault (λ made.
         IfObservable (T.history tree.old) (λ v. IsMadeFromTree command.now v made))) }
-    // Over any tree, the package is made from some names below the folder and some reads.
+    // For every tree, a returned package is made of some names below the folder and some results of
+    // reads.
     ensures found { IfOk result (λ file. IsMadeBySomeReads command.now (Ok file.items)) }
-    // Over any tree, an error other than I/O or memory is that of some reads.
+    // For every tree, an error other than an I/O error or out of memory is the refusal for some
+    // names below the folder and some results of reads.
     ensures found_err { IfErr result (λ fault. UnlessDiskOrMemory fault
         (IsMadeBySomeReads command.now)) }
-    // What is made passes all tests of a container.
+    // The bytes that are returned pass all tests of a container.
     ensures sound { IfOk result (λ file. container_fault file.items ≡ None) }
     // The tree is only read, and `Disk` has a fault of the tree as its cause.
     ensures tree { OnlyReads MakeFault.Disk (T.history tree.old) (T.history tree.new)
@@ -62,15 +65,16 @@ pub fn mkpkg<T: Tree>(alloc: Global, command: &Command, tree: &mut T) -> Result<
 pub fn mkndx<T: Tree>(alloc: Global, command: &Command, tree: &mut T) -> Result<Vec<u8>, MakeFault>
     // The command is `mkndx`.
     requires { command.now.applet ≡ Applet.Mkndx }
-    // If the tree is observable, the index is made from its files.
+    // If the tree is observable, the result is the index of its files or the first refusal, unless
+    // it is out of memory or an I/O error.
     ensures made { IfObservable (T.history tree.old) (λ v.
         AgreesUnlessMemoryOrDisk (λ file. file.items) result (made_index command.now
         (reads_of v))) }
-    // Over any tree, the index is made from some bytes for each read. The first operand's read has
-    // the number 0.
+    // For every tree, the result is that for some result of each read (`read`). The read of the
+    // first operand has the number 0.
     ensures found { (read : Reads) × AreOperandReadsFileBytes read 0 command.now.operands
         × AgreesUnlessMemoryOrDisk (λ file. file.items) result (made_index command.now read) }
-    // What is made passes all tests of a container.
+    // The bytes that are returned pass all tests of a container.
     ensures sound { IfOk result (λ file. container_fault file.items ≡ None) }
     // The tree is only read, and `Disk` has a fault of the tree as its cause.
     ensures tree { OnlyReads MakeFault.Disk (T.history tree.old) (T.history tree.new)

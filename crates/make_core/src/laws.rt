@@ -1,7 +1,7 @@
-//! What is made is sound, and what it holds: no test of a container fails (apk-v3(5)), and it is
-//! read back.
-//! The rules are in `docs/commands.md`, "`mkpkg`" and "`mkndx PACKAGE..`", and in
-//! `docs/formats.md`, "Tests of a container".
+//! Laws about the packages and indexes that are made: they pass all tests of a container
+//! (apk-v3(5)), and reading them gives the values that the command describes. The rules are in
+//! `docs/commands.md`, "`mkpkg`" and "`mkndx PACKAGE..`", and in `docs/formats.md`, "Tests of a
+//! container".
 ghost use Rattle.make_index.specs.adb_schema.Soundness.{payload_in, root_value};
 ghost use Rattle.adb_view.specs.declared.tables.Which.TheVariants.{Index, Package};
 ghost use Rattle.command_core.specs.declared.values.TheConstants.{FILES, SCRIPT};
@@ -42,6 +42,7 @@ pub fn a_made_index_is_sound()
         → AreOperandReadsFileBytes read 0 command.operands → made_index command read ≡ Ok bytes
         → container_fault bytes ≡ None }
 {
+    // Laws that the proof needs; they compute nothing.
     a_container_of_a_good_value_is_sound();
     a_value_overflows_exactly_past_a_limit();
     values_are_normal();
@@ -57,6 +58,7 @@ pub fn a_made_package_is_sound()
         → made_package command names read ≡ Ok bytes → length bytes < 2 ^ 64
         → container_fault bytes ≡ None }
 {
+    // Laws that the proof needs; they compute nothing.
     a_package_of_a_good_value_and_its_contents_is_sound();
     contents_are_in_their_container();
     the_installed_size_is_that_of_the_contents();
@@ -66,13 +68,14 @@ pub fn a_made_package_is_sound()
     the_first_pair_in_one_of_several_lists_is_reported();
 }
 
-/// The value of an index that `mkndx` makes is read back from it: its description, and the entries
-/// of the packages that are named, in order.
+/// The value that is read from an index that `mkndx` makes is the one that the command describes:
+/// its description, and the entries of the named packages, in order.
 pub fn a_made_index_is_read_back()
     ensures { (command : CommandLine) (read : Reads) (bytes : List ℕ)
         → AreOperandReadsFileBytes read 0 command.operands → made_index command read ≡ Ok bytes
         → index_value_of_command command read ≡ Ok (root_value Index (payload_in bytes)) }
 {
+    // Laws that the proof needs; they compute nothing.
     what_a_container_is_made_of_is_read_back();
     a_value_overflows_exactly_past_a_limit();
     values_are_normal();
@@ -80,14 +83,15 @@ pub fn a_made_index_is_read_back()
     values_of_few_visits_have_no_fault();
 }
 
-/// The value of a package that `mkpkg` makes, and the contents of its files, are read back from it,
-/// if it has fewer than 2^64 bytes.
+/// The value and the contents of files that are read from a package that `mkpkg` makes are those
+/// that the command describes, if the package has fewer than 2^64 bytes.
 pub fn a_made_package_is_read_back()
     ensures { (command : CommandLine) (names : List (List ℕ)) (read : Reads) (bytes : List ℕ)
         → AreNamesBelowFirstFolder (values_of_letter FILES command.values) names
         → made_package command names read ≡ Ok bytes → length bytes < 2 ^ 64
         → packed_package command names read ≡ Ok (package_with_contents bytes) }
 {
+    // Laws that the proof needs; they compute nothing.
     what_a_container_is_made_of_is_read_back();
     contents_are_in_their_container();
     the_installed_size_is_that_of_the_contents();
@@ -104,6 +108,7 @@ pub fn a_made_index_has_its_packages_in_order()
         → AreOperandReadsFileBytes read 0 command.operands → made_index command read ≡ Ok bytes
         → HasSortedEntriesOfOperands read command.operands (root_value Index (payload_in bytes)) }
 {
+    // Laws that the proof needs; they compute nothing.
     an_index_is_in_order();
     what_a_container_is_made_of_is_read_back();
     a_value_overflows_exactly_past_a_limit();
@@ -123,6 +128,7 @@ pub fn a_made_package_has_the_files_below_its_folder()
         → HasJustNamedFilesBelowFolder files (without_dot_slash folder.text) names
         (root_value Package (payload_in bytes)) }
 {
+    // Laws that the proof needs; they compute nothing.
     each_name_is_in_one_folder();
     what_a_container_is_made_of_is_read_back();
     contents_are_in_their_container();
@@ -133,8 +139,8 @@ pub fn a_made_package_has_the_files_below_its_folder()
     the_first_pair_in_one_of_several_lists_is_reported();
 }
 
-/// A missing file is reported at the option that gives it: at a script whose file is absent, or at
-/// the folder, if a name that was listed below it is gone.
+/// A missing file is reported at the place of the option that gives it. This is a `-s` whose file
+/// is absent, or the first `-F`, if a file listed below its folder is absent.
 pub fn a_missing_file_is_reported_at_its_option()
     ensures { (command : CommandLine) (names : List (List ℕ)) (read : Reads) (place : ℕ)
         → made_package command names read ≡ Err (FileMissing place)

@@ -9,7 +9,7 @@ use Rattle.adb_view.specs.Values.{entry_in}
 use Rattle.adb_copy.specs.Zeros.{info_with_id_and_size}
 use Rattle.pkg_core.specs.Whole.{package_id, package_with_contents}
 
--- the entry that an index has of the package in a file
+-- the entry that an index has for the package in the file with these bytes
 abbrev pub entry_of_package : List ℕ → Plain
 entry_of_package file =
     info_with_id_and_size (entry_in (package_with_contents file).value PACKAGE_INFO) (package_id file)

@@ -1,6 +1,5 @@
--- The order of the entries of an index.
--- The rule is in `docs/commands.md`, "`mkndx PACKAGE..`": "Packages are ordered by name,
--- version, the version's text and id".
+-- The order of the entries of an index. The rule is in `docs/commands.md`, "`mkndx PACKAGE..`": "The
+-- entries are sorted by name, then by version, then by the text of the version, and then by id".
 use Rattle.std.specs.Prelude.{ℕ, List}
 use Rattle.std.specs.Ordering.{on, then_cmp}
 use Rattle.std.specs.declared.cmp.Ordering.{Ordering}
@@ -10,19 +9,20 @@ use Rattle.adb_view.specs.Plain.{Plain}
 use Rattle.adb_view.specs.FieldIndexes.{INFO_HASHES, INFO_NAME, INFO_VERSION}
 use Rattle.adb_view.specs.Values.{entry_in, text_in}
 
--- the name of the package of an entry
+-- the name of the package that an entry of an index is for
 abbrev pub name_of_index_entry : Plain → List ℕ
 name_of_index_entry entry = text_in (entry_in entry INFO_NAME)
 
--- the version of the package of an entry, as text
+-- the text of the version of the package that an entry of an index is for
 abbrev pub version_of_index_entry : Plain → List ℕ
 version_of_index_entry entry = text_in (entry_in entry INFO_VERSION)
 
--- the id of the package of an entry, which an index has as its hash
+-- the id of the package that an entry of an index is for: the field `hashes` of the entry
 abbrev pub id_of_index_entry : Plain → List ℕ
 id_of_index_entry entry = text_in (entry_in entry INFO_HASHES)
 
--- the order of entries: by name, then by version, then by the version's text, then by id
+-- the order of the entries of an index: by name, then by version, then by the text of the version (byte
+-- by byte), then by id
 unfoldable pub entry_cmp : Plain → Plain → Ordering
 entry_cmp =
     then_cmp (on name_of_index_entry bytes_cmp)

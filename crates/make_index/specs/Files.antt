@@ -7,14 +7,14 @@ use Rattle.command_core.specs.Files.{without_dot_slash}
 use Rattle.command_core.specs.declared.operands.Operand.{Operand}
 use Rattle.make_info.specs.Reads.{Reads}
 
--- each read of an operand finds nothing, or the bytes that a file may have; the read of the first
--- operand has the number `n`
+-- for each operand, the read of its file finds no file, or bytes that a file may have. The operands are
+-- read one after the other; the read for the first one has the number `n`
 abbrev pub AreOperandReadsFileBytes : Reads → ℕ → List Operand → Type 0
 AreOperandReadsFileBytes read n [] = Unit {0}
 AreOperandReadsFileBytes read n (o ∷ operands) =
     ((file : List ℕ) → read n (without_dot_slash o.text) ≡ Some file → AreFileBytes file)
     × AreOperandReadsFileBytes read (n + 1) operands
 
--- the reads of a tree in this state: each finds what is under its name
+-- the results of reads of a tree in this state: each finds what the tree has under the name that is read
 abbrev pub reads_of : TreeState → Reads
 reads_of v n name = files_of v name

@@ -33,26 +33,27 @@ value_of_index description entries =
 
 -- ---- the packages, operand by operand
 
--- the entry of the package in a file, unless a test of the file fails (`cause`); the place is that of
--- the operand that names the file
+-- the entry of the package in the file with these bytes. If a test of the file failed (`cause`), the
+-- refusal at the place of the operand that names the file
 abbrev pub entry_unless_fault : ℕ → List ℕ → Option Cause → Result Plain MakeFault
 entry_unless_fault place file None = Ok (entry_of_package file)
 entry_unless_fault place file (Some cause) = Err (FileBad place cause)
 
--- the entry of the package that was found under the name of the operand at a place, if it is sound
+-- the entry of the package that was found under the name of the operand at this place. If no file was
+-- found, or a test of it fails, a refusal at this place
 abbrev pub found_entry : ℕ → Option (List ℕ) → Result Plain MakeFault
 found_entry place None = Err (FileMissing place)
 found_entry place (Some file) = entry_unless_fault place file (package_fault file)
 
--- an entry followed by others, or the first refusal
+-- an entry followed by other entries; or the first refusal, if one of the two results is a refusal
 abbrev pub entry_before_others_or_fault :
     Result Plain MakeFault → Result (List Plain) MakeFault → Result (List Plain) MakeFault
 entry_before_others_or_fault (Err fault) others = Err fault
 entry_before_others_or_fault (Ok entry) (Err fault) = Err fault
 entry_before_others_or_fault (Ok entry) (Ok entries) = Ok (entry ∷ entries)
 
--- the entries of all packages that operands name, or the first refusal; the read of the first
--- operand has the number `n`, counted from 0
+-- the entries of the packages that the operands name, in their order, or the first refusal. The operands
+-- are read one after the other; the read for the first one has the number `n`
 abbrev pub found_entries : Reads → ℕ → List Operand → Result (List Plain) MakeFault
 found_entries read n [] = Ok []
 found_entries read n (o ∷ operands) =
@@ -61,34 +62,38 @@ found_entries read n (o ∷ operands) =
 
 -- ---- the file
 
--- the file of an index with this payload, unless the payload exceeds a limit of the writer
+-- the bytes of the index with this payload. Or, if the payload exceeds a limit of the writer, the error
+-- with the two counts at which it does
 abbrev pub index_container : Result (List ℕ) PayloadCounts → Result (List ℕ) MakeFault
 index_container (Ok payload) = Ok (file_of INDEX_WORD payload)
 index_container (Err counts) = Err (TooLarge counts.0 counts.1)
 
--- the index of these entries, sorted, or the refusal if it exceeds a limit
+-- the bytes of the index with this description and these entries, which are sorted here. Or the refusal
+-- if its payload exceeds a limit of the writer
 unfoldable pub index_of_entries : List ℕ → List Plain → Result (List ℕ) MakeFault
 index_of_entries description entries =
     index_container (payload_or_overflow (value_of_index description (sorted_by entry_cmp entries)))
 
--- the index of the entries of packages that were found, or the first fault
+-- the bytes of the index with the entries that were found, or the refusal that was found in place of them
 abbrev pub index_of_entries_or_fault : List ℕ → Result (List Plain) MakeFault → Result (List ℕ) MakeFault
 index_of_entries_or_fault description (Ok entries) = index_of_entries description entries
 index_of_entries_or_fault description (Err fault) = Err fault
 
--- the index of the packages that operands name, given what each read finds
+-- the bytes of the index of the packages that the operands name, given the results of the reads; or the
+-- first refusal
 abbrev pub index_of_operands : List ℕ → List Operand → Reads → Result (List ℕ) MakeFault
 index_of_operands description operands read =
     index_of_entries_or_fault description (found_entries read 0 operands)
 
 -- ---- of a command
 
--- the text of a value, or nothing if there is none
+-- the text of the value; empty if there is no value
 abbrev pub text_or_empty : Option OptionValue → List ℕ
 text_or_empty None = []
 text_or_empty (Some v) = v.text
 
--- the description of an index: the value of the first `-d`, or nothing
+-- the description of an index: the text of the first value of `-d`; empty if there is none. `values` are
+-- the values of all options
 abbrev pub description_in : List OptionValue → List ℕ
 description_in values = text_or_empty (find (λ (v : OptionValue). v.letter == DESCRIPTION) values)
 

@@ -22,17 +22,18 @@ use Rattle.make_index.specs.declared.source.EntrySource.TheVariants.{Payload, Fi
 
 -- ---- entries
 
--- an entry, rebuilt from its own fields, as it is written into another payload
+-- an entry, built again from its own fields, as it is written into the payload of an index
 abbrev pub copy_of_entry : Plain → Plain
 copy_of_entry entry = info_with_id_and_size entry (text_in (entry_in entry INFO_HASHES))
     (int_in (entry_in entry INFO_FILE_SIZE))
 
--- the entry that is written from what is kept
+-- the entry that is written from what is kept of a package: a payload with the entry, or the package's
+-- file
 abbrev pub entry_of_source : EntrySource → Plain
 entry_of_source (Payload own) = copy_of_entry (root_value PkgInfo own.payload.items)
 entry_of_source (File own) = entry_of_package own.file.items
 
--- the payload can be read, and its root is this entry
+-- the payload can be read, and the entry is the copy of its root
 pub record HoldsEntry (payload : List ℕ) (entry : Plain) : Type 0 where
   -- the head of the payload has no fault
   pub head : is_none (payload_head_fault payload) ≡ true
@@ -41,8 +42,7 @@ pub record HoldsEntry (payload : List ℕ) (entry : Plain) : Type 0 where
   -- the entry is the copy of this information
   pub value : copy_of_entry (root_value PkgInfo payload) ≡ entry
 
--- the name, the version and the id, by which entries are ordered, are those of this entry; and the
--- version is valid
+-- the name, the version and the id are those by which this entry is ordered; and the version is valid
 pub record IsEntryWithKeys (name version id : List ℕ) (entry : Plain) : Type 0 where
   -- the name is the entry's
   pub by_name : name ≡ name_of_index_entry entry
@@ -55,8 +55,8 @@ pub record IsEntryWithKeys (name version id : List ℕ) (entry : Plain) : Type 0
 
 -- ---- results
 
--- a result, whose value is mapped by `view`, equals the specified one. If it is out of memory,
--- nothing is required; an I/O error of the tree is impossible
+-- the result, with its value mapped by `view`, equals the specified result (`wanted`). If the result is
+-- out of memory, nothing is stated; it is never an I/O error of the tree
 abbrev pub AgreesUnlessMemory :
     {A B : Type 0} → (A → B) → Result A MakeFault → Result B MakeFault → Type 0
 AgreesUnlessMemory view (Ok x) wanted = wanted ≡ Ok (view x)
@@ -64,8 +64,8 @@ AgreesUnlessMemory view (Err Memory) wanted = Unit {0}
 AgreesUnlessMemory view (Err Disk) wanted = ⊥
 AgreesUnlessMemory view (Err fault) wanted = wanted ≡ Err fault
 
--- a result, whose value is mapped by `view`, equals the specified one. If it is out of memory or an
--- I/O error of the tree, nothing is required
+-- the result, with its value mapped by `view`, equals the specified result (`wanted`). If the result is
+-- out of memory or an I/O error of the tree, nothing is stated
 abbrev pub AgreesUnlessMemoryOrDisk :
     {A B : Type 0} → (A → B) → Result A MakeFault → Result B MakeFault → Type 0
 AgreesUnlessMemoryOrDisk view (Ok x) wanted = wanted ≡ Ok (view x)
@@ -73,7 +73,8 @@ AgreesUnlessMemoryOrDisk view (Err Memory) wanted = Unit {0}
 AgreesUnlessMemoryOrDisk view (Err Disk) wanted = Unit {0}
 AgreesUnlessMemoryOrDisk view (Err fault) wanted = wanted ≡ Err fault
 
--- a package that the operand at this place names is refused for the first of its tests that fails
+-- the refusal of the package that the operand at this place names: `FileBad` with the first test that
+-- fails (`failed`), or out of memory. No other fault
 abbrev pub IsRefusedAt : ℕ → MakeFault → Option Cause → Type 0
 IsRefusedAt place (FileBad at cause) failed = (at ≡ place) × (failed ≡ Some cause)
 IsRefusedAt place Memory failed = Unit {0}

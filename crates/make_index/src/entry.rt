@@ -49,8 +49,8 @@ impl Entry {
     ghost use Rattle.make_index.specs.Views.{entry_view};
     ghost use Rattle.base_core.specs.Files.{AreFileBytes};
 
-    /// The entry of the package in this file, which an operand at this place names. The file is
-    /// dropped, unless its entry alone exceeds a limit of the writer.
+    /// The entry of the package in this file, which the operand at this place names. The bytes of
+    /// the file are dropped, unless the entry alone exceeds a limit of the writer.
     ///
     /// # Errors
     ///
@@ -59,6 +59,7 @@ impl Entry {
         // The result is the entry of a package with these bytes, or its refusal, unless out of
         // memory.
         ensures made { AgreesUnlessMemory entry_view result (found_entry place (Some file.items)) }
+        // The file has bytes that a file may have.
         ensures bytes { AreFileBytes file.items }
     {
         let parts = read_parts(alloc, place, &file)?;
@@ -100,11 +101,11 @@ impl Entry {
     }
 }
 
-/// The order of two texts that are versions.
+/// The order of two versions, given as texts.
 fn compare_versions(one: &[u8], other: &[u8]) -> Ordering
-    // The first version is valid,
+    // The first text is a valid version.
     requires one { IsTrue (is_version one.now) }
-    // and so is the second.
+    // The second text is a valid version.
     requires other { IsTrue (is_version other.now) }
     ensures { result ≡ version_cmp one.now other.now }
 {
@@ -115,7 +116,7 @@ fn compare_versions(one: &[u8], other: &[u8]) -> Ordering
     }
 }
 
-/// The parts of an entry, of a package that was tested.
+/// The parts of the entry of a package that passed its tests.
 #[derive(Drop)]
 struct Parts {
     /// The name of the package.
@@ -141,10 +142,11 @@ fn read_parts(alloc: Global, place: u32, file: &[u8]) -> Result<Parts, MakeFault
     // The parts give the name, the version and the id of the package's entry.
     ensures keys { IfOk result (λ parts.
         IsEntryWithKeys parts.name.items parts.version.items parts.id (entry_of_package file.now)) }
-    // A payload that is kept has the entry.
+    // The entry of the package is the copy of the root of a returned payload (*HoldsEntry*).
     ensures payload { IfOk result (λ parts.
         IfSome parts.payload (λ payload. HoldsEntry payload.items (entry_of_package file.now))) }
 {
+    // Laws that the proof needs; they compute nothing.
     a_canonical_payload_is_read_back();
     a_value_overflows_exactly_past_a_limit();
     sound_containers_hold_sound_values();
@@ -188,6 +190,7 @@ pub(crate) fn open_tested<'a>(
     // The payload is that of the file's first block.
     ensures payload { IfOk result (λ pkg. opened_payload pkg ≡ payload_in file.entry.now) }
 {
+    // A law that the proof needs; it computes nothing.
     a_package_is_tested_by_its_values_and_then_its_files();
     let mut pkg = match Package::new(alloc, file) {
         Ok(pkg) => pkg,
@@ -203,6 +206,7 @@ pub(crate) fn open_tested<'a>(
 fn test_files(pkg: &mut Package<'_>) -> Result<(), Cause>
     // An error is the fault of the first file whose contents are bad.
     ensures files { result_err result ≡ fault_of_files_read (opened_files pkg.old) }
+    // The package's value is unchanged.
     ensures value { opened_value pkg.new ≡ opened_value pkg.old }
     // The package's payload is unchanged.
     ensures payload { opened_payload pkg.new ≡ opened_payload pkg.old }
@@ -211,8 +215,10 @@ fn test_files(pkg: &mut Package<'_>) -> Result<(), Cause>
     Ok(())
 }
 
-/// The refusal of a package, which the operand at this place names, for a fault of it.
+/// The refusal of the package that the operand at this place names, for the fault of the package.
 fn refused(place: u32, fault: PackageFault) -> MakeFault
+    // If the fault is that of the first failed test (`failed`), the refusal has this test as its
+    // cause.
     ensures { (failed : Option Cause) → IsFaultOf fault failed → IsRefusedAt place result failed }
 {
     match fault {

@@ -55,18 +55,20 @@ use version_core::order_is_total;
 pub fn make<T: Tree>(alloc: Global, command: &Command, tree: &mut T) -> Result<Vec<u8>, MakeFault>
     // The command is `mkndx`.
     requires { command.now.applet ≡ Applet.Mkndx }
-    // If the tree is observable, the index is made from its files.
+    // If the tree is observable, the result is the index of its files or the first refusal, unless
+    // it is out of memory or an I/O error.
     ensures made { IfObservable (T.history tree.old) (λ v.
         AgreesUnlessMemoryOrDisk (λ file. file.items) result (made_index command.now
         (reads_of v))) }
-    // Over any tree, the index is made from some bytes for each read. The first operand's read has
-    // the number 0.
+    // For every tree, the result is that for some result of each read (`read`). The read of the
+    // first operand has the number 0.
     ensures found { (read : Reads) × AreOperandReadsFileBytes read 0 command.now.operands
         × AgreesUnlessMemoryOrDisk (λ file. file.items) result (made_index command.now read) }
     // The tree is only read, and `Disk` has a fault of the tree as its cause.
     ensures tree { OnlyReads MakeFault.Disk (T.history tree.old) (T.history tree.new)
         (T.counts tree.old) (T.counts tree.new) result }
 {
+    // A law that the proof needs; it computes nothing.
     file_operands_are_files();
     let entries = read_entries(alloc, command.operands(), tree)?;
     index_file(alloc, description(command.values()), entries)
@@ -92,10 +94,11 @@ fn read_entries<T: Tree>(
 ) -> Result<Vec<Entry>, MakeFault>
     // Each operand is the name of a file.
     requires { IsTrue (are_files operands.now) }
-    // If the tree is observable, the entries are those of its files.
+    // If the tree is observable, the result is the entries of its files or the first refusal,
+    // unless it is out of memory or an I/O error.
     ensures made { IfObservable (T.history tree.old) (λ v.
         AgreesUnlessMemoryOrDisk entries_view result (found_entries (reads_of v) 0 operands.now)) }
-    // Over any tree, the entries are those of some files.
+    // For every tree, the result is that for some result of each read (`read`).
     ensures found { (read : Reads) × AreOperandReadsFileBytes read 0 operands.now
         × AgreesUnlessMemoryOrDisk entries_view result (found_entries read 0 operands.now) }
     // The tree is only read: no file changes, no I/O error is hidden, and no call is a misuse.
@@ -121,18 +124,19 @@ fn add_entry(entries: &mut Vec<Entry>, entry: Entry) -> Result<(), AllocError>
     Ok(())
 }
 
-/// Reads the package in the file of this name, and makes all tests of it. The operand at a place
-/// names the file.
+/// Reads the package in the file of this name, which the operand at this place names, and makes all
+/// tests of the package.
 fn read_entry<T: Tree>(
     alloc: Global,
     place: u32,
     file: &Name,
     tree: &mut T,
 ) -> Result<Entry, MakeFault>
-    // If the tree is observable, the entry is that of its file.
+    // If the tree is observable, the result is the entry of its file or the refusal, unless it is
+    // out of memory or an I/O error.
     ensures made { IfObservable (T.history tree.old) (λ v.
         AgreesUnlessMemoryOrDisk entry_view result (found_entry place (files_of v file.now))) }
-    // Over any tree, the entry is that of some file, or the file is absent.
+    // For every tree, the result is that for some bytes of the file, or for its absence (`found`).
     ensures found { (found : Option (List ℕ)) × IfSome found AreFileBytes
         × AgreesUnlessMemoryOrDisk entry_view result (found_entry place found) }
     // The tree is only read: no file changes, no I/O error is hidden, and no call is a misuse.
@@ -143,11 +147,12 @@ fn read_entry<T: Tree>(
     entry_of(alloc, place, found)
 }
 
-/// The entry of what was found under the name that the operand at a place gives; a file that is
-/// absent is refused.
+/// The entry of the package in the bytes that were found under the name of the operand at this
+/// place; an absent file is refused.
 fn entry_of(alloc: Global, place: u32, found: Option<Vec<u8>>) -> Result<Entry, MakeFault>
     // The result is the entry of the bytes found, or the refusal, unless out of memory.
     ensures made { AgreesUnlessMemory entry_view result (found_entry place (bytes_in found)) }
+    // The bytes that were found are bytes that a file may have.
     ensures bytes { IfSome (bytes_in found) AreFileBytes }
 {
     match found {
@@ -156,16 +161,18 @@ fn entry_of(alloc: Global, place: u32, found: Option<Vec<u8>>) -> Result<Entry, 
     }
 }
 
-/// The container of an index with this description and these entries, in any order.
+/// The bytes of the index with this description and these entries, which are given in any order.
 ///
 /// # Errors
 ///
 /// `TooLarge` if the payload exceeds a limit of the writer, or `Memory`.
 fn index_file(alloc: Global, description: &[u8], entries: Vec<Entry>) -> Result<Vec<u8>, MakeFault>
+    // The result is the index of the definition, or the refusal; out of memory may occur in any
+    // case.
     ensures { AgreesUnlessMemory (λ file. file.items) result
         (index_of_entries description.now (map entry_view entries.items)) }
 {
-    // Only the order changes.
+    // The entries are sorted in place; only their order changes.
     let mut entries = entries;
     sort_entries(&mut entries)?;
     let payload = index_payload(alloc, description, &entries)?;
@@ -177,6 +184,7 @@ fn sort_entries(entries: &mut Vec<Entry>) -> Result<(), AllocError>
     ensures { IfOk result (λ _.
         map entry_view entries.new.items ≡ sorted_by entry_cmp (map entry_view entries.old.items)) }
 {
+    // A law that the proof needs; it computes nothing.
     order_is_total();
     entries.sort_by(|one, other| one.compare(other))?;
     Ok(())
@@ -207,6 +215,7 @@ fn write_index(
     description: &[u8],
     entries: &[Entry],
 ) -> Result<(), AllocError>
+    // On Ok, the draft has one value more: the object of the index.
     ensures { OnOk result (draft.new
         ≡ draft_with (value_of_index description.now (map entry_view entries.now)) draft.old) }
 {
@@ -218,6 +227,7 @@ fn write_index(
 
 /// Writes entries as an array, in their order.
 fn write_entries(alloc: Global, draft: &mut Draft, entries: &[Entry]) -> Result<(), AllocError>
+    // On Ok, the draft has one value more: the array of the entries, or Null if there are none.
     ensures { OnOk result (draft.new
         ≡ draft_with (array_or_null (plains_of_list (map entry_view entries.now))) draft.old) }
 {
@@ -228,35 +238,37 @@ fn write_entries(alloc: Global, draft: &mut Draft, entries: &[Entry]) -> Result<
     draft.close_array()
 }
 
-/// The entry of a package is normal and has the shape of an info, and it has a version if the
-/// package is sound.
+/// The entry of a package in an index is normal, and has the shape of a package's information. It
+/// has a valid version if the package is sound.
 pub fn an_entry_is_an_info()
     // The entry is an object of the fields of table 3.
     ensures shape { (file : List ℕ)
         → HasShape (shape_of (Kinds.Obj Tables.PkgInfo)) (entry_of_package file) }
-    // The entry is normal if the file is one.
+    // The entry is normal if the package's file has bytes that a file may have.
     ensures normal { (file : List ℕ) → All (λ b. b < 256) file → length file < 2 ^ 64
         → IsNormal (entry_of_package file) }
-    // It has a version if the package is sound.
+    // The entry has a valid version if the package is sound.
     ensures version { (file : List ℕ) → container_fault_except_contents Tables.Package file ≡ None
         → is_version (version_of_index_entry (entry_of_package file)) ≡ true }
 {
+    // Laws that the proof needs; they compute nothing.
     sound_containers_hold_sound_values();
     values_are_normal();
     values_have_their_shape();
 }
 
-/// The entries of an index are those of the named packages, sorted: none is before a smaller one,
-/// and equal ones keep the order of the operands.
+/// Sorting the entries of an index keeps them all, puts no entry before a smaller one, and keeps
+/// the order of equal entries.
 pub fn an_index_is_in_order()
-    // Sorting keeps the entries.
+    // The sorted list has the same entries.
     ensures same { (entries : List Plain) → IsPermutation entries (sorted_by entry_cmp entries) }
     // No entry is before a smaller one.
     ensures sorted { (entries : List Plain) → IsSorted entry_cmp (sorted_by entry_cmp entries) }
-    // Equal entries keep their order.
+    // Equal entries keep their order, which is that of the operands.
     ensures stable { (entries : List Plain)
         → IsStable entry_cmp entries (sorted_by entry_cmp entries) }
 {
+    // A law that the proof needs; it computes nothing.
     order_is_total();
 }
 
@@ -284,8 +296,8 @@ pub fn entries_stand_by_name_version_and_id()
         → bytes_cmp (id_of_index_entry a) (id_of_index_entry b) ≡ Less → entry_cmp a b ≡ Less }
 {}
 
-/// The name, the version and the id by which an entry is ordered are its fields of these names in
-/// the table.
+/// The name, the version and the id by which an entry is ordered are its fields `name`, `version`
+/// and `hashes` in table 3.
 pub fn an_entry_is_ordered_by_its_named_fields()
     // The name is the field `name`.
     ensures name { (fields : Plains) (v : Plain)

@@ -22,13 +22,14 @@ use adb_view::{Adb, Val};
 use pkg_core::{Package, PackageFault, PkgInfo, View};
 use std::alloc::{AllocError, Global};
 
-/// A payload whose root is the entry of one package, and nothing else is in it.
+/// A payload whose root is the entry of one package; the payload has no other values.
 #[derive(Drop)]
 pub(crate) struct EntryPayload {
     /// The bytes of the payload.
     pub(crate) payload: Vec<u8>,
-    // The payload can be read, and its root is an object of the fields of table 3.
+    // The head of the payload passes its test.
     ghost head: { is_none (payload_head_fault payload.items) ≡ true },
+    // The root of the payload is a sound object of the fields of table 3.
     ghost sound: { is_sound payload.items (Kinds.Obj Tables.PkgInfo)
         (root_word_of_payload payload.items)
         ≡ true },
@@ -59,6 +60,7 @@ impl EntrySource {
 
     /// Writes the entry into a draft.
     pub(crate) fn write(&self, alloc: Global, draft: &mut Draft) -> Result<(), AllocError>
+        // On Ok, the draft has one value more: the entry of the package.
         ensures { OnOk result (draft.new ≡ draft_with (entry_of_source self.now) draft.old) }
     {
         match self {
@@ -71,12 +73,15 @@ impl EntrySource {
 impl EntryPayload {
     ghost use Rattle.make_index.specs.Kept.{copy_of_entry};
 
-    /// Writes the entry into a draft, with the id and the length that it has.
+    /// Writes the entry into a draft, with the id and the length of the file that the entry already
+    /// has.
     fn write(&self, alloc: Global, draft: &mut Draft) -> Result<(), AllocError>
+        // On Ok, the draft has one value more: the copy of the entry that is the root of this
+        // payload.
         ensures { OnOk result (draft.new ≡ draft_with
             (copy_of_entry (root_value Tables.PkgInfo self.now.payload.items)) draft.old) }
     {
-        // The payload was written here, so its head is good.
+        // The payload was written by this program, so its head passes the test.
         let Ok(adb) = Adb::new(&self.payload) else {
             unreachable!()
         };
@@ -89,6 +94,7 @@ impl EntryPayload {
 impl PackageFile {
     /// Writes the entry into a draft: the package is opened once more.
     fn write(&self, alloc: Global, draft: &mut Draft) -> Result<(), AllocError>
+        // On Ok, the draft has one value more: the entry of the package in this file.
         ensures { OnOk result
             (draft.new ≡ draft_with (entry_of_package self.now.file.items) draft.old) }
     {
@@ -111,6 +117,8 @@ fn write_package(
 ) -> Result<(), AllocError>
     // The id is the SHA-256 digest of the payload.
     requires { id.now ≡ sha256 (opened_payload pkg.now) }
+    // On Ok, the draft has one value more: the information of the package, with its id and the
+    // length of its file.
     ensures { OnOk result (draft.new ≡ draft_with
         (info_with_id_and_size (entry_in (opened_value pkg.now) PACKAGE_INFO) (sha256
         (opened_payload pkg.now))
@@ -120,8 +128,9 @@ fn write_package(
     write_entry_info(alloc, draft, info.adb(), info.word(), id, len)
 }
 
-/// Writes the information with a word of a payload, with `id` as its hash and `len` as the size of
-/// the package's file. Each entry is written from a payload of its own, so no text is known before.
+/// Writes the information that the word `info` of a payload gives, with `id` as its hash and `len`
+/// as the size of the package's file. Each entry is written from a payload of its own, so `known`
+/// (the texts of this payload that the draft already contains) is empty at first.
 fn write_entry_info(
     alloc: Global,
     draft: &mut Draft,
@@ -130,7 +139,7 @@ fn write_entry_info(
     id: &[u8],
     len: u64,
 ) -> Result<(), AllocError>
-    // The word has a plain value of its kind.
+    // The word refers to a sound object of the fields of table 3.
     requires { is_sound (payload_of adb) (Kinds.Obj Tables.PkgInfo) info ≡ true }
     ensures { OnOk result (draft.new ≡ draft_with (info_with_id_and_size
         (value_at (payload_of adb.entry) (Kinds.Obj Tables.PkgInfo) info) id.now len) draft.old) }
@@ -149,6 +158,7 @@ pub(crate) fn entry_payload(
 ) -> Result<Option<Vec<u8>>, AllocError>
     // The id is the SHA-256 digest of the payload.
     requires { id.now ≡ sha256 (opened_payload pkg.now) }
+    // The length fits into 64 bits.
     ensures small { len < 2 ^ 64 }
     // If a payload is returned, it is that of the entry.
     ensures payload { IfOk result (λ found. IfSome found (λ payload. payload_or_overflow

@@ -7,7 +7,8 @@ use Rattle.make_info.specs.declared.writing.Column.TheVariants.{Single, List as 
 use Rattle.make_info.specs.Information.{FieldWithValue, value_of_list_field, value_of_single_field}
 use Rattle.make_info.specs.Values.{size_value}
 
--- the plain value of one field of the table, by what is given for it; the number is the installed size
+-- the plain value of one field of the table, by its source (`column`), the items of the information and
+-- the installed size (`size`)
 abbrev pub column_value : List FieldWithValue → ℕ → Column → Plain
 column_value info size (Single f) = value_of_single_field f info
 column_value info size (ListOf f) = value_of_list_field f info

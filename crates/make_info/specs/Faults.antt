@@ -19,8 +19,8 @@ abbrev pub IsMakeFaultOfWriter : WriteFault → MakeFault → Type 0
 IsMakeFaultOfWriter (Writes.TooLarge bytes values) fault = fault ≡ TooLarge bytes values
 IsMakeFaultOfWriter Writes.Memory fault = fault ≡ Memory
 
--- a fault of the information is at the first place that offends; out of memory says nothing about the
--- values
+-- the fault of reading a package's information, whose definition gives `answer`: `InfoBad` at the place
+-- in `answer`, or out of memory, which says nothing about `answer`. No other fault
 abbrev pub IsInfoFault : {A : Type 0} → MakeFault → Result A ℕ → Type 0
 IsInfoFault (FileMissing place) answer = ⊥
 IsInfoFault (FileBad place cause) answer = ⊥
@@ -29,13 +29,14 @@ IsInfoFault (TooLarge bytes values) answer = ⊥
 IsInfoFault Disk answer = ⊥
 IsInfoFault Memory answer = Unit {0}
 
--- a fault of writing has the counts at which the writer stops; out of memory says nothing about them
+-- the fault of writing a payload, whose definition gives `written`: `TooLarge` with the counts in
+-- `written`, or out of memory, which says nothing about `written`. No other fault
 abbrev pub IsOverflowFault : MakeFault → Result (List ℕ) PayloadCounts → Type 0
 IsOverflowFault (TooLarge bytes values) written = written ≡ Err (bytes, values)
 IsOverflowFault Memory written = Unit {0}
 IsOverflowFault fault written = ⊥
 
--- P holds whatever is returned, unless it is that the tree failed
+-- the statement `P` holds, unless the result is an I/O error of the tree
 abbrev pub UnlessDiskFault : {A : Type 0} → Result A MakeFault → Type 0 → Type 0
 UnlessDiskFault (Err Disk) P = Unit {0}
 UnlessDiskFault result P = P

@@ -1,7 +1,6 @@
--- The values of `-I` of a command: the field of each, among them the package's name and version, and
--- the file that is made.
--- The rules are in `docs/commands.md`, "`mkpkg`", the first paragraphs, and in "Words", the rows of
--- `-I` and `-o`.
+-- The values of `-I` of a command: the field of each, among them the package's name and version, and the
+-- file that is made. The rules are in `docs/commands.md`, "`mkpkg`", the first paragraph and part
+-- "Information", and in "Words", the rows of `-I` and `-o`.
 use Rattle.command_core.specs.declared.values.TheConstants.{INFO, OUTPUT}
 use Rattle.std.specs.Prelude.{ℕ, ◌+◌, ◌==◌, nat_lt, Bool, false, List, [], ◌∷◌, length, take, drop, position, Option, Some, None, option_map, option_and_then, is_some, not, ◌&&◌, if◌then◌else◌}
 use Rattle.std.specs.List.{filter}
@@ -18,7 +17,7 @@ use Rattle.make_info.specs.declared.field.Field.{Field}
 use Rattle.make_info.specs.declared.field.Field.TheVariants as Fields
 use Rattle.make_info.specs.Fields.{field_of, field_word}
 
--- a field, and the value that is given for it
+-- a value FIELD:VALUE of `-I`, as a field and the text of its value
 pub record FieldText : Type 0 where
   -- the field that the option names
   pub field : Field
@@ -36,11 +35,11 @@ field_text_split_at_colon text (Some colon) =
 abbrev pub field_text_in : List ℕ → Option FieldText
 field_text_in text = field_text_split_at_colon text (position (λ b. b == COLON) text)
 
--- whether two fields are one: they are distinguished by the words that name them
+-- whether two fields are the same: they are named by the same word
 abbrev pub is_same_field : Field → Field → Bool
 is_same_field f g = bytes_eq (field_word f) (field_word g)
 
--- whether a text FIELD:VALUE is for this field; false if it is no such text
+-- whether a text FIELD:VALUE is for this field; false if the text was no FIELD:VALUE (None)
 abbrev pub gives_value_for_field : Field → Option FieldText → Bool
 gives_value_for_field f None = false
 gives_value_for_field f (Some given) = is_same_field given.field f
@@ -49,7 +48,8 @@ gives_value_for_field f (Some given) = is_same_field given.field f
 abbrev pub is_option_for_field : Field → OptionValue → Bool
 is_option_for_field f v = gives_value_for_field f (field_text_in v.text)
 
--- whether a value is one of `-I`; other options with a value, such as `-o`, do not describe the package
+-- whether a value of an option is one of `-I`; values of other options, such as `-o`, do not describe the
+-- package
 abbrev pub is_info_option : OptionValue → Bool
 is_info_option v = v.letter == INFO
 
@@ -57,44 +57,47 @@ is_info_option v = v.letter == INFO
 abbrev pub values_of_info : List OptionValue → List OptionValue
 values_of_info values = filter is_info_option values
 
--- the value of a text FIELD:VALUE, if it is for this field
+-- the text VALUE of FIELD:VALUE, if FIELD is this field
 abbrev pub value_if_for_field : Field → Option FieldText → Option (List ℕ)
 value_if_for_field f None = None
 value_if_for_field f (Some given) = if is_same_field given.field f then Some given.value else None
 
--- the value of an option for a field, if it is one of `-I` and for that field
+-- the text VALUE in the value of an option, if the option is `-I` and its FIELD is this field
 abbrev pub option_text_for_field : Field → OptionValue → Option (List ℕ)
 option_text_for_field f v = if is_info_option v then value_if_for_field f (field_text_in v.text) else None
 
--- the first value for a field, valid or not
+-- the text VALUE of the first value of `-I` for this field, valid or not; `values` are the values of all
+-- options
 abbrev pub first_text_for : Field → List OptionValue → Option (List ℕ)
 first_text_for f [] = None
 first_text_for f (v ∷ vs) = option_or (option_text_for_field f v) (first_text_for f vs)
 
--- this value, if its rule allows it
+-- the value, if it passes the test `is_good`
 abbrev pub value_if_passes : (List ℕ → Bool) → List ℕ → Option (List ℕ)
 value_if_passes is_good value = if is_good value then Some value else None
 
--- the package's name, if one is given and valid; of several the first counts
+-- the package's name: the first value of `-I` for the name, if it is valid
 abbrev pub package_name_in : List OptionValue → Option (List ℕ)
 package_name_in values =
     option_and_then (value_if_passes is_package_name) (first_text_for Fields.Name values)
 
--- the package's version, if one is given and valid; of several the first counts
+-- the package's version: the first value of `-I` for the version, if it is valid
 abbrev pub package_version_in : List OptionValue → Option (List ℕ)
 package_version_in values =
     option_and_then (value_if_passes is_version) (first_text_for Fields.Version values)
 
--- the name of a package's file, NAME-VERSION.apk; None if its name or its version is lacking
+-- the name of a package's file, NAME-VERSION.apk, from the package's name and version; None if one of
+-- them is None
 abbrev pub package_file_name_of : Option (List ℕ) → Option (List ℕ) → Option (List ℕ)
 package_file_name_of name version =
     option_and_then (λ name. option_map (package_file_name name) version) name
 
--- the file that is made if no output is named
+-- the name of the output if `-o` gives none: NAME-VERSION.apk; None if the name or the version is missing
+-- or not valid
 abbrev pub default_output : List OptionValue → Option (List ℕ)
 default_output values = package_file_name_of (package_name_in values) (package_version_in values)
 
--- the file of a value of `-o`, without a leading `./`
+-- the name of the file in a value of `-o`, without a leading `./`
 abbrev pub file_name_in : OptionValue → List ℕ
 file_name_in v = without_dot_slash v.text
 
@@ -108,7 +111,7 @@ abbrev pub is_output_name_too_long : Option (List ℕ) → Bool
 is_output_name_too_long None = false
 is_output_name_too_long (Some file) = nat_lt most_output_path_bytes (length file)
 
--- whether the output is NAME-VERSION.apk, and that is too long
+-- whether `-o` gives no output, and the default NAME-VERSION.apk is too long
 abbrev pub is_default_output_too_long : List OptionValue → Bool
 is_default_output_too_long values =
     not (is_some (named_output values)) && is_output_name_too_long (default_output values)

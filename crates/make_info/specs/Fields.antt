@@ -45,11 +45,11 @@ fields =
     ∷ Fields.ProviderPriority ∷ Fields.ReplacesPriority ∷ Fields.Depends ∷ Fields.Provides
     ∷ Fields.Replaces ∷ Fields.InstallIf ∷ Fields.Recommends ∷ Fields.Tags ∷ []
 
--- the field that a word names, among some
+-- the first of the given fields that is named by this word
 abbrev pub field_among : List Field → List ℕ → Option Field
 field_among fields word = find (λ f. bytes_eq (field_word f) word) fields
 
--- the field that a word names, if it names one
+-- the field that is named by this word; None if no field has this name
 unfoldable pub field_of : List ℕ → Option Field
 field_of word = field_among fields word
 
@@ -74,7 +74,7 @@ kind_of_field Fields.InstallIf = Kinds.Dependencies
 kind_of_field Fields.Recommends = Kinds.Dependencies
 kind_of_field Fields.Tags = Kinds.Texts
 
--- whether a field may be given several times, each value adding to it
+-- whether fields of this kind may be given several times, so that each value is added to the list
 abbrev pub may_repeat : Kind → Bool
 may_repeat Kinds.PackageName = false
 may_repeat Kinds.PackageVersion = false
@@ -92,12 +92,13 @@ pub data FieldValue : Type 0 where
 
 -- ---- the values of a text under a kind; None if it is not in the kind's grammar
 
--- the values of a field that has one text, if its rule allows it
+-- the one value of a text field, if the rule of the field allows the text (the first argument)
 abbrev pub text_value_if : Bool → List ℕ → Option (List FieldValue)
 text_value_if true value = Some (text value ∷ [])
 text_value_if false value = None
 
--- the values of a field of hexadecimal digits: the decoded bytes; None if the text is not hexadecimal
+-- the one value of a field of hexadecimal digits, given the result of decoding them: the decoded bytes;
+-- None if the text is not hexadecimal
 abbrev pub values_of_hex_digits : Result (List ℕ) FromHexError → Option (List FieldValue)
 values_of_hex_digits (Ok bytes) = Some (text bytes ∷ [])
 values_of_hex_digits (Err e) = None
@@ -108,15 +109,15 @@ decimal_number value =
     if is_decimal value && nat_lt (digits_value 10 value) (2 ^ 64) then
     Some (digits_value 10 value) else None
 
--- whether a part of a list is counted: empty ones, between two spaces, are skipped
+-- whether a part between spaces is not empty; empty parts are skipped
 abbrev pub is_nonempty : List ℕ → Bool
 is_nonempty part = nat_lt 0 (length part)
 
--- the parts of a list, between spaces (32) alone: a tab is a byte of its part
+-- the parts of a text between spaces (32) that are not empty; a tab separates no parts
 abbrev pub nonempty_parts : List ℕ → List (List ℕ)
 nonempty_parts value = filter is_nonempty (slice_split (λ b. b == 32) value)
 
--- the values of a list of texts: each part is a value of its own
+-- the values of a field of texts: each part between spaces is one value
 abbrev pub text_values : List (List ℕ) → List FieldValue
 text_values parts = map text parts
 
@@ -124,24 +125,24 @@ text_values parts = map text parts
 abbrev pub if_untagged : Dependency → Option Dependency
 if_untagged d = if is_some d.tag then None else Some d
 
--- the dependency without tag that a text is, if it is one
+-- the dependency that a text encodes, if it encodes one without a tag
 abbrev pub untagged_dependency_in : List ℕ → Option Dependency
 untagged_dependency_in part = option_and_then if_untagged (dependency_of part)
 
--- the values of a dependency followed by others; None if one of them is no dependency
+-- the value of the dependency `d`, followed by other values; None if `d` or `others` is None
 abbrev pub dependency_value_and_others : Option Dependency → Option (List FieldValue)
     → Option (List FieldValue)
 dependency_value_and_others d others =
     option_and_then (λ d. option_map (λ others. need d ∷ others) others) d
 
--- the values of a list of dependencies, one for each part; None if a part is no dependency
+-- the values of a field of dependencies, one for each part; None if a part is no dependency without a tag
 abbrev pub dependency_values_in : List (List ℕ) → Option (List FieldValue)
 dependency_values_in [] = Some []
 dependency_values_in (part ∷ parts) =
     dependency_value_and_others (untagged_dependency_in part) (dependency_values_in parts)
 
--- the values of a text under a kind: several or none for a list, one for another kind; None if the text
--- is not allowed
+-- the values that the text `value` gives to a field of this kind: any number for a list, one for another
+-- kind. None if the text is not in the grammar of the kind
 abbrev pub values_by_kind : Kind → List ℕ → Option (List FieldValue)
 values_by_kind Kinds.PackageName value = text_value_if (is_package_name value) value
 values_by_kind Kinds.PackageVersion value = text_value_if (is_version value) value

@@ -13,26 +13,27 @@ use Rattle.make_info.specs.Fields.{FieldValue, text, number, need, may_repeat, k
 use Rattle.make_info.specs.FieldTexts.{FieldText, field_text_in, values_of_info, is_option_for_field, is_same_field, is_default_output_too_long}
 use Rattle.make_info.specs.Values.{number_value, size_value}
 
--- An item of an information: a field with a value. An information is the list of all of them, in the
--- order given: of a list field one item for each part of each text, of another field one item.
+-- An item of a package's information: a field with one value. The information is the list of all items,
+-- in the order in which `-I` gives them. A list field has one item for each part of each text, another
+-- field has one item.
 pub record FieldWithValue : Type 0 where
-  -- which field of the information
+  -- the field of `-I`
   pub field : Field
   -- one value of this field
   pub value : FieldValue
 
--- an item by its parts
+-- the item of this field with this value
 abbrev pub field_with_value : Field → FieldValue → FieldWithValue
 field_with_value f value = record { field = f; value = value }
 
--- the items so far, followed by one for each of these values of a field; None if there are no values,
--- since the text is not allowed
+-- the items `before`, followed by one item of the field for each of the values. None if the values are
+-- None, as the text was not allowed
 abbrev pub items_with_values_of_field :
     List FieldWithValue → Field → Option (List FieldValue) → Option (List FieldWithValue)
 items_with_values_of_field before f values =
     option_map (λ values. before ++ map (field_with_value f) values) values
 
--- the items of a field with a text; None if the text is not allowed
+-- the items of a text FIELD:VALUE; None if VALUE is not in the field's grammar
 abbrev pub items_of_text : FieldText → Option (List FieldWithValue)
 items_of_text given =
     items_with_values_of_field [] given.field (values_by_kind (kind_of_field given.field) given.value)
@@ -42,48 +43,52 @@ items_of_text given =
 abbrev pub items_of_option : OptionValue → Option (List FieldWithValue)
 items_of_option v = option_and_then items_of_text (field_text_in v.text)
 
--- whether a value is for a field that is given once, and a value for that field is before it
+-- whether a text FIELD:VALUE is for a field that may be given only once, and one of the values `before`
+-- is for this field. False if the text was no FIELD:VALUE (None)
 abbrev pub gives_single_field_again : List OptionValue → Option FieldText → Bool
 gives_single_field_again before None = false
 gives_single_field_again before (Some given) =
     not (may_repeat (kind_of_field given.field)) && list_any (is_option_for_field given.field) before
 
--- whether a value is for a field that is given once, and another one for it is before it
+-- whether the value `v` is for a field that may be given only once, and one of the values `before` is for
+-- the same field
 abbrev pub repeats_single_field : List OptionValue → OptionValue → Bool
 repeats_single_field before v = gives_single_field_again before (field_text_in v.text)
 
--- whether a value offends: it is not allowed, it is a second one of a field that is given once, or it is
--- the version while the output's name is too long (`too_long`)
+-- whether the value `v` of `-I` offends (is refused) after the values `before`. It offends if it is not
+-- in its field's grammar, or if its field may be given only once and was given before. The version also
+-- offends if `too_long` is true: the default name of the output is too long
 abbrev pub offends : Bool → List OptionValue → OptionValue → Bool
 offends too_long before v =
     not (is_some (items_of_option v))
     || (repeats_single_field before v || (too_long && is_option_for_field Fields.Version v))
 
--- the place of the first of these values that offends after those before it
+-- the place of the first of the given values that offends; `before` are the values of `-I` before them
 abbrev pub place_of_first_offending_option : Bool → List OptionValue → List OptionValue → Option ℕ
 place_of_first_offending_option too_long before [] = None
 place_of_first_offending_option too_long before (v ∷ vs) =
     if offends too_long before v then Some v.place
     else place_of_first_offending_option too_long (before ++ v ∷ []) vs
 
--- whether no value is for the package's name, or none for its version
+-- whether none of the values of `-I` is for the package's name, or none is for its version
 abbrev pub lacks_name_or_version : List OptionValue → Bool
 lacks_name_or_version values =
     not (list_any (is_option_for_field Fields.Name) values)
     || not (list_any (is_option_for_field Fields.Version) values)
 
--- the items of values that do not offend
+-- the items of all values of `-I`, in their order; a value that is not allowed has none
 abbrev pub items_of_valid_options : List OptionValue → List FieldWithValue
 items_of_valid_options values = flat_map (λ v. unwrap_or (items_of_option v) []) values
 
--- a refusal at the place that offends, if there is one, and otherwise the given information
+-- the place that offends as an error, if there is one; otherwise the result `otherwise`
 abbrev pub unless_offence :
     Option ℕ → Result (List FieldWithValue) ℕ → Result (List FieldWithValue) ℕ
 unless_offence None otherwise = otherwise
 unless_offence (Some place) otherwise = Err place
 
--- the information of the values of a command, or the first place that offends: that of a value, or the
--- one after the last argument if the name or the version is missing
+-- the information that the values of all options give, or the first place that offends as an error. This
+-- is the place of a value of `-I`; or, if the name or the version is missing, `behind`, the place after
+-- the last argument
 unfoldable pub information_of : List OptionValue → ℕ → Result (List FieldWithValue) ℕ
 information_of values behind =
     let own = values_of_info values in
@@ -118,7 +123,7 @@ abbrev pub item_value_or_null : Option FieldWithValue → Plain
 item_value_or_null None = null
 item_value_or_null (Some item) = plain_value item.value
 
--- the value of a field that is given once
+-- the plain value of a field that is given once: that of its first item, or Null if it has none
 abbrev pub value_of_single_field : Field → List FieldWithValue → Plain
 value_of_single_field f info = item_value_or_null (find (is_item_for f) info)
 
@@ -129,12 +134,12 @@ plain_values_of_field f (item ∷ items) =
     if is_item_for f item then more (plain_value item.value) (plain_values_of_field f items)
     else plain_values_of_field f items
 
--- the value of a field to which each value adds: an array
+-- the plain value of a list field: the array of the values of all its items, or Null if it has none
 abbrev pub value_of_list_field : Field → List FieldWithValue → Plain
 value_of_list_field f info = array_or_null (plain_values_of_field f info)
 
--- the 22 fields of table 3 in order, with the size of the files; hashes (3), file-size (13), layer (20)
--- and the unused one (22) are Null
+-- the 22 fields of table 3 in order; `size` is the installed size, the sum of the sizes of the files. The
+-- fields hashes (3), file-size (13), layer (20) and the unused one (22) are Null
 abbrev pub information_fields : List FieldWithValue → ℕ → Plains
 information_fields info size =
     more (value_of_single_field Fields.Name info)
@@ -149,17 +154,18 @@ information_fields info size =
     (more (value_of_list_field Fields.Recommends info) (more null
     (more (value_of_list_field Fields.Tags info) (more null none)))))))))))))))))))))
 
--- the object of a package's information, with the size of the files
+-- the object of a package's information; `size` is the installed size, the sum of the sizes of the files
 unfoldable pub information_value : List FieldWithValue → ℕ → Plain
 information_value info size = trimmed_object_or_null (information_fields info size)
 
--- the number that a value is, if it is one
+-- the number that the value is; None if the value is no number
 abbrev pub number_in : FieldValue → Option ℕ
 number_in (text bytes) = None
 number_in (number n) = Some n
 number_in (need d) = None
 
--- the priority in replacing, which is a field of the package and not of its information
+-- the value of `-I` for the priority in replacing, if it is given. It is a field of the package, and not
+-- of the object of its information
 abbrev pub replaces_priority : List FieldWithValue → Option ℕ
 replaces_priority info =
     option_and_then (λ (item : FieldWithValue). number_in item.value)

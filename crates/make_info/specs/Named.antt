@@ -11,16 +11,17 @@ use Rattle.make_info.specs.declared.field.Field.TheVariants as Fields
 use Rattle.make_info.specs.Fields.{kind_of_field, may_repeat}
 use Rattle.make_info.specs.Information.{FieldWithValue, value_of_list_field, value_of_single_field}
 
--- the value at the field of this name, of values in the order of a table's fields; None if no field
--- has the name
+-- the value of the field with the name `word`. `values` are the values of an object, in the order of the
+-- fields of its table (`fields`). None if no field has the name, or there is no value for it
 abbrev pub value_by_name : List ℕ → List Field → Plains → Option Plain
 value_by_name word [] values = None
 value_by_name word (f ∷ fields) none = None
 value_by_name word (f ∷ fields) (more v values) =
     if bytes_eq (field_name_text f.name) word then Some v else value_by_name word fields values
 
--- the value of a field that `-I` gives: for a list the array of its items, otherwise the one. The
--- priority in replacing is not part of a package's information.
+-- the plain value of a field that `-I` gives: for a list field the array of its items, for another field
+-- its one item. None for the priority in replacing, which is not part of the object of a package's
+-- information
 abbrev pub value_of_field : Options.Field → List FieldWithValue → Option Plain
 value_of_field Fields.ReplacesPriority info = None
 value_of_field f info =

@@ -14,7 +14,7 @@ abbrev pub is_mkpkg : Applet → Bool
 is_mkpkg Mkpkg = true
 is_mkpkg applet = false
 
--- this name, if the information is allowed; otherwise there is no output, even if `-o` names one
+-- the name, if the information of `-I` is allowed; otherwise there is no output, even if `-o` names one
 abbrev pub output_if_information_valid : Result (List FieldWithValue) ℕ → Option (List ℕ) → Option (List ℕ)
 output_if_information_valid (Ok info) name = name
 output_if_information_valid (Err place) name = None

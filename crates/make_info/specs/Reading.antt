@@ -8,16 +8,16 @@ use Rattle.make_info.specs.Fields.{is_nonempty, kind_of_field, may_repeat, value
 use Rattle.make_info.specs.FieldTexts.{FieldText, field_text_in, is_same_field}
 use Rattle.make_info.specs.Information.{FieldWithValue, is_item_for, items_with_values_of_field}
 
--- the list of a part between spaces, unless it is empty
+-- the list of this part between spaces alone; no part if it is empty
 abbrev pub nonempty_part : List ℕ → List (List ℕ)
 nonempty_part part = if is_nonempty part then part ∷ [] else []
 
--- whether there is an item for the field of this text
+-- whether one of the items `before` is for the field of this text FIELD:VALUE
 abbrev pub has_item_for : FieldText → List FieldWithValue → Bool
 has_item_for given before = is_some (find (is_item_for given.field) before)
 
--- The items so far, and those of one more value; None if it offends. A version also offends if the
--- output's name is too long (`too_long`).
+-- The items `before`, and those of one more text FIELD:VALUE; None if the text offends (is refused). A
+-- version also offends if `too_long` is true: the default name of the output is too long.
 abbrev pub items_with_text :
     Bool → List FieldWithValue → Option FieldText → Option (List FieldWithValue)
 items_with_text too_long before None = None
@@ -26,7 +26,8 @@ items_with_text too_long before (Some given) =
     if not (may_repeat (kind_of_field given.field)) && has_item_for given before then None else
     items_with_values_of_field before given.field (values_by_kind (kind_of_field given.field) given.value)
 
--- the items so far, with those of the text of a value; None if the value offends
+-- the items `before`, and those of one more value of `-I` with this text; None if the value offends (is
+-- refused)
 unfoldable pub items_with_option_text : Bool → List FieldWithValue → List ℕ → Option (List FieldWithValue)
 items_with_option_text too_long before text = items_with_text too_long before (field_text_in text)
 

@@ -9,17 +9,17 @@ use Rattle.make_info.specs.Fields.{FieldValue, text, number, need}
 use Rattle.make_info.specs.FieldTexts.{FieldText}
 use Rattle.make_info.specs.Information.{FieldWithValue}
 
--- the field and the value of a text FIELD:VALUE that was taken apart
+-- the field and the text of the value of a FIELD:VALUE, as contracts see them
 abbrev pub field_text_view : FieldSlices → FieldText
 field_text_view slice = record { field = slice.field; value = slice.value.now }
 
--- one value of a field; hexadecimal digits are decoded
+-- one value of a field, as contracts see it; the bytes of hexadecimal digits are already decoded
 abbrev pub value_view : Value → FieldValue
 value_view (Text bytes) = text bytes.now
 value_view (Bytes bytes) = text bytes.items
 value_view (Number n) = number n
 value_view (Need dep) = need (dependency dep)
 
--- an item: a field with a value
+-- an item (a field with a value), as contracts see it
 abbrev pub item_view : Item → FieldWithValue
 item_view e = record { field = e.field; value = value_view e.value }

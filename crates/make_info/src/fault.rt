@@ -7,15 +7,16 @@ use std::alloc::AllocError;
 /// Why nothing was made. Places count the arguments of the command line from 1.
 #[derive(Clone, Copy, Debug, PartialEq, Eq, Drop)]
 pub enum MakeFault {
-    /// There is no file under the name that this argument gives.
+    /// There is no file under the name that the argument at this place gives or lists.
     FileMissing { place: u32 },
-    /// The file under the name that this argument gives is no sound package.
+    /// The file under the name that the argument at this place gives is no sound package. The cause
+    /// is the first test that failed.
     FileBad { place: u32, cause: Cause },
-    /// This argument says something about the package that is not allowed; or, after the last
-    /// argument, something is missing.
+    /// The value of `-I` at this place is not allowed. At the place after the last argument: the
+    /// name or the version of the package is missing.
     InfoBad { place: u32 },
-    /// The payload would exceed a limit of the writer. The counts are those after the value that
-    /// does.
+    /// The payload would exceed a limit of the writer. `bytes` and `values` count the bytes and the
+    /// values of the payload after the first value that exceeds it.
     TooLarge { bytes: u64, values: u64 },
     /// An I/O error of the tree.
     Disk,
@@ -27,9 +28,10 @@ impl From<AllocError> for MakeFault {
     ghost use Rattle.std.specs.Prelude.{◌≡◌};
     ghost use Rattle.make_info.specs.declared.fault.MakeFault.TheVariants.{Memory};
 
+    // What `from` returns.
     ghost from_gives = { λ _ fault. fault ≡ Memory };
 
-    /// Out of memory as such a fault.
+    /// A lack of memory becomes `Memory`.
     fn from(_: AllocError) -> MakeFault {
         MakeFault::Memory
     }
@@ -39,9 +41,10 @@ impl From<Disk> for MakeFault {
     ghost use Rattle.std.specs.Prelude.{◌≡◌};
     ghost use Rattle.make_info.specs.declared.fault.MakeFault.TheVariants.{Disk as DiskFault};
 
+    // What `from` returns.
     ghost from_gives = { λ _ fault. fault ≡ DiskFault };
 
-    /// A failed call of the tree as such a fault.
+    /// A failed call of the tree becomes `Disk`.
     fn from(_: Disk) -> MakeFault {
         MakeFault::Disk
     }
@@ -50,9 +53,10 @@ impl From<Disk> for MakeFault {
 impl From<TreeFault> for MakeFault {
     ghost use Rattle.make_info.specs.Faults.{IsMakeFaultOf};
 
+    // What `from` returns.
     ghost from_gives = { λ tree fault. IsMakeFaultOf tree fault };
 
-    /// A failed listing as such a fault: an I/O error, or out of memory.
+    /// A failed listing or read of the tree becomes `Disk` or `Memory`.
     fn from(fault: TreeFault) -> MakeFault {
         match fault {
             TreeFault::Disk => MakeFault::Disk,
@@ -64,9 +68,10 @@ impl From<TreeFault> for MakeFault {
 impl From<WriteFault> for MakeFault {
     ghost use Rattle.make_info.specs.Faults.{IsMakeFaultOfWriter};
 
+    // What `from` returns.
     ghost from_gives = { λ write fault. IsMakeFaultOfWriter write fault };
 
-    /// A failed write of a payload as such a fault: it exceeds a limit, or out of memory.
+    /// A failed write of a payload becomes `TooLarge` or `Memory`.
     fn from(fault: WriteFault) -> MakeFault {
         match fault {
             WriteFault::TooLarge { bytes, values } => MakeFault::TooLarge { bytes, values },

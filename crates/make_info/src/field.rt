@@ -71,7 +71,8 @@ static FIELDS: [Field; 18] = [
 ];
 
 impl Field {
-    /// The field that a word names; None if it names none.
+    /// The field that is named by this word, as in `word:VALUE` after `-I`; None if no field has
+    /// this name.
     #[tactic(auto, unfolding(crate::specs::Fields::field_of))]
     pub(crate) fn of(word: &[u8]) -> Option<Field>
         ensures { result ≡ field_of word.now }
@@ -139,15 +140,15 @@ impl Kind {
     }
 }
 
-// The first of some fields that a word names.
+// The first of the given fields that is named by this word.
 fn find_named(fields: &[Field], word: &[u8]) -> Option<Field>
     ensures { result ≡ field_among fields.now word.now }
 {
     fields.iter().copied().find(|field| field.word() == word)
 }
 
-/// The number that the digits encode. None: there are none, it is above 2^64 - 1, or it has a
-/// leading zero.
+/// The number that the digits encode. None if there are no digits, if another byte is among them,
+/// if the number is above 2^64 - 1, or if it has a leading zero.
 pub fn read_number(digits: &[u8]) -> Option<u64>
     ensures { result ≡ decimal_number digits.now }
 {
@@ -156,6 +157,7 @@ pub fn read_number(digits: &[u8]) -> Option<u64>
     }
     match str::from_utf8(digits) {
         Ok(text) => text.parse::<u64>().ok(),
+        // Decimal digits are UTF-8, so this does not occur.
         Err(_) => None,
     }
 }

@@ -30,10 +30,10 @@ use std::alloc::{AllocError, Global};
 use std::marker::Model;
 use version_core::Version;
 
-/// The byte between FIELD and VALUE.
+/// The byte between FIELD and VALUE in a value FIELD:VALUE of `-I`.
 const COLON: u8 = b':';
 
-/// A field, and the value that is given for it.
+/// A value FIELD:VALUE of `-I`, as a field and the text of its value.
 #[derive(Clone, Copy)]
 pub(crate) struct FieldText<'a> {
     /// The field that the value is for.
@@ -55,7 +55,7 @@ impl<'a> FieldText<'a> {
     }
 }
 
-// The place of the first `:`.
+// The offset of the first `:` in a text, counted from 0.
 fn colon_in(text: &[u8]) -> Option<usize>
     ensures at { result ≡ position (λ b. b == COLON) text.now }
     ensures within { IfSome result (λ at. at < length text.now) }
@@ -67,6 +67,7 @@ fn colon_in(text: &[u8]) -> Option<usize>
 /// the command.
 #[derive(Drop)]
 pub struct Information<'a> {
+    /// The items, in the order given.
     pub(crate) entries: Items<'a>,
 }
 
@@ -76,6 +77,7 @@ impl<'a> Model for Information<'a> {
 
     ghost Value = { List FieldWithValue };
 
+    // Contracts see the list of the items.
     ghost view = { λ info. info.entries };
 }
 
@@ -109,10 +111,12 @@ fn read_values<'a>(
     ensures err { IfErr result (λ fault. IsInfoFault fault
         (information_of values.entry.now behind)) }
 {
+    // Whether the output is NAME-VERSION.apk, and this name is too long.
     let too_long = is_default_output_too_long(values);
     let mut entries = Items::new(alloc);
     for i in 0..values.len() {
         let value = values.get(i);
+        // The values of all options are in one list.
         if value.letter != INFO {
             continue;
         }
@@ -126,13 +130,16 @@ fn read_values<'a>(
     Ok(Information { entries })
 }
 
-// Adds the items of a value of `-I`. False: the value is not allowed.
+// Adds the items of a value of `-I` with this text. The result is false if the value is not
+// allowed. `too_long`: a version is not allowed, as NAME-VERSION.apk would be too long.
 #[tactic(auto, unfolding(crate::specs::Reading::items_with_option_text))]
 fn add_value<'a>(
     entries: &mut Items<'a>,
     text: &'a [u8],
     too_long: bool,
 ) -> Result<bool, AllocError>
+    // If the result is true, the new items are the old ones and those of the value. If it is false,
+    // the definition allows no such value.
     ensures { IfOk result (λ good. (if good then Some entries.new else None)
         ≡ items_with_option_text too_long entries.old text.entry.now) }
 {
@@ -148,7 +155,7 @@ fn add_value<'a>(
     entries.add(given)
 }
 
-// Whether the name or the version is missing.
+// Whether no item gives the package's name, or none its version.
 fn is_lacking(entries: &Items<'_>) -> bool
     ensures { result ≡ has_no_name_or_version entries.now }
 {
@@ -180,7 +187,9 @@ pub(crate) struct Item<'a> {
 /// The items of an information, in the order given.
 #[derive(Drop)]
 pub(crate) struct Items<'a> {
+    /// The allocator of decoded bytes.
     pub(crate) alloc: Global,
+    /// The items, in the order given.
     pub(crate) entries: Vec<Item<'a>>,
 }
 
@@ -191,6 +200,7 @@ impl<'a> Model for Items<'a> {
 
     ghost Value = { List FieldWithValue };
 
+    // Contracts see the list of the items.
     ghost view = { λ entries. map item_view entries.entries.items };
 }
 
@@ -215,6 +225,7 @@ impl<'a> Items<'a> {
 
     // Adds an item at the end.
     fn push(&mut self, field: Field, value: Value<'a>) -> Result<(), AllocError>
+        // On Ok, the item is the last one.
         ensures { OnOk result (self.new ≡ self.old ++ field_with_value field
             (value_view value.entry) ∷ []) }
     {
@@ -222,8 +233,11 @@ impl<'a> Items<'a> {
         Ok(())
     }
 
-    /// Adds the items of a value for its field. False: the value is not in the field's grammar.
+    /// Adds the items of a value for its field. The result is false if the value is not in the
+    /// field's grammar.
     pub(crate) fn add(&mut self, given: FieldText<'a>) -> Result<bool, AllocError>
+        // If the result is true, the new items are the old ones and those of the value. If it is
+        // false, the definition allows no such value.
         ensures { IfOk result (λ good. (if good then Some self.new else None)
             ≡ items_with_values_of_field self.old given.entry.field
             (values_by_kind (kind_of_field given.entry.field) given.entry.value.now)) }
@@ -240,8 +254,11 @@ impl<'a> Items<'a> {
         }
     }
 
-    // Adds a text that its rule allows. False: the rule does not.
+    // Adds an item with this text, if the rule of the field allows it (`is_good`). The result is
+    // false if the rule does not.
     fn add_text(&mut self, field: Field, text: &'a [u8], is_good: bool) -> Result<bool, AllocError>
+        // If the result is true, the new items are the old ones and those of the value. If it is
+        // false, the definition allows no such value.
         ensures { IfOk result (λ good. (if good then Some self.new else None)
             ≡ items_with_values_of_field self.old field (text_value_if is_good text.entry.now)) }
     {
@@ -252,8 +269,11 @@ impl<'a> Items<'a> {
         Ok(true)
     }
 
-    // Adds the bytes that hexadecimal digits encode. False: the text is not hexadecimal.
+    // Adds an item with the bytes that hexadecimal digits encode. The result is false if the text
+    // is not hexadecimal.
     fn add_bytes(&mut self, field: Field, digits: &'a [u8]) -> Result<bool, AllocError>
+        // If the result is true, the new items are the old ones and those of the value. If it is
+        // false, the definition allows no such value.
         ensures { IfOk result (λ good. (if good then Some self.new else None)
             ≡ items_with_values_of_field self.old field (values_of_hex_digits
             (decode_of digits.entry.now))) }
@@ -268,8 +288,11 @@ impl<'a> Items<'a> {
         }
     }
 
-    // Adds a number. False: the text is no number below 2^64, or has a leading zero.
+    // Adds an item with the number that the digits encode. The result is false if the text is no
+    // number below 2^64, or has a leading zero.
     fn add_number(&mut self, field: Field, digits: &[u8]) -> Result<bool, AllocError>
+        // If the result is true, the new items are the old ones and those of the value. If it is
+        // false, the definition allows no such value.
         ensures { IfOk result (λ good. (if good then Some self.new else None)
             ≡ items_with_values_of_field self.old field (option_map (λ n. number n ∷ [])
             (decimal_number digits.now))) }
@@ -281,8 +304,11 @@ impl<'a> Items<'a> {
         Ok(true)
     }
 
-    // Adds dependencies, with spaces between them. False: one of them is no dependency without tag.
+    // Adds an item for each dependency in the text, which has spaces between them. The result is
+    // false if one of them is no dependency without tag.
     fn add_needs(&mut self, field: Field, texts: &'a [u8]) -> Result<bool, AllocError>
+        // If the result is true, the new items are the old ones and those of the value. If it is
+        // false, the definition allows no such value.
         ensures { IfOk result (λ good. (if good then Some self.new else None)
             ≡ items_with_values_of_field self.old field (dependency_values_in
             (nonempty_parts texts.entry.now))) }
@@ -295,9 +321,11 @@ impl<'a> Items<'a> {
         Ok(true)
     }
 
-    // Adds a dependency, or nothing for an empty part. False: the part is no dependency without
-    // tag.
+    // Adds an item with the dependency of a part between spaces, or no item for an empty part. The
+    // result is false if the part is no dependency without tag.
     fn add_need(&mut self, field: Field, part: &'a [u8]) -> Result<bool, AllocError>
+        // If the result is true, the new items are the old ones and those of the value. If it is
+        // false, the definition allows no such value.
         ensures { IfOk result (λ good. (if good then Some self.new else None)
             ≡ items_with_values_of_field self.old field (dependency_values_in
             (nonempty_part part.entry.now))) }
@@ -314,8 +342,10 @@ impl<'a> Items<'a> {
         }
     }
 
-    // Adds the texts between spaces that are not empty. True always.
+    // Adds an item for each text between spaces that is not empty. The result is always true.
     fn add_texts(&mut self, field: Field, texts: &'a [u8]) -> Result<bool, AllocError>
+        // If the result is true, the new items are the old ones and those of the value. If it is
+        // false, the definition allows no such value.
         ensures { IfOk result (λ good. (if good then Some self.new else None)
             ≡ items_with_values_of_field self.old field (Some (text_values
             (nonempty_parts texts.entry.now)))) }

@@ -24,7 +24,8 @@ use root_names::package_path;
 use std::alloc::{AllocError, Global};
 use version_core::{Version, versions_have_version_bytes};
 
-/// NAME-VERSION.apk, if a valid name and a valid version are given.
+/// NAME-VERSION.apk, the default name of the output, if `-I` gives a valid name and a valid
+/// version.
 pub(crate) fn default_output(alloc: Global, values: &Values) -> Result<Option<Vec<u8>>, AllocError>
     ensures { IfOk result (λ file. option_map (λ file. file.items) file
         ≡ default_output values.now) }
@@ -35,11 +36,12 @@ pub(crate) fn default_output(alloc: Global, values: &Values) -> Result<Option<Ve
     let Some(version) = package_version_in(values) else {
         return Ok(None);
     };
+    // The folder before the file's name is empty.
     let file = package_path(alloc, b"", name, version)?;
     Ok(Some(file))
 }
 
-/// Whether the output is NAME-VERSION.apk, and that is too long.
+/// Whether no output is named, and NAME-VERSION.apk is too long.
 pub(crate) fn is_default_output_too_long(values: &Values) -> bool
     ensures { result ≡ is_default_output_too_long values.now }
 {
@@ -52,6 +54,7 @@ pub(crate) fn is_default_output_too_long(values: &Values) -> bool
     let Some(version) = package_version_in(values) else {
         return false;
     };
+    // The length of NAME-VERSION.apk.
     name.len() + version.len() + b"-.apk".len() > LONGEST_OUTPUT
 }
 
@@ -62,7 +65,7 @@ fn is_output_named(values: &Values) -> bool
     values.first(OUTPUT).is_some()
 }
 
-// The package's name, if a valid one is given.
+// The package's name: the first value of `-I` for the name, if it is valid.
 fn package_name_in(values: &Values) -> Option<&[u8]>
     ensures { option_map (λ name. name.now) result ≡ package_name_in values.entry.now }
 {
@@ -73,7 +76,7 @@ fn package_name_in(values: &Values) -> Option<&[u8]>
     Some(name)
 }
 
-// The package's version, if a valid one is given.
+// The package's version: the first value of `-I` for the version, if it is valid.
 fn package_version_in(values: &Values) -> Option<&[u8]>
     ensures { option_map (λ version. version.now) result ≡ package_version_in values.entry.now }
 {
@@ -84,7 +87,7 @@ fn package_version_in(values: &Values) -> Option<&[u8]>
     Some(version)
 }
 
-// The first value that is given for a field.
+// The text of the first value of `-I` for a field, valid or not.
 fn first_text_for(values: &Values, field: Field) -> Option<&[u8]>
     ensures { option_map (λ text. text.now) result ≡ first_text_for field values.entry.now }
 {
@@ -97,7 +100,8 @@ fn first_text_for(values: &Values, field: Field) -> Option<&[u8]>
     None
 }
 
-// The value of an option for a field, if it is one of `-I` and for that field.
+// The text after FIELD and the colon in the value of an option, if the option is `-I` and the value
+// is for this field.
 fn option_text_for_field(value: &OptionValue, field: Field) -> Option<&[u8]>
     ensures { option_map (λ text. text.now) result ≡ option_text_for_field field value.entry.now }
 {
@@ -123,7 +127,7 @@ pub fn output_name(alloc: Global, command: &Command) -> Result<Option<Name>, All
     named_output(alloc, command)
 }
 
-// The name of the file that `-o` names.
+// The name of the file that `-o` gives, if it is given.
 fn named_output(alloc: Global, command: &Command) -> Result<Option<Name>, AllocError>
     ensures { IfOk result (λ name. name ≡ named_output command.now.values) }
 {
@@ -169,6 +173,7 @@ fn is_allowed(alloc: Global, command: &Command) -> Result<bool, AllocError>
 {
     match read_information(alloc, command) {
         Ok(_) => Ok(true),
+        // Out of memory says nothing about the information.
         Err(MakeFault::Memory) => Err(AllocError),
         Err(_) => Ok(false),
     }

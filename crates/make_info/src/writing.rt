@@ -20,13 +20,13 @@ use std::alloc::AllocError;
 /// The source of a field of the package's information (apk-v3(5)).
 #[derive(Clone, Copy)]
 enum Column {
-    /// The value of a field that is given once.
+    /// The value of this field of `-I`, which is given once.
     Single(Field),
-    /// All values of a field that may be given several times.
+    /// All values of this field of `-I`, which may be given several times.
     List(Field),
     /// The size of the package's files.
     InstalledSize,
-    /// None: `mkpkg` does not give the field.
+    /// No value: `mkpkg` leaves out the field.
     Null,
 }
 
@@ -58,9 +58,12 @@ const COLUMNS: [Column; 22] = [
 ];
 
 impl Information<'_> {
-    /// Writes the information, with the size of the package's files: 22 fields in order.
+    /// Writes the information, with the size of the package's files (`installed_size`): 22 fields
+    /// in order.
     #[tactic(auto, unfolding(crate::specs::Information::information_value))]
     pub fn write(&self, draft: &mut Draft, installed_size: u64) -> Result<(), AllocError>
+        // On Ok, the draft has one value more: the information of the package, as an object of
+        // table 3.
         ensures { OnOk result
             (draft.new ≡ draft_with (information_value self.now installed_size) draft.old) }
     {
@@ -78,13 +81,14 @@ impl Information<'_> {
 }
 
 impl Items<'_> {
-    // Writes columns one after the other.
+    // Writes the fields of the table, one after the other.
     fn write_columns(
         &self,
         draft: &mut Draft,
         columns: &[Column],
         installed_size: u64,
     ) -> Result<(), AllocError>
+        // On Ok, the draft has one value more for each of the fields, in order.
         ensures { OnOk result (draft.new
             ≡ draft_with_all (column_values_by_installed_size self.now installed_size columns.now) draft.old) }
     {
@@ -94,7 +98,7 @@ impl Items<'_> {
         Ok(())
     }
 
-    // Writes one field of the table.
+    // Writes one field of the table, from its source (`column`).
     fn write_column(
         &self,
         draft: &mut Draft,
@@ -139,7 +143,7 @@ impl Items<'_> {
 }
 
 impl Value<'_> {
-    // The number, if the value is one.
+    // The number that the value is; None if the value is no number.
     fn number(&self) -> Option<u64>
         ensures { result ≡ number_in (value_view self.now) }
     {
@@ -149,7 +153,7 @@ impl Value<'_> {
         }
     }
 
-    // Writes the value as a container has it.
+    // Writes the value in the form that it has in a container.
     fn write(&self, draft: &mut Draft) -> Result<(), AllocError>
         ensures { OnOk result
             (draft.new ≡ draft_with (plain_value (value_view self.now)) draft.old) }

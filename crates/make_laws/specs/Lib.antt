@@ -1,6 +1,6 @@
 -- The definitions of this crate, whose rules are in `docs/commands.md`, "`mkpkg`".
 
--- what the laws say
+-- cited by the laws of this crate
 pub mod NamedFields
 pub mod MadePackages
 pub mod SourceBytes

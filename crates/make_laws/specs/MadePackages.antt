@@ -1,6 +1,6 @@
--- A package that was made, and its contents in the terms of the format (apk-package(5)).
--- The rules are in `docs/commands.md`, "`mkpkg`", the paragraph on `-F DIR`; the names of fields in
--- `docs/formats.md`, "Schemas". It serves the laws of `src/packages.rt`.
+-- A package that was made, and its contents in the terms of the format (apk-package(5)). The rules are in
+-- `docs/commands.md`, "`mkpkg`", part "Files"; the names of fields in `docs/formats.md`, "Schemas". It
+-- serves the laws of `src/packages.rt`.
 use Rattle.command_core.specs.declared.values.TheConstants.{FILES, TRIGGER}
 use Rattle.std.specs.Prelude.{◌≡◌, ◌↔◌, ◌⊎◌, ◌==◌, ℕ, ◌+◌, ◌*◌, ◌^◌, ◌<◌, List, [], length, map, codes, sum_by, Ok, All}
 use Rattle.std.specs.List.{filter, flat_map}
@@ -20,7 +20,8 @@ use Rattle.make_core.specs.make_package.Making.{made_package}
 use Rattle.make_core.specs.package_files.Sources.{AreNamesBelowFirstFolder, values_of_letter}
 use Rattle.make_laws.specs.NamedFields.{IsAccessOfRoot, entries_of_field_named, field_named}
 
--- `mkpkg` makes these bytes, fewer than 2^64, from names below the given folder
+-- `mkpkg` makes these bytes, fewer than 2^64, from the command, these names below its folder, and these
+-- results of reads
 pub record IsMadePackage (command : CommandLine) (names : List (List ℕ)) (read : Reads)
     (bytes : List ℕ) : Type 0 where
   -- the names are below the folder of the option `-F`
@@ -30,7 +31,7 @@ pub record IsMadePackage (command : CommandLine) (names : List (List ℕ)) (read
   -- the length of the package is below 2^64
   pub short : length bytes < 2 ^ 64
 
--- the value of the package in a container
+-- the plain value of the package in a container with these bytes
 abbrev pub package_in_container : List ℕ → Plain
 package_in_container bytes = root_value Package (payload_in bytes)
 
@@ -47,12 +48,14 @@ pub record HasFoldersAndFilesInByteOrder (pkg : Plain) : Type 0 where
 abbrev pub IsAbovePath : List ℕ → List ℕ → Type 0
 IsAbovePath folder path = (folder ≡ []) ⊎ IsFolderOf folder path
 
--- a folder of the package is above the path of one of the names, which are below `dir` of the tree
+-- the folder of the package is above the path of one of the names. A path is a name without the folder
+-- `dir` of the tree
 abbrev pub IsAboveOnePath : List ℕ → List (List ℕ) → List ℕ → Type 0
 IsAboveOnePath dir names folder =
     (path : List ℕ) × IsIn (path_joined_to_folder dir path) names × IsAbovePath folder path
 
--- the folders of a package are exactly those above the path of a name
+-- the folders of the package are exactly those above the path of one of the names, which are below the
+-- folder `dir` of the tree
 abbrev pub HasJustFoldersAbove : List ℕ → List (List ℕ) → Plain → Type 0
 HasJustFoldersAbove dir names pkg =
     (folder : List ℕ) → IsIn folder (map name_of (folders_in pkg)) ↔ IsAboveOnePath dir names folder
@@ -88,7 +91,7 @@ ENTERABLE_FOLDER_MODE =
 abbrev pub IsReadableFile : Plain → Type 0
 IsReadableFile file = IsAccessOfRoot READABLE_FILE_MODE (field_named File (codes "acl") file)
 
--- a folder may be entered by all, and its files be read
+-- the access lists of the folder and of its files allow all to enter the folder and to read the files
 pub record IsEnterableWithReadableFiles (folder : Plain) : Type 0 where
   -- the folder's access list gives the mode of an enterable folder, and `root` as user and group
   pub itself : IsAccessOfRoot ENTERABLE_FOLDER_MODE (field_named Dir (codes "acl") folder)
@@ -97,13 +100,14 @@ pub record IsEnterableWithReadableFiles (folder : Plain) : Type 0 where
 
 -- ---- triggers and sizes
 
--- the triggers of a package are the texts of `-t`, in the order given
+-- the triggers of the package are the texts of the values of `-t`, in the order given; `values` are the
+-- values of all options
 abbrev pub HasTriggersOfOptionsInOrder : List OptionValue → Plain → Type 0
 HasTriggersOfOptionsInOrder values pkg =
     map text_in (entries_of_field_named Package (codes "triggers") pkg)
     ≡ map (λ (v : OptionValue). v.text) (filter (λ (v : OptionValue). v.letter == TRIGGER) values)
 
--- the size in a file's entry
+-- the size that a file's entry gives
 abbrev pub listed_file_size : Plain → ℕ
 listed_file_size file = int_in (field_named File (codes "size") file)
 

@@ -11,17 +11,19 @@ use Rattle.adb_view.specs.declared.tables.Which.{Which}
 use Rattle.adb_view.specs.declared.tables.Which.TheVariants.{Acl}
 use Rattle.adb_view.specs.Plain.{Plain, int, blob}
 
--- the place of the field of this name in a table, counted from 0; after the last if there is none
+-- the index of the field with this name in a table, counted from 0; the length of the table if no field
+-- has the name
 abbrev pub place_of_name : List ℕ → List Field → ℕ
 place_of_name name [] = 0
 place_of_name name (f ∷ fields) =
     if bytes_eq (field_name_text f.name) name then 0 else suc (place_of_name name fields)
 
--- the field of this name of an object of a table; Null if the object lacks it
+-- the value of the field with this name in the object `v` of this table; Null if the object lacks the
+-- field
 abbrev pub field_named : Which → List ℕ → Plain → Plain
 field_named which name v = entry_in v (place_of_name name (table which))
 
--- the entries of the field of this name, which is an array
+-- the entries of the field with this name in the object `v` of this table; the field is an array
 abbrev pub entries_of_field_named : Which → List ℕ → Plain → List Plain
 entries_of_field_named which name v = list_of (entries_in (field_named which name v))
 

@@ -20,7 +20,7 @@ option_text f value = field_word f ++ 58 ∷ value
 
 -- ---- the grammars
 
--- hexadecimal digits encode bytes: two digits, of either case, encode each byte
+-- the first text has the hexadecimal digits of the bytes: two digits, of either case, for each byte
 abbrev pub SpellsBytes : List ℕ → List ℕ → Type 0
 SpellsBytes [] [] = Unit {0}
 SpellsBytes [] (byte ∷ bytes) = ⊥
@@ -31,7 +31,7 @@ SpellsBytes (high ∷ low ∷ digits) (byte ∷ bytes) =
     × (byte ≡ h * 16 + l))
     × SpellsBytes digits bytes
 
--- a text encodes a number below 2^64: its decimal digits, as it is printed
+-- the text is the decimal form of the number `n`, which is below 2^64; it has no leading zero
 abbrev pub SpellsNumber : List ℕ → ℕ → Type 0
 SpellsNumber value n = (n < 2 ^ 64) × (value ≡ decimal n)
 
@@ -39,7 +39,8 @@ SpellsNumber value n = (n < 2 ^ 64) × (value ≡ decimal n)
 abbrev pub spaced_parts : List ℕ → List (List ℕ)
 spaced_parts value = filter (λ part. not (length part == 0)) (slice_split (λ b. b == 32) value)
 
--- each part encodes a dependency without tag, in their order
+-- each part encodes the dependency at the same place of the other list, which has no tag; both lists have
+-- the same length
 abbrev pub SpellDependencies : List (List ℕ) → List FieldValue → Type 0
 SpellDependencies [] [] = Unit {0}
 SpellDependencies [] (value ∷ values) = ⊥
@@ -51,19 +52,20 @@ SpellDependencies (part ∷ parts) (need d ∷ values) =
 
 -- ---- field by field
 
--- a value of a text field has one meaning: the text itself
+-- the text `value` of a text field gives one value: the text itself
 abbrev pub SaysText : List ℕ → List FieldValue → Type 0
 SaysText value said = said ≡ text value ∷ []
 
--- a value of a number field has one meaning: the number that it spells
+-- the text `value` of a number field gives one value: the number that it encodes
 abbrev pub SaysNumber : List ℕ → List FieldValue → Type 0
 SaysNumber value said = (n : ℕ) × SpellsNumber value n × (said ≡ number n ∷ [])
 
--- a value of a field of dependencies has as its meaning one dependency for each part between spaces
+-- the text `value` of a field of dependencies gives one dependency for each part between spaces that is
+-- not empty
 abbrev pub SaysDependencies : List ℕ → List FieldValue → Type 0
 SaysDependencies value said = SpellDependencies (spaced_parts value) said
 
--- the text `value` is valid for the field, and its meaning is the list `said`
+-- the text `value` is valid for the field, and gives the field the values `said`
 abbrev pub FieldTextGivesValues : Field → List ℕ → List FieldValue → Type 0
 FieldTextGivesValues Fields.Name value said = (is_package_name value ≡ true) × SaysText value said
 FieldTextGivesValues Fields.Version value said = (is_version value ≡ true) × SaysText value said
@@ -101,8 +103,9 @@ is_list_field f = false
 abbrev pub IsGivenFor : Field → OptionValue → Type 0
 IsGivenFor f option = (value : List ℕ) × (option.text ≡ option_text f value)
 
--- an option is accepted after those before it: its value is one of its field; if the field is no list, it
--- is the first; and it is no version that makes NAME-VERSION.apk too long (`too_long`)
+-- a value of `-I` (`option`) is accepted after the values `before`. Its text is valid for its field. If
+-- the field is no list, no earlier value is for it. If `too_long` is true (NAME-VERSION.apk would be too
+-- long), it is no version
 pub record IsAcceptedInfoOption (too_long : Bool) (before : List OptionValue) (option : OptionValue) :
     Type 0 where
   -- the field that the option names

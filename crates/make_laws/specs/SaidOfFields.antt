@@ -18,13 +18,14 @@ use Rattle.make_laws.specs.NamedFields.{field_named}
 use Rattle.make_laws.specs.OptionGrammar.{IsGivenFor, FieldTextGivesValues, is_list_field, option_text}
 use Rattle.std.specs.Prelude.{ℕ, codes}
 
--- an option gives these values for the field; an option of another field gives none
+-- a value of `-I` (`option`) gives the field `f` the values `said`: those of its text, if it is for this
+-- field; otherwise none
 abbrev pub OptionGivesFieldValues : Field → OptionValue → List FieldValue → Type 0
 OptionGivesFieldValues f option said =
     ((value : List ℕ) × (option.text ≡ option_text f value) × FieldTextGivesValues f value said)
     ⊎ ((IsGivenFor f option → ⊥) × (said ≡ []))
 
--- options give these values for the field, one after the other
+-- the values of `-I` (`options`) give the field `f` the values `said`, one after the other
 abbrev pub OptionsGiveFieldValues : Field → List OptionValue → List FieldValue → Type 0
 OptionsGiveFieldValues f [] said = said ≡ []
 OptionsGiveFieldValues f (option ∷ options) said =
@@ -60,11 +61,12 @@ field_value_in_package Fields.ReplacesPriority pkg =
 field_value_in_package f pkg =
     field_named PkgInfo (field_word f) (field_named Package (codes "info") pkg)
 
--- the package has what the options `-I` of a command give for the field
+-- the package has the values that the options `-I` give the field `f`; `values` are the values of all
+-- options of a command
 pub record HasFieldValuesOfOptions (f : Field) (values : List OptionValue) (pkg : Plain) : Type 0 where
   -- the values that the options give for the field
   pub said : List FieldValue
   -- the options `-I` give these values
   pub say : OptionsGiveFieldValues f (filter (λ (v : OptionValue). v.letter == INFO) values) said
-  -- the field's value in the package has them
+  -- the field's value in the package has these values
   pub tells : HasValuesOfField f said (field_value_in_package f pkg)

@@ -17,13 +17,13 @@ pub record IsGivenScript (read : Reads) (options : List OptionValue) (type bytes
     Type 0 where
   -- the option that names the script
   pub option : OptionValue
-  -- it is one of the given options
+  -- the option is one of the given values of `-s`
   pub given : IsIn option options
-  -- it gives a script of the wanted type
+  -- the option gives a script of this type
   pub of_type : script_type option.text ≡ type
   -- the number of the read
   pub number : ℕ
-  -- this read of the script's file returns the wanted bytes
+  -- this read of the script's file finds these bytes
   pub found : read number (without_dot_slash (script_file option.text)) ≡ Some bytes
 
 -- no option gives a script of this type
@@ -31,7 +31,8 @@ abbrev pub IsNotGiven : List OptionValue → List ℕ → Type 0
 IsNotGiven options type =
     (option : OptionValue) → IsIn option options → script_type option.text ≡ type → ⊥
 
--- the script of the type in a package: the one that is given, or none if none is given
+-- `script`, the script of this type in a package, has the bytes of a script of the type that the options
+-- give, or is Null if they give none
 abbrev pub IsScriptOfOptionsOrNull : Reads → List OptionValue → List ℕ → Plain → Type 0
 IsScriptOfOptionsOrNull read options type script =
     ((bytes : List ℕ) × IsGivenScript read options type bytes × (script ≡ blob_or_null bytes))

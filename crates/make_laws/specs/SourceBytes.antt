@@ -1,6 +1,6 @@
--- What the bytes of a file are (apk-package(5)), independent of how they are parsed.
--- The rule is in `docs/commands.md`, "`mkpkg`": "A file whose bytes are `!<symlink>` and a
--- UTF-8 text that is not empty is a symbolic link to that text." Serves the law
+-- What the bytes of a file are (apk-package(5)), independent of how they are parsed. The rule is in
+-- `docs/commands.md`, "`mkpkg`": "If a file below DIR consists of `!<symlink>` and a UTF-8 text that is
+-- not empty, the package has a symbolic link instead of this file". Serves the law
 -- `an_entry_describes_the_bytes_of_its_file`.
 use Rattle.std.specs.Prelude.{◌≡◌, ◌≢◌, ℕ, true, List, [], ◌++◌, codes}
 use Rattle.std.specs.Str.{is_utf8}

@@ -1,6 +1,5 @@
-//! The contents of a package that was made: laws over the definitions of `make_package`.
-//! The rules are in `docs/commands.md`, "`mkpkg`": the paragraph on `-F DIR`, and the options
-//! `-I`, `-s` and `-t`.
+//! The contents of a package that was made: laws over the definitions of `make_package`. The rules
+//! are in `docs/commands.md`, "`mkpkg`", parts "Information", "Scripts" and "Files".
 ghost use Rattle.make_core.specs.adb_fields.FirstPair.{IsIn};
 ghost use Rattle.make_core.specs.adb_fields.Repeated.{folders_in};
 ghost use Rattle.command_core.specs.Command.{CommandLine};
@@ -26,17 +25,19 @@ pub fn a_made_package_is_in_byte_order()
         → IsMadePackage command names read bytes
         → HasFoldersAndFilesInByteOrder (package_in_container bytes) }
 {
+    // A law that the proof needs; it computes nothing.
     a_made_package_is_read_back();
 }
 
-/// The folders of a package that was made are exactly those above the path of a file, at any depth,
-/// with the root.
+/// The folders of a package that was made are exactly those above the path of a file, at any depth:
+/// the root, and each folder that contains a file.
 pub fn a_made_package_has_just_the_folders_above_its_paths()
     ensures { (command : CommandLine) (names : List (List ℕ)) (read : Reads) (bytes : List ℕ)
         (dir : OptionValue) (others : List OptionValue) → IsMadePackage command names read bytes
         → values_of_letter FILES command.values ≡ dir ∷ others
         → HasJustFoldersAbove (without_dot_slash dir.text) names (package_in_container bytes) }
 {
+    // A law that the proof needs; it computes nothing.
     a_made_package_is_read_back();
     each_name_is_in_one_folder();
 }
@@ -47,6 +48,7 @@ pub fn a_made_package_may_be_read_by_all()
         → IsMadePackage command names read bytes
         → All IsEnterableWithReadableFiles (folders_in (package_in_container bytes)) }
 {
+    // A law that the proof needs; it computes nothing.
     a_made_package_is_read_back();
 }
 
@@ -56,6 +58,7 @@ pub fn a_made_package_has_its_triggers_in_order()
         → IsMadePackage command names read bytes
         → HasTriggersOfOptionsInOrder command.values (package_in_container bytes) }
 {
+    // A law that the proof needs; it computes nothing.
     a_made_package_is_read_back();
 }
 
@@ -67,6 +70,7 @@ pub fn a_made_package_has_its_scripts()
         → IsScriptOfOptionsOrNull read (values_of_letter SCRIPT command.values) type
         (script_named type (package_in_container bytes)) }
 {
+    // A law that the proof needs; it computes nothing.
     a_made_package_is_read_back();
 }
 
@@ -77,6 +81,7 @@ pub fn a_made_package_has_the_values_of_its_options()
         (f : Field) → IsMadePackage command names read bytes
         → HasFieldValuesOfOptions f command.values (package_in_container bytes) }
 {
+    // A law that the proof needs; it computes nothing.
     a_made_package_is_read_back();
     read_texts_are_spelled();
     spelled_texts_are_read();
@@ -88,5 +93,6 @@ pub fn a_made_package_has_the_size_of_its_files()
         → IsMadePackage command names read bytes
         → HasInstalledSizeOfItsFiles (package_in_container bytes) }
 {
+    // A law that the proof needs; it computes nothing.
     a_made_package_is_read_back();
 }

@@ -37,20 +37,24 @@ pub fn a_text_gives_a_value_to_a_field()
         → field_text_in t ≡ Some (record { field = f; value = value }) ↔ t ≡ option_text f value }
 {}
 
-/// A value is one of a field exactly if it is in the field's grammar, which also gives its meaning.
+/// A text gives the values `said` to a field by *values_by_kind* exactly if it does so by the
+/// grammar of the field, which is defined here without the program's parsers.
 pub fn a_value_is_taken_by_the_grammar_of_its_field()
     ensures { (f : Field) (value : List ℕ) (said : List FieldValue)
         → values_by_kind (kind_of_field f) value ≡ Some said ↔ FieldTextGivesValues f value said }
 {
+    // Laws that the proof needs; they compute nothing.
     read_texts_are_spelled();
     spelled_texts_are_read();
 }
 
-/// A value of `-I` offends after those before it exactly if it is not accepted.
+/// A value of `-I` offends (is refused) after the values `before` exactly if the grammar of `-I`
+/// does not accept it there.
 pub fn an_option_offends_unless_it_is_taken()
     ensures { (too_long : Bool) (before : List OptionValue) (option : OptionValue)
         → offends too_long before option ≡ false ↔ IsAcceptedInfoOption too_long before option }
 {
+    // Laws that the proof needs; they compute nothing.
     read_texts_are_spelled();
     spelled_texts_are_read();
 }
@@ -65,13 +69,14 @@ pub fn a_script_is_given_as_its_type_and_its_file()
 /// The entry of a file describes its bytes: for a link the target and neither size nor hash;
 /// otherwise their number and their SHA-256, and no target.
 pub fn an_entry_describes_the_bytes_of_its_file()
-    // A link: 0 and 160 are the kind 0xa000, little-endian.
+    // A link has its target, and neither size nor hash. The bytes 0 and 160 are the kind 0xa000,
+    // little-endian.
     ensures link { (name bytes target : List ℕ) → IsLinkTo target bytes
         → (let file = value_of_file (record { name = name; bytes = bytes }) in
         (field_named File (codes "target") file ≡ blob_or_null (0 ∷ 160 ∷ target))
         × (field_named File (codes "size") file ≡ null)
         × (field_named File (codes "hashes") file ≡ null)) }
-    // A regular file.
+    // A regular file has its size and its SHA-256, and no target.
     ensures regular { (name bytes : List ℕ) → AreBytesOfNoLink bytes
         → (let file = value_of_file (record { name = name; bytes = bytes }) in
         (field_named File (codes "target") file ≡ null)
@@ -84,6 +89,7 @@ pub fn an_entry_describes_the_bytes_of_its_file()
 pub fn a_value_is_stored_as_given()
     // A text is stored as its bytes, and an empty one as NULL.
     ensures text { (bytes : List ℕ) → plain_value (text bytes) ≡ blob_or_null bytes }
+    // A number is stored as an integer, also 0.
     ensures number { (n : ℕ) → plain_value (number n) ≡ int n }
     // A dependency is stored as its name, its version and its match number.
     ensures need { (d : Dependency)
@@ -109,20 +115,22 @@ pub fn an_entry_has_the_values_of_its_package()
         (package_in_container file))) }
 {}
 
-/// A value without zeros is read the same: it has the same number, the same text, and the same
-/// entries. None of its entries is the number 0.
+/// What is read of `without_zeros v` is what is read of `v`: the same number and text, and the same
+/// entries, each without zeros. It is never the number 0.
 pub fn values_without_zeros_tell_the_same()
-    // The value has the same number.
+    // The number that is read is the same.
     ensures number { (v : Plain) → int_in (without_zeros v) ≡ int_in v }
-    // The value has the same text.
+    // The text that is read is the same.
     ensures text { (v : Plain) → text_in (without_zeros v) ≡ text_in v }
-    // Its entries are those of the value, without zeros.
+    // Each entry is that of the value `v`, without zeros.
     ensures entries { (v : Plain) (i : ℕ)
         → entry_in (without_zeros v) i ≡ without_zeros (entry_in v i) }
+    // The result is not the number 0; a 0 has become Null.
     ensures none_zero { (v : Plain) → without_zeros v ≢ int 0 }
 {}
 
-/// An index has the given description, and its packages' entries.
+/// The value of an index has the given description in its field `description`, and the given
+/// entries in its field `packages`.
 pub fn an_index_has_its_description_and_packages()
     ensures { (description : List ℕ) (entries : List Plain)
         → (field_named Index (codes "description") (value_of_index description entries)

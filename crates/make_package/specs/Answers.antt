@@ -20,13 +20,12 @@ use Rattle.package_files.specs.Sources.{AreNamesBelowFirstFolder, values_of_lett
 
 -- ---- parts of a run
 
--- the option value, if there is one, is the first element of the list; without one the list is
--- empty
+-- the option value is the first element of the list; None exactly if the list is empty
 abbrev pub IsFirstValue : Option (Bor OptionValue) → List OptionValue → Type 0
 IsFirstValue None values = values ≡ []
 IsFirstValue (Some v) values = (others : List OptionValue) × (values ≡ v.now ∷ others)
 
--- a file that was made has these bytes
+-- the vector has these bytes
 abbrev pub IsBytes : Vec ℕ Global → List ℕ → Type 0
 IsBytes file bytes = bytes ≡ file.items
 
@@ -37,19 +36,19 @@ IsOkOrDiskOrMemory (Err Disk) = Unit {0}
 IsOkOrDiskOrMemory (Err Memory) = Unit {0}
 IsOkOrDiskOrMemory (Err fault) = ⊥
 
--- the result is not that the tree failed
+-- the result is no I/O error of the tree
 abbrev pub IsNotDisk : {A : Type 0} → Result A MakeFault → Type 0
 IsNotDisk (Err Disk) = ⊥
 IsNotDisk result = Unit {0}
 
--- the names are those below the folder that the first value of `-F` gives, if it is given, in a
--- tree of this state
+-- the names are exactly those of the files below the folder that the first value of `-F` gives, in a tree
+-- of this state. Without a value of `-F` nothing is stated
 abbrev pub AreNamesBelowFirstOption : List OptionValue → TreeState → List (List ℕ) → Type 0
 AreNamesBelowFirstOption [] v names = Unit {0}
 AreNamesBelowFirstOption (dir ∷ dirs) v names = IsSortedListingOfFolder (without_dot_slash dir.text) v names
 
--- `P` holds of the refusal with this error; of an I/O error of the tree and of out of memory
--- nothing is required
+-- `P` holds of the refusal with this error. If the error is an I/O error of the tree or out of memory,
+-- nothing is stated
 abbrev pub UnlessDiskOrMemory : MakeFault → (Result (List ℕ) MakeFault → Type 0) → Type 0
 UnlessDiskOrMemory Disk P = Unit {0}
 UnlessDiskOrMemory Memory P = Unit {0}
@@ -57,8 +56,8 @@ UnlessDiskOrMemory fault P = P (Err fault)
 
 -- ---- results of a run
 
--- `made` is made from a command, some names below its folder and some reads, which are the tree's if
--- its history is observable
+-- `made` is the package or the refusal for a command, some names below its folder and some results of
+-- reads. If the history of the tree is observable, these are the tree's names and files
 pub record IsMadeOf (history : List TreeState) (command : CommandLine)
     (made : Result (List ℕ) MakeFault) : Type 0 where
   -- the names of the files below the folder of the option `-F`
@@ -71,12 +70,13 @@ pub record IsMadeOf (history : List TreeState) (command : CommandLine)
   -- some results of reads, which are the tree's if it is observable, give what is made
   pub reads : IsExplainedBySomeReads history (λ read. made_package command names read ≡ made)
 
--- the result of a run is what is made; an I/O error of the tree and out of memory may occur in any case
+-- the result of a run is the package or the refusal of *IsMadeOf*. An I/O error of the tree and out of
+-- memory may occur in any case
 abbrev pub IsMakeResult : List TreeState → CommandLine → Result (Vec ℕ Global) MakeFault → Type 0
 IsMakeResult history command (Ok file) = IsMadeOf history command (Ok file.items)
 IsMakeResult history command (Err fault) = UnlessDiskOrMemory fault (IsMadeOf history command)
 
--- `made` is made from a command and the files of a tree in this state
+-- `made` is the package or the refusal for a command and the files of a tree in this state
 pub record IsMadeFromTree (command : CommandLine) (v : TreeState) (made : Result (List ℕ) MakeFault) :
     Type 0 where
   -- the names of the files below the folder of the option `-F`
@@ -86,7 +86,8 @@ pub record IsMadeFromTree (command : CommandLine) (v : TreeState) (made : Result
   -- the package is made with reads that return the tree's files
   pub is : made_package command names (λ n name. files_of v name) ≡ made
 
--- `made` is made from a command, some names below its folder and some reads
+-- `made` is the package or the refusal for a command, some names below its folder and some results of
+-- reads
 pub record IsMadeBySomeReads (command : CommandLine) (made : Result (List ℕ) MakeFault) : Type 0 where
   -- the names of the files below the folder of the option `-F`
   pub names : List (List ℕ)

@@ -19,8 +19,8 @@ use Rattle.package_files.specs.Sources.{and_then, values_of_letter, texts_of, sc
 
 -- ---- the file
 
--- the container of a package, or, if its value exceeds a limit of the writer, the error with the
--- two counts at which it does
+-- the container of a package with the value `v` and these contents. If the value exceeds a limit of the
+-- writer, the error with the two counts at which it does
 abbrev pub container_unless_too_large :
     Option PayloadCounts → Plain → List Contents → Result (List ℕ) MakeFault
 container_unless_too_large None v contents = Ok (container_of_value_and_contents PACKAGE_WORD v contents)
@@ -39,7 +39,8 @@ abbrev pub or_info_bad : Result (List FieldWithValue) ℕ → Result (List Field
 or_info_bad (Ok information) = Ok information
 or_info_bad (Err place) = Err (InfoBad place)
 
--- the package of what was read: the scripts, the information of `-I` (`about`), and the folders
+-- the bytes of the package of these parts: the scripts, the information of `-I` (`about`), the folders,
+-- and the triggers that the command gives by `-t`
 abbrev pub package_of_parts :
     CommandLine → List Script → List FieldWithValue → List SourceFolder → Result (List ℕ) MakeFault
 package_of_parts command scripts about folders =
@@ -48,8 +49,9 @@ package_of_parts command scripts about folders =
     (texts_of (values_of_letter TRIGGER command.values)) (replaces_priority about))
     (contents_of_folders 1 folders)
 
--- the package of a command, given the names below its folder and the reads: scripts first, then the
--- information, then the files below the folder; or the first refusal
+-- the bytes of the package of a command, or the first refusal, given the names below its folder (`names`)
+-- and the results of the reads. The order is: the scripts, the information, and then the files below the
+-- folder
 unfoldable pub made_package : CommandLine → List (List ℕ) → Reads → Result (List ℕ) MakeFault
 made_package command names read =
     and_then (scripts_from_read read 0 (values_of_letter SCRIPT command.values)) (λ scripts.

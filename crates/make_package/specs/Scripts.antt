@@ -14,10 +14,10 @@ script_view script = record { field = script.kind.now; bytes = script.bytes.item
 abbrev pub scripts_view : List Script → List packages.Script
 scripts_view scripts = map script_view scripts
 
--- a script of the program denotes this one
+-- the script `script` of the program denotes `is`
 abbrev pub IsScript : Script → packages.Script → Type 0
 IsScript script is = script_view script ≡ is
 
--- scripts of the program denote these, one by one and in their order
+-- the scripts `scripts` of the program denote `are`, one by one and in their order
 abbrev pub AreScripts : Vec Script Global → List packages.Script → Type 0
 AreScripts scripts are = scripts_view scripts.items ≡ are

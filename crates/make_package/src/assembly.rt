@@ -25,8 +25,8 @@ use package_files::{
 };
 use std::alloc::{AllocError, Global};
 
-/// The bytes of the package of a command, with this information (`about`), these files (`packing`)
-/// and these scripts.
+/// The bytes of the package that a command describes, with this information (`about`), these
+/// folders and files (`packing`) and these scripts.
 pub(crate) fn package(
     alloc: Global,
     command: &Command,
@@ -34,17 +34,17 @@ pub(crate) fn package(
     packing: Packing<'_>,
     scripts: &[Script<'_>],
 ) -> Result<Vec<u8>, MakeFault>
-    // Each packed regular file has its bytes in the blocks, so the sum of the sizes is at most
-    // their length.
+    // The sum of the file sizes is at most the length of the blocks, since the bytes of each
+    // regular file are in them.
     requires { installed_size_of_folders packing.folders.items ≤ length packing.blocks.items }
     // The result is the package of these parts, or its refusal, unless out of memory.
     ensures made { (sources : List SourceFolder) → IsPacking packing.entry sources
         → AgreesOrIsFault IsBytes result (package_of_parts command.now
         (scripts_view scripts.now) about.now sources) }
-    // The tree is not called, so it did not fail.
+    // The result is no I/O error: no call on a tree is made here.
     ensures disk { IsNotDisk result }
 {
-    // Each file's bytes are in the blocks, so the sum of sizes has 64 bits.
+    // The bytes of all files are in the blocks, so the sum of their sizes fits into 64 bits.
     let size = installed_size(&packing.folders);
     let payload = payload(
         alloc,
@@ -112,20 +112,22 @@ fn payload(
     Ok(draft.finish()?)
 }
 
-/// The bytes of the package with this payload followed by these blocks, which are in memory only
-/// once.
+/// The bytes of the package with this payload and these blocks of contents. The blocks are in
+/// memory only once.
 fn package_file(alloc: Global, payload: &[u8], mut blocks: Vec<u8>) -> Result<Vec<u8>, AllocError>
-    // The payload is not above the greatest length of a payload.
+    // The payload is not longer than a payload may be.
     requires { length payload.now ≤ MOST_BYTES }
     ensures { IfOk result (λ bytes. bytes.items
         ≡ file_of PACKAGE_WORD payload.now ++ blocks.items) }
 {
+    // The header of the file, and the block with the payload.
     let front = file_of(alloc, PACKAGE_WORD, payload)?;
     put_in_front(&mut blocks, &front)?;
     Ok(blocks)
 }
 
-/// The installed size of a package is that of its contents.
+/// A law: the installed size of a package is the sum of the lengths of its contents. `first` is the
+/// position of the first folder.
 pub fn the_installed_size_is_that_of_the_contents()
     ensures { (first : ℕ) (folders : List SourceFolder)
         → installed_size folders ≡ contents_size (contents_of_folders first folders) }

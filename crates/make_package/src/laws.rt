@@ -46,11 +46,11 @@ pub fn each_name_is_in_one_folder()
     // The folders are in byte order of their names.
     ensures rise { (dir : List ℕ) (names : List (List ℕ)) → IsStrictlySortedBy (slice_cmp nat_cmp)
         (map (λ folder. folder.name) (folder_listings_of dir names)) }
-    // Each folder is above a path.
+    // Each folder of a package is above one of the paths.
     ensures over { (paths : List (List ℕ)) (folder : List ℕ)
         → Contains (all_folders_above paths) folder
         → Any (λ path. Contains (folders_above path) folder) paths }
-    // Each folder that is above a path is one of them.
+    // Each folder that is above one of the paths is a folder of the package.
     ensures whole { (paths : List (List ℕ)) (path folder : List ℕ)
         → Contains paths path → Contains (folders_above path) folder
         → Contains (all_folders_above paths) folder }
@@ -60,7 +60,7 @@ pub fn each_name_is_in_one_folder()
 /// hash, for another file the number of its bytes and their SHA-256, and no target. All may read
 /// each file and root may write it (0644); a folder may be entered too (0755).
 pub fn the_fields_of_a_file_are_those_of_its_bytes()
-    // A regular file has its size and its hash.
+    // A regular file has its size and its SHA-256, and no target.
     ensures regular { (name bytes : List ℕ) → is_link_file bytes ≡ false
         → (value_by_name (codes "size") (table File) (file_fields name (kind_of_file bytes))
         ≡ Some (size_value (length bytes)))
@@ -68,7 +68,8 @@ pub fn the_fields_of_a_file_are_those_of_its_bytes()
         ≡ Some (blob_or_null (sha256 bytes)))
         × (value_by_name (codes "target") (table File) (file_fields name (kind_of_file bytes))
         ≡ Some null) }
-    // A link has only its target.
+    // A link has its target (0 and 160 are the kind 0xa000, little-endian), and neither size nor
+    // hash.
     ensures link { (name bytes : List ℕ) → is_link_file bytes ≡ true
         → (value_by_name (codes "size") (table File) (file_fields name (kind_of_file bytes))
         ≡ Some null)
@@ -76,13 +77,13 @@ pub fn the_fields_of_a_file_are_those_of_its_bytes()
         ≡ Some null)
         × (value_by_name (codes "target") (table File) (file_fields name (kind_of_file bytes))
         ≡ Some (blob_or_null (0 ∷ 160 ∷ link_text bytes))) }
-    // Each file has its name and its access rights.
+    // Each file has its name and its access list.
     ensures named { (name : List ℕ) (kind : FileKind)
         → (value_by_name (codes "name") (table File) (file_fields name kind)
         ≡ Some (blob_or_null name))
         × (value_by_name (codes "acl") (table File) (file_fields name kind)
         ≡ Some (access_value FILE_MODE)) }
-    // A folder has its name, its access rights, and its files.
+    // A folder has its name, its access list, and its files.
     ensures folder { (name : List ℕ) (files : List Plain)
         → (value_by_name (codes "name") (table Dir) (folder_fields name files)
         ≡ Some (blob_or_null name))

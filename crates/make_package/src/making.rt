@@ -30,8 +30,8 @@ pub fn make<T: Tree>(alloc: Global, command: &Command, tree: &mut T) -> Result<V
     // The tree is only read, and `Disk` has a fault of the tree as its cause.
     ensures tree { OnlyReads MakeFault.Disk (T.history tree.old) (T.history tree.new)
         (T.counts tree.old) (T.counts tree.new) result }
-    // The bytes are the package of the command, of names below its folder and of some reads; or the
-    // first refusal is returned.
+    // The result is the package of the command, of some names below its folder and of some results
+    // of reads, or the first refusal. If the tree is observable, these are its names and its files.
     ensures made { IsMakeResult (T.history tree.old) command.now result }
 {
     // A law that the proof needs; it computes nothing.
@@ -53,8 +53,7 @@ fn pack<T: Tree>(
     // The tree is only read: no file changes, no I/O error is hidden, and no call is a misuse.
     ensures tree { OnlyReads MakeFault.Disk (T.history tree.old) (T.history tree.new)
         (T.counts tree.old) (T.counts tree.new) result }
-    // There are results of reads that give this result; if the tree is observable, they are its
-    // files.
+    // Some results of reads give this result. If the tree is observable, the reads find its files.
     ensures read { IsExplainedBySomeReads (T.history tree.old) (λ read.
         AgreesOrIsFault IsBytes result (made_package command.now names.now read)) }
 {

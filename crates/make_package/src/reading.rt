@@ -22,21 +22,22 @@ use command_core::{FILES, OptionValue, SCRIPT, Values, without_dot_slash};
 use package_files::{MakeFault, Packing, pack_names, read_file};
 use std::alloc::{AllocError, Global};
 
-/// The names below the folder that an option gives, in byte order and each once, whatever the tree
-/// returns; none if no folder is given.
+/// The names of the files below the folder that the first `-F` gives, in byte order and each once,
+/// whatever the tree returns. No names if `-F` is not given.
 pub(crate) fn list_names<T: Tree>(
     alloc: Global,
     tree: &mut T,
     values: &Values,
 ) -> Result<Names, MakeFault>
-    // The values are those that `mkpkg` may have.
+    // The values are those of a valid command `mkpkg`.
     requires { IsTrue (are_allowed_values (value_rules Mkpkg) values.now) }
     // The tree is only read: no file changes, no I/O error is hidden, and no call is a misuse.
     ensures tree { OnlyReads MakeFault.Disk (T.history tree.old) (T.history tree.new)
         (T.counts tree.old) (T.counts tree.new) result }
     // A listing can fail only by an I/O error of the tree or out of memory.
     ensures cut { IsOkOrDiskOrMemory result }
-    // If the tree's files are observable, these are the names below the folder.
+    // If the tree's files are observable, these are exactly the names of its files below the
+    // folder.
     ensures names { IfOk result (λ names. IfObservable (T.history tree.old) (λ v.
         AreNamesBelowFirstOption (values_of_letter FILES values.now) v names)) }
     // Whatever the tree returns, these are names below the folder, in byte order and each once.
@@ -52,8 +53,8 @@ pub(crate) fn list_names<T: Tree>(
     }
 }
 
-/// Packs the files of these names, which are listed below the folder of `-F`; nothing if no folder
-/// is given.
+/// Packs the files of these names, which are listed below the folder of the first `-F`. Without
+/// `-F` the packing has no folders.
 pub(crate) fn pack_below<'a, T: Tree>(
     alloc: Global,
     tree: &mut T,
@@ -63,8 +64,8 @@ pub(crate) fn pack_below<'a, T: Tree>(
     // The tree is only read: no file changes, no I/O error is hidden, and no call is a misuse.
     ensures tree { OnlyReads MakeFault.Disk (T.history tree.old) (T.history tree.new)
         (T.counts tree.old) (T.counts tree.new) result }
-    // There are results of reads that give this result; if the tree is observable, they are its
-    // files.
+    // For each number `n` of the first read, some results of reads give this result. If the tree is
+    // observable, the reads find its files.
     ensures read { (n : ℕ) → IsExplainedBySomeReads (T.history tree.old) (λ read.
         AgreesOrIsFault IsPacking result (source_folders_of_first_option read n
         (values_of_letter FILES values.now) names.now)) }
@@ -81,7 +82,7 @@ pub(crate) fn pack_below<'a, T: Tree>(
     }
 }
 
-/// The first value of `-F`, which gives a folder, if it is given.
+/// The first value of `-F`, whose text is a folder; None if `-F` is not given.
 fn first_folder(values: &Values) -> Option<&OptionValue>
     ensures { IsFirstValue result (values_of_letter FILES values.entry.now) }
 {
@@ -94,13 +95,13 @@ pub(crate) fn read_scripts<'a, T: Tree>(
     tree: &mut T,
     values: &'a Values,
 ) -> Result<Vec<Script<'a>>, MakeFault>
-    // Each value is one that `mkpkg` allows.
+    // The values are those of a valid command `mkpkg`.
     requires { IsTrue (are_allowed_values (value_rules Mkpkg) values.now) }
     // The tree is only read: no file changes, no I/O error is hidden, and no call is a misuse.
     ensures tree { OnlyReads MakeFault.Disk (T.history tree.old) (T.history tree.new)
         (T.counts tree.old) (T.counts tree.new) result }
-    // There are results of reads that give this result; if the tree is observable, they are its
-    // files.
+    // For each number `n` of the first read, some results of reads give this result. If the tree is
+    // observable, the reads find its files.
     ensures read { (n : ℕ) → IsExplainedBySomeReads (T.history tree.old) (λ read.
         AgreesOrIsFault AreScripts result (scripts_from_read read n
         (values_of_letter SCRIPT values.entry.now))) }
@@ -138,8 +139,8 @@ fn read_script<'a, T: Tree>(
     // The tree is only read: no file changes, no I/O error is hidden, and no call is a misuse.
     ensures tree { OnlyReads MakeFault.Disk (T.history tree.old) (T.history tree.new)
         (T.counts tree.old) (T.counts tree.new) result }
-    // There are results of reads that give this result; if the tree is observable, they are its
-    // files.
+    // For each number `n` of the first read, some results of reads give this result. If the tree is
+    // observable, the reads find its files.
     ensures read { (n : ℕ) → IsExplainedBySomeReads (T.history tree.old) (λ read.
         AgreesOrIsFault IsScript result (script_at read n value.entry.now)) }
 {

@@ -17,15 +17,16 @@ use command_core::{TRIGGER, Values};
 use package_files::{Draft, File, Folder, Information, write_number, write_size};
 use std::alloc::AllocError;
 
-/// The mode of every folder (493 in `docs/commands.md`, "`mkpkg`"): all may read and enter, and
-/// root may write.
+/// The mode of every folder (`docs/commands.md`, "`mkpkg`", part "Files"): all may read and enter,
+/// and root may write.
 const FOLDER_MODE: u64 = 0o755;
 
-/// The mode of every file (420 there): all may read, and root may write.
+/// The mode of every file (`docs/commands.md`, "`mkpkg`", part "Files"): all may read, and root may
+/// write.
 const FILE_MODE: u64 = 0o644;
 
-/// Writes a package with this information, these folders and scripts, with the triggers of the
-/// options, and with the installed size `size`.
+/// Writes the value of a package with this information (`about`), these folders and scripts, the
+/// triggers in the values of the options (`values`), and the installed size `size`.
 pub(crate) fn write_package(
     draft: &mut Draft,
     values: &Values,
@@ -34,6 +35,7 @@ pub(crate) fn write_package(
     scripts: &[Script<'_>],
     size: u64,
 ) -> Result<(), AllocError>
+    // On Ok, the draft has one value more: the package with these parts.
     ensures { OnOk result (draft.new ≡ draft_with
         (package_with (information_value about.now size) (map packed_folder folders.now)
         (scripts_view scripts.now) (texts_of (values_of_letter TRIGGER values.now))
@@ -50,6 +52,7 @@ pub(crate) fn write_package(
 
 /// Writes the folders of a package, each with its files.
 fn write_paths(draft: &mut Draft, folders: &[Folder<'_>]) -> Result<(), AllocError>
+    // On Ok, the draft has one value more: the array of these entries, or Null if there are none.
     ensures { OnOk result (draft.new
         ≡ draft_with (array_or_null (plains_of_list (map packed_folder folders.now))) draft.old) }
 {
@@ -60,8 +63,9 @@ fn write_paths(draft: &mut Draft, folders: &[Folder<'_>]) -> Result<(), AllocErr
     draft.close_array()
 }
 
-/// Writes a folder with its access list and its files.
+/// Writes the entry of a folder: its name, its access list and its files.
 fn write_folder(draft: &mut Draft, folder: &Folder<'_>) -> Result<(), AllocError>
+    // On Ok, the draft has one value more: the entry of the folder.
     ensures { OnOk result (draft.new ≡ draft_with (packed_folder folder.now) draft.old) }
 {
     draft.open_list()?;
@@ -73,6 +77,7 @@ fn write_folder(draft: &mut Draft, folder: &Folder<'_>) -> Result<(), AllocError
 
 /// Writes the files of a folder.
 fn write_files(draft: &mut Draft, files: &[File<'_>]) -> Result<(), AllocError>
+    // On Ok, the draft has one value more: the array of these entries, or Null if there are none.
     ensures { OnOk result (draft.new
         ≡ draft_with (array_or_null (plains_of_list (map packed_file files.now))) draft.old) }
 {
@@ -83,14 +88,16 @@ fn write_files(draft: &mut Draft, files: &[File<'_>]) -> Result<(), AllocError>
     draft.close_array()
 }
 
-/// Writes a file with its access list; the time is Null.
+/// Writes the entry of a file: its name, access list, size, time, hash and target.
 fn write_file(draft: &mut Draft, file: &File<'_>) -> Result<(), AllocError>
+    // On Ok, the draft has one value more: the entry of the file.
     ensures { OnOk result (draft.new ≡ draft_with (packed_file file.now) draft.old) }
 {
     draft.open_list()?;
     draft.blob(file.name)?;
     write_acl(draft, FILE_MODE)?;
     write_size(draft, file.kind.size())?;
+    // The time of the file, which is left out.
     draft.null()?;
     draft.blob(file.kind.hash())?;
     draft.blob(file.kind.target())?;
@@ -99,6 +106,7 @@ fn write_file(draft: &mut Draft, file: &File<'_>) -> Result<(), AllocError>
 
 /// Writes an access list: this mode, and `root` as user and as group.
 fn write_acl(draft: &mut Draft, mode: u64) -> Result<(), AllocError>
+    // On Ok, the draft has one value more: the access list.
     ensures { OnOk result (draft.new ≡ draft_with (access_value mode) draft.old) }
 {
     draft.open_list()?;
@@ -120,6 +128,7 @@ pub(crate) struct Script<'a> {
 /// Writes the scripts: a field for each type, in the order of table 6. A type without script is
 /// NULL.
 fn write_scripts(draft: &mut Draft, scripts: &[Script<'_>]) -> Result<(), AllocError>
+    // On Ok, the draft has one value more: the object of the scripts, or Null if there are none.
     ensures { OnOk result
         (draft.new ≡ draft_with (value_of_scripts (scripts_view scripts.now)) draft.old) }
 {
@@ -134,7 +143,7 @@ fn write_scripts(draft: &mut Draft, scripts: &[Script<'_>]) -> Result<(), AllocE
     draft.close_object()
 }
 
-/// The bytes of the first script of a type, or none if there is none.
+/// The bytes of the first script of this type; empty if there is no script of the type.
 fn script_of<'a>(scripts: &'a [Script<'_>], kind: &[u8]) -> &'a [u8]
     ensures { result.now ≡ script_bytes_of_field (scripts_view scripts.now) kind.now }
 {
@@ -148,12 +157,14 @@ fn script_of<'a>(scripts: &'a [Script<'_>], kind: &[u8]) -> &'a [u8]
 
 /// Writes the triggers: the values of `-t`, in the order given.
 fn write_triggers(draft: &mut Draft, values: &Values) -> Result<(), AllocError>
+    // On Ok, the draft has one value more: the array of the texts of `-t`, or Null without `-t`.
     ensures { OnOk result (draft.new ≡ draft_with (array_or_null (plains_of_list (map blob_or_null
         (texts_of (values_of_letter TRIGGER values.now))))) draft.old) }
 {
     draft.open_list()?;
     for i in 0..values.len() {
         let value = values.get(i);
+        // The values of all options are in one list.
         if value.letter == TRIGGER {
             draft.blob(value.text.as_bytes())?;
         }

@@ -10,8 +10,8 @@ use Rattle.std.specs.declared.alloc.Global.{Global}
 abbrev pub names_borrowed : Vec (Bor (List ℕ)) Global → List (List ℕ)
 names_borrowed names = map (λ (name : Bor (List ℕ)). name.now) names.items
 
--- the result of a search for a name in a list without repeats: its index, counted from 0, or none if
--- the list does not have the name
+-- the result of a search for `name` in a list without repeats: the index of the name, counted from 0.
+-- None if the list does not have it
 abbrev pub IsIndexOf : List ℕ → List (List ℕ) → Option ℕ → Type 0
 IsIndexOf name names None =
     (k : ℕ) → k < length names → bytes_eq name (slice_index_or names k []) ≡ false
@@ -19,7 +19,8 @@ IsIndexOf name names (Some at) =
     (at < length names)
     × ((k : ℕ) → k < length names → bytes_eq name (slice_index_or names k []) ≡ (k == at))
 
--- the listings of a package's folders, given the names in the tree of each folder's files
+-- the listings of these folders of a package; `files` has, for each folder, the names in the tree of its
+-- files
 abbrev pub listings_of :
     List (List ℕ) → List (Vec (Bor (List ℕ)) Global) → List FolderListing
 listings_of [] files = []

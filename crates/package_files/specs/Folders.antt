@@ -1,5 +1,5 @@
--- The folders of a package, and the folder of each file below a folder of the tree.
--- The rule is in `docs/commands.md`, "`mkpkg`", the paragraph on `-F DIR`.
+-- The folders of a package, and the folder of each file below a folder of the tree. The rule is in
+-- `docs/commands.md`, "`mkpkg`", part "Files".
 use Rattle.std.specs.Prelude.{ℕ, ◌+◌, ◌==◌, Bool, if◌then◌else◌, List, [], ◌∷◌, length, drop, map, filter, bytes_eq}
 use Rattle.std.specs.List.{flat_map, before_last, after_last}
 use Rattle.std.specs.Ordering.{nat_cmp}
@@ -19,8 +19,8 @@ folder_of path = before_last is_slash path
 abbrev pub last_part_of : List ℕ → List ℕ
 last_part_of path = after_last is_slash path
 
--- the prefixes before each slash of the text that begins with `b`. `folders` are the prefixes
--- before each slash of the rest of the text. If `b` is a slash, the first prefix is empty
+-- the texts before each slash of a text that begins with the byte `b`. `folders` are the texts before
+-- each slash of the rest of this text. If `b` is a slash, the first of them is empty
 abbrev pub prefixes_extended_by_first_byte : ℕ → List (List ℕ) → List (List ℕ)
 prefixes_extended_by_first_byte b folders =
     if is_slash b then [] ∷ map (λ folder. b ∷ folder) folders
@@ -37,8 +37,9 @@ folders_above path = [] ∷ prefixes_before_slashes path
 
 -- ---- names in byte order, each once
 
--- inserts a name into the sorted list `x ∷ xs`, given how the name compares with `x`. A name that
--- is already in the list is not inserted again. `further` is the list `xs` with the name inserted
+-- the sorted list `x ∷ xs` with a name inserted, given how the name compares with `x` (the first
+-- argument). A name that the list already has is not inserted again. `further` is the list `xs` with the
+-- name inserted
 abbrev pub with_folder_inserted_by_order :
     Ordering → List ℕ → List ℕ → List (List ℕ) → List (List ℕ) → List (List ℕ)
 with_folder_inserted_by_order Less name x xs further = name ∷ x ∷ xs
@@ -51,7 +52,7 @@ with_folder_inserted name [] = name ∷ []
 with_folder_inserted name (x ∷ xs) =
     with_folder_inserted_by_order (slice_cmp nat_cmp name x) name x xs (with_folder_inserted name xs)
 
--- a sorted list of names with the names of another list inserted, one by one
+-- the sorted list `so_far` with the names of the other list inserted, one by one
 abbrev pub with_folders_inserted : List (List ℕ) → List (List ℕ) → List (List ℕ)
 with_folders_inserted so_far [] = so_far
 with_folders_inserted so_far (name ∷ names) = with_folders_inserted (with_folder_inserted name so_far) names
@@ -69,7 +70,7 @@ pub record FolderListing : Type 0 where
   -- the names in the tree of the files directly in this folder
   pub files : List (List ℕ)
 
--- the path, relative to a folder, of a name below it: the name without the folder and the slash
+-- the path of `name` relative to the folder `folder` above it: the name without the folder and the slash
 -- after it
 abbrev pub path_relative_to : List ℕ → List ℕ → List ℕ
 path_relative_to folder name = drop (length folder + 1) name
@@ -85,12 +86,14 @@ abbrev pub tree_names_in_package_folder : List ℕ → List (List ℕ) → List 
 tree_names_in_package_folder dir names folder =
     filter (λ name. bytes_eq (folder_of (path_relative_to dir name)) folder) names
 
--- a folder of the package, with the names of its files
+-- the listing of a folder of the package: its name `folder`, and the names of its files among `names`,
+-- which are listed below `dir` of the tree
 abbrev pub folder_listing_of : List ℕ → List (List ℕ) → List ℕ → FolderListing
 folder_listing_of dir names folder =
     record { name = folder; files = tree_names_in_package_folder dir names folder }
 
--- the folders of a package, by the names that are listed below a folder of the tree
+-- the listings of all folders of a package, given the names of files that are listed below the folder
+-- `dir` of the tree
 unfoldable pub folder_listings_of : List ℕ → List (List ℕ) → List FolderListing
 folder_listings_of dir names =
     map (folder_listing_of dir names) (all_folders_above (map (path_relative_to dir) names))

@@ -12,11 +12,11 @@ use Rattle.make_info.specs.Values.{number_value, plains_of_list, size_value}
 use Rattle.package_files.specs.declared.file.FileKind.{FileKind}
 use Rattle.package_files.specs.declared.file.FileKind.TheVariants.{Link, Regular}
 
--- a file that was read, by the last part of its path, and its bytes
+-- a file that was read: the last part of its path, and its bytes
 pub record Source : Type 0 where
   -- the last part of the file's path
   pub name : List ℕ
-  -- the bytes that were read under this path
+  -- the bytes that were read of the file
   pub bytes : List ℕ
 
 -- a folder that was read: its name in the package, and its files
@@ -35,11 +35,11 @@ pub record Script : Type 0 where
 
 -- ---- files
 
--- the mark of a link, with which its bytes begin
+-- the bytes with which a file begins that represents a symbolic link
 abbrev pub link_mark : List ℕ
 link_mark = codes "!<symlink>"
 
--- the text of a link: the bytes after its mark
+-- the text of the link that a file with these bytes represents: the bytes after the mark
 abbrev pub link_text : List ℕ → List ℕ
 link_text bytes = drop (length link_mark) bytes
 
@@ -87,7 +87,8 @@ FILE_MODE = 6 * 8 ^ 2 + 4 * 8 + 4
 abbrev pub FOLDER_MODE : ℕ
 FOLDER_MODE = 7 * 8 ^ 2 + 5 * 8 + 5
 
--- the fields of a file's entry: name, access list, size, time (which is left out), hash and target
+-- the fields of the entry of a file with this name and kind: name, access list, size, time (which is left
+-- out), hash and target
 abbrev pub file_fields : List ℕ → FileKind → Plains
 file_fields name kind =
     more (blob_or_null name) (more (access_value FILE_MODE) (more (size_value (size_of_kind kind))
@@ -98,21 +99,21 @@ file_fields name kind =
 abbrev pub value_of_kind : List ℕ → FileKind → Plain
 value_of_kind name kind = trimmed_object_or_null (file_fields name kind)
 
--- the entry of a file, given its bytes
+-- the entry of a file that was read, made of its bytes
 abbrev pub value_of_file : Source → Plain
 value_of_file file = value_of_kind file.name (kind_of_file file.bytes)
 
--- the fields of a folder's entry: name, access list and files
+-- the fields of the entry of a folder with this name: name, access list, and the entries of its files
 abbrev pub folder_fields : List ℕ → List Plain → Plains
 folder_fields name files =
     more (blob_or_null name) (more (access_value FOLDER_MODE)
     (more (array_or_null (plains_of_list files)) none))
 
--- the entry of a folder, with the entries of its files
+-- the entry of a folder with this name and these entries of its files
 abbrev pub folder_with : List ℕ → List Plain → Plain
 folder_with name files = trimmed_object_or_null (folder_fields name files)
 
--- the entry of a folder, by the bytes of its files
+-- the entry of a folder that was read, made of the bytes of its files
 abbrev pub value_of_folder : SourceFolder → Plain
 value_of_folder folder = folder_with folder.name (map value_of_file folder.files)
 
@@ -127,7 +128,7 @@ installed_size folders = sum_by size_of_folder folders
 
 -- ---- scripts
 
--- the bytes of the script of the type `field`; empty if there is none
+-- the bytes of the first script of the type `field`; empty if there is no script of this type
 abbrev pub script_bytes_of_field : List Script → List ℕ → List ℕ
 script_bytes_of_field [] field = []
 script_bytes_of_field (script ∷ scripts) field =
@@ -144,19 +145,21 @@ value_of_scripts scripts = trimmed_object_or_null (script_fields scripts)
 
 -- ---- the package
 
--- the fields of a package: information, paths, scripts, triggers and the optional priority in replacing
+-- the five fields of a package: its information (`info`), the entries of its folders (`paths`), its
+-- scripts, its triggers and its optional priority in replacing
 abbrev pub package_fields : Plain → List Plain → List Script → List (List ℕ) → Option ℕ → Plains
 package_fields info paths scripts triggers priority =
     more info (more (array_or_null (plains_of_list paths)) (more (value_of_scripts scripts)
     (more (array_or_null (plains_of_list (map blob_or_null triggers)))
     (more (number_value priority) none))))
 
--- the value of a package, by its parts
+-- the value of a package with these five parts
 abbrev pub package_with : Plain → List Plain → List Script → List (List ℕ) → Option ℕ → Plain
 package_with info paths scripts triggers priority =
     trimmed_object_or_null (package_fields info paths scripts triggers priority)
 
--- the value of a package, given what was read
+-- the value of a package, given its information, the folders and scripts that were read, its triggers and
+-- its priority in replacing
 abbrev pub value_of_package :
     Plain → List SourceFolder → List Script → List (List ℕ) → Option ℕ → Plain
 value_of_package info folders scripts triggers priority =
@@ -170,15 +173,15 @@ value_of_package info folders scripts triggers priority =
 abbrev pub has_contents : FileKind → Bool
 has_contents kind = nat_lt 0 (size_of_kind kind)
 
--- the contents of the file with this position in its folder, and with this position of its folder;
--- no element if the file has no block
+-- the contents of a file with these bytes: `folder` is the position of its folder, and `i` its position
+-- in this folder. The list is empty if the file has no block of contents
 abbrev pub contents_of_file : ℕ → ℕ → List ℕ → List Contents
 contents_of_file folder i bytes =
     if has_contents (kind_of_file bytes) then
     record { folder = folder; file = i; bytes = bytes } ∷ [] else []
 
--- the contents of the files of the folder with this position; the first of the files has the
--- position `i`
+-- the contents of these files of the folder with the position `folder`; the first of the files has the
+-- position `i` in it
 abbrev pub contents_of_files : ℕ → ℕ → List Source → List Contents
 contents_of_files folder i [] = []
 contents_of_files folder i (file ∷ files) =

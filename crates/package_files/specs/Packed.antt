@@ -26,15 +26,16 @@ files_size files = sum_by (λ (file : File). size_of_kind file.kind) files
 abbrev pub installed_size_of_folders : List Folder → ℕ
 installed_size_of_folders folders = sum_by (λ (folder : Folder). files_size folder.files.items) folders
 
--- a packed file is the packed form of a source file: it has its name, and the kind that its bytes
--- say
+-- the packed file `file` is made of the source file: it has the same name, and the kind that follows from
+-- the source's bytes
 pub record IsFileFrom (file : File) (source : Source) : Type 0 where
   -- both have the same name
   pub name : file.name.now ≡ source.name
   -- the kind follows from the bytes of the source
   pub kind : file.kind ≡ kind_of_file source.bytes
 
--- files that were packed are those that were read, one by one, and as many
+-- each packed file is made of the source file at the same place of the other list; both lists have the
+-- same length
 abbrev pub AreFilesFrom : List File → List Source → Type 0
 AreFilesFrom [] [] = Unit {0}
 AreFilesFrom [] (source ∷ sources) = ⊥
@@ -42,15 +43,16 @@ AreFilesFrom (file ∷ files) [] = ⊥
 AreFilesFrom (file ∷ files) (source ∷ sources) =
     IsFileFrom file source × AreFilesFrom files sources
 
--- a packed folder is the packed form of a source folder: it has its name, and the packed forms of
--- its files
+-- the packed folder `folder` is made of the source folder: it has the same name, and its files are made
+-- of the source's files
 pub record IsFolderFrom (folder : Folder) (source : SourceFolder) : Type 0 where
   -- both have the same name
   pub name : folder.name.now ≡ source.name
   -- its files are the packed forms of the source's files, in order
   pub files : AreFilesFrom folder.files.items source.files
 
--- folders that were packed are those that were read, one by one, and as many
+-- each packed folder is made of the source folder at the same place of the other list; both lists have
+-- the same length
 abbrev pub AreFoldersFrom : List Folder → List SourceFolder → Type 0
 AreFoldersFrom [] [] = Unit {0}
 AreFoldersFrom [] (source ∷ sources) = ⊥
@@ -60,8 +62,8 @@ AreFoldersFrom (folder ∷ folders) (source ∷ sources) =
 
 -- ---- what is appended to the blocks meanwhile
 
--- the file at position `at` of a folder was packed: it is what its bytes say, and its block of contents
--- follows those before
+-- the source file was packed as `file`, at the position `at` of the folder with the position `folder`.
+-- Its block of contents was appended to the blocks `before`, which gave the blocks `later`
 pub record IsPackedFile (folder at : ℕ) (before later : List ℕ) (file : File) (source : Source) :
     Type 0 where
   -- the packed file is that of the source file
@@ -69,8 +71,8 @@ pub record IsPackedFile (folder at : ℕ) (before later : List ℕ) (file : File
   -- its block of contents was appended to the blocks
   pub blocks : later ≡ before ++ contents_blocks (contents_of_file folder at source.bytes)
 
--- the files of a folder were packed, from the first on: they are what their bytes say, and their blocks
--- follow those before
+-- the source files were packed as `files`, all files of the folder with the position `folder`. Their
+-- blocks of contents were appended to the blocks `before`, which gave the blocks `later`
 pub record ArePackedFiles (folder : ℕ) (before later : List ℕ) (files : Vec File Global)
     (sources : List Source) : Type 0 where
   -- the packed files are those of the source files
@@ -78,8 +80,8 @@ pub record ArePackedFiles (folder : ℕ) (before later : List ℕ) (files : Vec 
   -- their blocks of contents were appended to the blocks
   pub blocks : later ≡ before ++ contents_blocks (contents_of_files folder 1 sources)
 
--- a folder was packed, with its position among the folders, counted from 1, and the blocks of its files
--- follow those before
+-- the source folder was packed as `packed`, at the position `folder` among the folders, counted from 1.
+-- The blocks of its files were appended to the blocks `before`, which gave the blocks `later`
 pub record IsPackedFolder (folder : ℕ) (before later : List ℕ) (packed : Folder)
     (source : SourceFolder) : Type 0 where
   -- the packed folder is that of the source folder
@@ -87,7 +89,8 @@ pub record IsPackedFolder (folder : ℕ) (before later : List ℕ) (packed : Fol
   -- the blocks of its files were appended to the blocks
   pub blocks : later ≡ before ++ contents_blocks (contents_of_files folder 1 source.files)
 
--- folders were packed, counted from 1, and `written` has the blocks of their files
+-- the source folders were packed as `folders`, with positions from 1 on, and `written` has the blocks of
+-- their files
 pub record ArePackedFolders (written : List ℕ) (folders : Vec Folder Global)
     (sources : List SourceFolder) : Type 0 where
   -- the packed folders are those of the source folders
@@ -95,7 +98,7 @@ pub record ArePackedFolders (written : List ℕ) (folders : Vec Folder Global)
   -- `written` has the blocks of their files
   pub blocks : written ≡ contents_blocks (contents_of_folders 1 sources)
 
--- A packing is made of the folders that were read. Its folders have their names and files, and its
--- blocks are the blocks of contents of these files, in their order.
+-- The packing is made of the source folders that were read: its folders are made of them, and its blocks
+-- are the blocks of contents of their files, in order.
 abbrev pub IsPacking : Packing → List SourceFolder → Type 0
 IsPacking packing sources = ArePackedFolders packing.blocks.items packing.folders sources

@@ -8,7 +8,8 @@ use Rattle.make_info.specs.Reads.{Reads}
 use Rattle.make_info.specs.declared.fault.MakeFault.{MakeFault}
 use Rattle.make_info.specs.declared.fault.MakeFault.TheVariants.{Disk, Memory}
 
--- if the history of a tree is observable, each read finds the file of the tree under its name
+-- if the history of the tree is observable, each read finds the file that the tree has under the name in
+-- its newest state
 abbrev pub AreReadsOfTree : List TreeState → Reads → Type 0
 AreReadsOfTree history read =
     IfObservable history (λ v. (n : ℕ) (name : List ℕ) → read n name ≡ files_of v name)
@@ -22,8 +23,8 @@ pub record IsExplainedBySomeReads (history : List TreeState) (P : Reads → Type
   -- the property P holds of them
   pub is : P read
 
--- a result denotes the wanted value, or is the wanted fault; an I/O error of the tree and out of memory
--- may occur in any case
+-- the result agrees with the specified one (`wanted`): its value `Denotes` the specified value, or its
+-- fault is the specified fault. An I/O error of the tree and out of memory may occur in any case
 abbrev pub AgreesOrIsFault :
     {A B : Type 0} → (A → B → Type 0) → Result A MakeFault → Result B MakeFault → Type 0
 AgreesOrIsFault {A} {B} Denotes (Ok x) wanted = (y : B) × (wanted ≡ Ok y) × Denotes x y

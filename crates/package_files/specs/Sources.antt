@@ -13,8 +13,8 @@ use Rattle.make_info.specs.declared.fault.MakeFault.TheVariants.{FileMissing}
 use Rattle.package_files.specs.Folders.{last_part_of, FolderListing, folder_listings_of}
 use Rattle.package_files.specs.Package.{Source, SourceFolder, Script}
 
--- the result of a read: its bytes, or, if there is no file, the error that names the argument at
--- this place of the command line
+-- the bytes that a read found, or, if it found no file, the error that names the argument at this place
+-- of the command line
 abbrev pub found_bytes_or_missing : ℕ → Option (List ℕ) → Result (List ℕ) MakeFault
 found_bytes_or_missing place None = Err (FileMissing place)
 found_bytes_or_missing place (Some bytes) = Ok bytes
@@ -34,11 +34,12 @@ results_from_read count of n (x ∷ xs) =
 abbrev pub values_of_letter : ℕ → List OptionValue → List OptionValue
 values_of_letter letter values = filter (λ (v : OptionValue). v.letter == letter) values
 
--- the texts of some values of an option, such as TYPE:FILE or a pattern
+-- the texts of these values of an option, such as TYPE:FILE or a pattern
 abbrev pub texts_of : List OptionValue → List (List ℕ)
 texts_of values = map (λ (v : OptionValue). v.text) values
 
--- the names are names below the folder that the first of some values gives, if there is one
+-- the names are names below the folder that the first of these values of `-F` gives, in byte order and
+-- each once. Without a value nothing is stated
 abbrev pub AreNamesBelowFirstFolder : List OptionValue → List (List ℕ) → Type 0
 AreNamesBelowFirstFolder [] names = Unit {0}
 AreNamesBelowFirstFolder (folder ∷ others) names =
@@ -50,20 +51,21 @@ AreNamesBelowFirstFolder (folder ∷ others) names =
 abbrev pub script_with : List ℕ → List ℕ → Script
 script_with kind bytes = record { field = kind; bytes = bytes }
 
--- the script that a value gives as TYPE:FILE, with its file by the read of number `n`
+-- the script that the value `v` of `-s` gives as TYPE:FILE. The read with the number `n` finds its bytes
+-- in FILE. If FILE is absent, its fault
 abbrev pub script_at : Reads → ℕ → OptionValue → Result Script MakeFault
 script_at read n v =
     and_then (found_bytes_or_missing v.place (read n (without_dot_slash (script_file v.text))))
     (λ bytes. Ok (script_with (script_type v.text) bytes))
 
--- the scripts of some values of `-s`, from the read of number `n` on, or the fault of the first
--- whose file is absent
+-- the scripts of these values of `-s`, whose files are read one after the other; the first read has the
+-- number `n`. Or the fault of the first value whose file is absent
 abbrev pub scripts_from_read : Reads → ℕ → List OptionValue → Result (List Script) MakeFault
 scripts_from_read read n values = results_from_read (λ v. 1) (script_at read) n values
 
 -- ---- files
 
--- the source file with these bytes, given its name in the tree, of which it keeps the last part
+-- the source file with these bytes; its name is the last part of `name`, its name in the tree
 abbrev pub source_of_read : List ℕ → List ℕ → Source
 source_of_read name bytes = record { name = last_part_of name; bytes = bytes }
 
@@ -73,27 +75,29 @@ abbrev pub source_file_read_at : ℕ → Reads → ℕ → List ℕ → Result S
 source_file_read_at place read n name =
     and_then (found_bytes_or_missing place (read n name)) (λ bytes. Ok (source_of_read name bytes))
 
--- the source files under these names in the tree, by one read each; if one is absent, the argument
--- `-F` at `place` is reported
+-- the source files under these names in the tree, which are read one after the other; the first read has
+-- the number `n`. If a file is absent, the argument `-F` at `place` is reported
 abbrev pub sources_at_place_from_read : ℕ → Reads → ℕ → List (List ℕ) → Result (List Source) MakeFault
 sources_at_place_from_read place read n names =
     results_from_read (λ name. 1) (source_file_read_at place read) n names
 
--- the source folder with all its files; the read of the first file has the number `n`
+-- the source folder of a listing, with all its files, which are read one after the other; the first read
+-- has the number `n`. If a file is absent, the argument `-F` at `place` is reported
 abbrev pub source_folder_read_at : ℕ → Reads → ℕ → FolderListing → Result SourceFolder MakeFault
 source_folder_read_at place read n folder =
     and_then (sources_at_place_from_read place read n folder.files)
     (λ files. Ok (record { name = folder.name; files = files }))
 
--- the source folders with all their files; the read of the first file has the number `n`
+-- the source folders of these listings, with all their files, which are read one after the other; the
+-- first read has the number `n`. If a file is absent, the argument `-F` at `place` is reported
 abbrev pub source_folders_at_place_from_read :
     ℕ → Reads → ℕ → List FolderListing → Result (List SourceFolder) MakeFault
 source_folders_at_place_from_read place read n folders =
     results_from_read (λ (folder : FolderListing). length folder.files)
     (source_folder_read_at place read) n folders
 
--- the folders of a package, given the names that are listed below the folder of the first value of
--- `-F`; no folders if it is not given
+-- the source folders of a package, given the values of `-F`, and the names listed below the folder of the
+-- first value. Without `-F` there are no folders. The first read has the number `n`
 abbrev pub source_folders_of_first_option :
     Reads → ℕ → List OptionValue → List (List ℕ) → Result (List SourceFolder) MakeFault
 source_folders_of_first_option read n [] names = Ok []

@@ -1,6 +1,6 @@
-//! The packed files of a package, and what their bytes are (apk-package(5)).
-//! The rules are in `docs/commands.md`, "`mkpkg`", the paragraph on `-F DIR` (when a file is a
-//! symbolic link), and in `docs/formats.md`, "The texts", field 406 (its target).
+//! The packed files of a package, and what their bytes are (apk-package(5)). The rules are in
+//! `docs/commands.md`, "`mkpkg`", part "Files" (when a file is a symbolic link), and in
+//! `docs/formats.md`, "The texts", field 406 (its target).
 ghost use Rattle.std.specs.Prelude.{◌≡◌, ◌∷◌, true, false, IfOk, MatchOption};
 ghost use Rattle.std.specs.Str.{is_utf8};
 ghost use Rattle.package_files.specs.Package.{is_link_file, link_text, has_contents, kind_of_file, size_of_kind, hash_of_kind, target_of_kind};
@@ -10,10 +10,10 @@ use sha2::{Digest, Sha256};
 use std::alloc::{AllocError, Global};
 use std::str;
 
-/// The mark of a link, with which its bytes begin.
+/// The bytes with which a file begins that represents a symbolic link.
 const LINK_MARK: &[u8] = b"!<symlink>";
 
-/// The folders of a package with their files, and the contents blocks of these.
+/// The folders of a package with their files, and the blocks with the contents of these files.
 #[derive(Drop)]
 pub struct Packing<'a> {
     /// The folders, in byte order of their names.
@@ -25,9 +25,9 @@ pub struct Packing<'a> {
 /// A folder of a package, with the files in it.
 #[derive(Drop)]
 pub struct Folder<'a> {
-    /// The name of the folder; empty for the root.
+    /// The name of the folder in the package; empty for the root.
     pub name: &'a [u8],
-    /// The files of the folder, in byte order.
+    /// The files directly in the folder, in byte order of their names.
     pub files: Vec<File<'a>>,
 }
 
@@ -120,6 +120,7 @@ fn target(alloc: Global, text: &[u8]) -> Result<Text, AllocError>
 /// The text after the mark of a link. None is returned exactly if the bytes are no link.
 #[tactic(auto, unfolding(crate::specs::Package::is_link_file))]
 fn link_text(bytes: &[u8]) -> Option<&[u8]>
+    // None exactly if the bytes are not those of a link; otherwise the text after the mark.
     ensures { MatchOption result (is_link_file bytes.now ≡ false) (λ text.
         (is_link_file bytes.now ≡ true) × (text.now ≡ link_text bytes.now)) }
 {

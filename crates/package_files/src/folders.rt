@@ -1,6 +1,6 @@
-//! The folders of a package, and the folder of each file below a folder of the tree.
-//! The rule is in `docs/commands.md`, "`mkpkg`", the paragraph on `-F DIR`: "Its folders are
-//! the root and each folder that holds a file at any depth, in byte order".
+//! The folders of a package, and the folder of each file below a folder of the tree. The rule is in
+//! `docs/commands.md`, "`mkpkg`", part "Files": "The package lists DIR itself as the root folder.
+//! It also lists each folder below DIR that has a file at any depth".
 ghost use Rattle.std.specs.Prelude.{◌≡◌, ◌<◌, ◌≤◌, ◌+◌, ◌-◌, not, [], length, drop, map, replicate, slice_get, OnOk, IfOk};
 ghost use Rattle.std.specs.List.{suffix_len};
 ghost use Rattle.package_files.specs.Folders.{is_slash, folder_of, last_part_of, folders_above, with_folders_inserted, with_folder_inserted, path_relative_to, all_folders_above, tree_names_in_package_folder};
@@ -25,8 +25,10 @@ impl<'a> Model for FolderNames<'a> {
 
     ghost Value = { List (List ℕ) };
 
+    // Contracts see the names of the folders.
     ghost view = { λ folders. map (λ name. name.now) folders.names.items };
 
+    // The names are in byte order, each once.
     ghost invariant = { λ folders. IsStrictlySortedBy (slice_cmp nat_cmp)
         (map (λ name. name.now) folders.names.items) };
 }
@@ -54,8 +56,8 @@ impl<'a> FolderNames<'a> {
         Ok(())
     }
 
-    /// Adds a folder, unless it is there. For paths in byte order the folders are nearly in order:
-    /// only those that begin with a folder's name can be before it too early, so few are moved.
+    /// Inserts a folder in byte order, unless the list already has it. If the paths come in byte
+    /// order, nearly all folders come in order too, so few folders are moved.
     fn add(&mut self, folder: &'a [u8]) -> Result<(), AllocError>
         ensures { OnOk result (self.new ≡ with_folder_inserted folder.now self.old) }
     {
@@ -73,7 +75,7 @@ impl<'a> FolderNames<'a> {
         self.names.len()
     }
 
-    /// The folder at a place, counted from 0.
+    /// The name of the folder with the index `i`, counted from 0.
     pub(crate) fn get(&self, i: usize) -> &'a [u8]
         // The index is that of an element.
         requires { i < length self.now }
@@ -82,7 +84,8 @@ impl<'a> FolderNames<'a> {
         self.names[i]
     }
 
-    /// The place of a folder, counted from 0, if it is there; by binary search.
+    /// The index of this folder, counted from 0; None if the list does not have it. By binary
+    /// search.
     fn index_of(&self, folder: &[u8]) -> Option<usize>
         ensures { IsIndexOf folder.now self.now result }
     {
@@ -90,8 +93,9 @@ impl<'a> FolderNames<'a> {
     }
 }
 
-/// The folders of a package, given the names that are listed below a folder of the tree. If the
-/// folder of a path is there, so are all above the path: they are not searched for again.
+/// The names of a package's folders, given the names of files that are listed below the folder
+/// `dir` of the tree. If the list has the folder of a path, it has all folders above the path, so
+/// these are not searched again.
 pub(crate) fn all_folders_above<'a>(
     alloc: Global,
     dir: &[u8],
@@ -103,7 +107,7 @@ pub(crate) fn all_folders_above<'a>(
     let mut folders = FolderNames::new(alloc);
     for i in 0..names.len() {
         let path = path_relative_to(dir.len(), names.get(i).as_bytes());
-        // If the folder is known, so are all above it.
+        // If the list has the folder of this path, it has all folders above it.
         if folders.index_of(folder_of(path)).is_none() {
             folders.add_over(path)?;
         }
@@ -111,13 +115,15 @@ pub(crate) fn all_folders_above<'a>(
     Ok(folders)
 }
 
-/// For each of these folders the names in it, in the listed order.
+/// For each of these folders of the package, the names in the tree of the files directly in it, in
+/// the listed order.
 pub(crate) fn names_in_folders<'a>(
     alloc: Global,
     dir: &[u8],
     names: &'a Names,
     folders: &FolderNames<'_>,
 ) -> Result<Vec<Vec<&'a Name>>, AllocError>
+    // There is a list for each folder, in the order of the folders.
     ensures { IfOk result (λ files. map names_borrowed files.items ≡ map
         (tree_names_in_package_folder dir.now names.now) folders.now) }
 {
@@ -125,6 +131,7 @@ pub(crate) fn names_in_folders<'a>(
     for i in 0..names.len() {
         let name = names.get(i);
         let folder = folder_of(path_relative_to(dir.len(), name.as_bytes()));
+        // The index of the file's folder.
         if let Some(at) = folders.index_of(folder) {
             files[at].push(name)?;
         }
@@ -132,7 +139,7 @@ pub(crate) fn names_in_folders<'a>(
     Ok(files)
 }
 
-/// As many lists without a name as `len` says.
+/// A list of `len` empty lists of names.
 fn empty_lists<'a>(alloc: Global, len: usize) -> Result<Vec<Vec<&'a Name>>, AllocError>
     ensures { IfOk result (λ lists. map names_borrowed lists.items ≡ replicate len []) }
 {
@@ -173,8 +180,8 @@ fn part_start(path: &[u8]) -> usize
     start
 }
 
-/// The path of a name below a folder, whose own name has this many bytes: without the folder and
-/// the slash after it.
+/// The path, relative to a folder, of a name below it: the name without the folder, whose own name
+/// has `folder` bytes, and without the slash after it.
 pub(crate) fn path_relative_to(folder: usize, name: &[u8]) -> &[u8]
     ensures { result.now ≡ drop (folder + 1) name.now }
 {

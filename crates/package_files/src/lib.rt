@@ -3,9 +3,9 @@
 //!
 //! The contracts cite `Folders` (the folders of a package), `Package` (what a package is made of,
 //! and its value), `Sources` (what is read of a tree), `Runs` (how a result relates to what the
-//! reads find) and `Packed` (the packed files) of `specs/`.
-//! The rules are in `docs/commands.md`, "`mkpkg`", the paragraph on `-F DIR`, and in
-//! `docs/formats.md`, "The other blocks" (positions and order of contents).
+//! reads find) and `Packed` (the packed files) of `specs/`. The rules are in `docs/commands.md`,
+//! "`mkpkg`", part "Files", and in `docs/formats.md`, "The other blocks" (positions and order of
+//! contents).
 #![tactic(auto)]
 
 mod file;

@@ -24,16 +24,17 @@ use base_core::{Name, Names, Tree, TreeFault, append_file_to, read_all};
 use make_info::MakeFault;
 use std::alloc::{AllocError, Global};
 
-/// The most bytes of one allocation: a vector has no more.
+/// The most bytes of one allocation, so the most bytes of a vector.
 const MOST_IN_MEMORY: u64 = isize::MAX as u64;
 
 /// The most bytes of a block besides those of its file: its header, the two positions, and the
 /// padding.
 const MOST_AROUND_FILE: usize = 16 + 8 + 7;
 
-/// Reserves room for this many more bytes. A buffer that has to grow gets an eighth of its length
-/// besides: so it is not doubled, and still grows seldom.
+/// Reserves room for `more` further bytes. If the buffer has to grow, it also gets room for an
+/// eighth of its length: so its room is not doubled, and it still grows seldom.
 fn reserve_room(bytes: &mut Vec<u8>, more: usize) -> Result<(), AllocError>
+    // The bytes are unchanged; only the room is larger.
     ensures { bytes.new.items ≡ bytes.old.items }
 {
     if bytes.capacity() - bytes.len() < more {
@@ -42,11 +43,12 @@ fn reserve_room(bytes: &mut Vec<u8>, more: usize) -> Result<(), AllocError>
     Ok(())
 }
 
-/// Appends the first bytes of the block with the contents of a file: its header, and the positions
-/// of its folder and of itself in it, which count from 1. Room for the whole block is reserved
-/// first. A position of more than 32 bits is cut: a package with so many files exceeds the limits
-/// of a payload.
+/// Appends the first bytes of the block with the contents of a file of `size` bytes. These are the
+/// header of the block, the position of the file's folder, and the position of the file in it.
+/// Positions count from 1. Room for the whole block is reserved first. A position of more than 32
+/// bits is cut: a package with so many files exceeds the limits of a payload.
 fn begin_block(blocks: &mut Vec<u8>, position: (u64, u64), size: u64) -> Result<(), AllocError>
+    // On Ok, the header and the two positions are appended to the blocks.
     ensures { OnOk result (blocks.new.items
         ≡ blocks.old.items ++ contents_front position.0 position.1 size) }
 {
@@ -61,15 +63,16 @@ fn begin_block(blocks: &mut Vec<u8>, position: (u64, u64), size: u64) -> Result<
     blocks.extend_from_slice(&position.1.to_le_bytes()[..4])
 }
 
-/// Ends the block that begins at `start`, of a file of this kind whose bytes are the last ones, by
-/// its padding. A file that has no contents has no block, and the begun one is removed.
+/// Ends the block that begins at the offset `start`, whose file has this kind, by padding after the
+/// file's bytes. If the file has no contents, it has no block, and the bytes from `start` on are
+/// removed.
 fn end_block(blocks: &mut Vec<u8>, start: usize, kind: &FileKind) -> Result<(), AllocError>
     // The block begins within the bytes.
     requires { start ≤ length blocks.old.items }
-    // A file without contents leaves the blocks as they were before its block.
+    // If the file has no contents, the bytes of its block are removed.
     ensures none { OnOk result (has_contents kind.now ≡ false
         → blocks.new.items ≡ take start blocks.old.items) }
-    // A file with contents has its block filled up by zeros.
+    // If the file has contents, zeros are appended as the padding of its block.
     ensures padded { OnOk result (has_contents kind.now ≡ true
         → blocks.new.items ≡ blocks.old.items
         ++ replicate (padding_of (length blocks.old.items - start)) 0) }
@@ -101,8 +104,9 @@ pub fn put_in_front(bytes: &mut Vec<u8>, front: &[u8]) -> Result<(), AllocError>
     Ok(())
 }
 
-/// Packs the files of these names, which the argument at a place lists below a folder of the tree
-/// (`dir`): folder by folder. A file that was listed and is gone is a fault at that place.
+/// Packs the files of these names, folder by folder. They are listed below the folder `dir` of the
+/// tree, which the argument at this place gives. A listed file that is absent is reported at this
+/// place.
 pub fn pack_names<'a, T: Tree>(
     alloc: Global,
     tree: &mut T,
@@ -113,8 +117,8 @@ pub fn pack_names<'a, T: Tree>(
     // The tree is only read, and `Disk` has a fault of the tree as its cause.
     ensures tree { OnlyReads MakeFault.Disk (T.history tree.old) (T.history tree.new)
         (T.counts tree.old) (T.counts tree.new) result }
-    // For each number n there are reads, of which the first has the number n, that give this
-    // result. If the tree's files are observable, the reads find these files.
+    // For each number `n` of the first read, some results of reads give this result. If the tree is
+    // observable, the reads find its files.
     ensures read { (n : ℕ) → IsExplainedBySomeReads (T.history tree.old) (λ read.
         AgreesOrIsFault IsPacking result (source_folders_at_place_from_read place read n
         (folder_listings_of dir.now names.now))) }
@@ -125,8 +129,8 @@ pub fn pack_names<'a, T: Tree>(
     Ok(packing)
 }
 
-/// Packs the files of these folders; `files` has the names of each folder's files. The argument at
-/// a place lists them.
+/// Packs the files of these folders. `files` has, for each folder, the names in the tree of its
+/// files. The argument at this place gives the folder of the tree that has them all.
 fn pack_folders<'a, T: Tree>(
     alloc: Global,
     tree: &mut T,
@@ -134,12 +138,13 @@ fn pack_folders<'a, T: Tree>(
     folders: &FolderNames<'a>,
     files: &[Vec<&'a Name>],
 ) -> Result<Packing<'a>, MakeFault>
+    // There is a list of names for each folder.
     requires { length files.now ≡ length folders.now }
     // The tree is only read: no file changes, no I/O error is hidden, and no call is a misuse.
     ensures tree { OnlyReads MakeFault.Disk (T.history tree.old) (T.history tree.new)
         (T.counts tree.old) (T.counts tree.new) result }
-    // There are results of reads that give this result; if the tree is observable, they are its
-    // files.
+    // For each number `n` of the first read, some results of reads give this result. If the tree is
+    // observable, the reads find its files.
     ensures read { (n : ℕ) → IsExplainedBySomeReads (T.history tree.old) (λ read.
         AgreesOrIsFault IsPacking result (source_folders_at_place_from_read place read n
         (listings_of folders.now files.now))) }
@@ -173,7 +178,8 @@ fn push_folder<'a>(folders: &mut Vec<Folder<'a>>, folder: Folder<'a>) -> Result<
     Ok(())
 }
 
-/// Packs the folder at a position, counted from 1, with the files of these names.
+/// Packs the folder at this position, counted from 1, whose name in the package is `name`, with the
+/// files that have these names in the tree.
 fn pack_folder<'a, T: Tree>(
     alloc: Global,
     tree: &mut T,
@@ -186,8 +192,8 @@ fn pack_folder<'a, T: Tree>(
     // The tree is only read: no file changes, no I/O error is hidden, and no call is a misuse.
     ensures tree { OnlyReads MakeFault.Disk (T.history tree.old) (T.history tree.new)
         (T.counts tree.old) (T.counts tree.new) result }
-    // There are results of reads that give this result; if the tree is observable, they are its
-    // files.
+    // For each number `n` of the first read, some results of reads give this result. If the tree is
+    // observable, the reads find its files.
     ensures read { (n : ℕ) → IsExplainedBySomeReads (T.history tree.old) (λ read.
         AgreesOrIsFault (IsPackedFolder position blocks.old.items blocks.new.items) result
         (source_folder_read_at place read n (record {
@@ -200,8 +206,8 @@ fn pack_folder<'a, T: Tree>(
     Ok(Folder { name, files })
 }
 
-/// Packs the files of these names, which are in the folder at a position, counted from 1: their
-/// contents are appended to the blocks.
+/// Packs the files that have these names in the tree, and are in the folder of the package at the
+/// position `folder`, counted from 1. Their blocks of contents are appended to `blocks`.
 fn pack_files<'a, T: Tree>(
     alloc: Global,
     tree: &mut T,
@@ -213,8 +219,8 @@ fn pack_files<'a, T: Tree>(
     // The tree is only read: no file changes, no I/O error is hidden, and no call is a misuse.
     ensures tree { OnlyReads MakeFault.Disk (T.history tree.old) (T.history tree.new)
         (T.counts tree.old) (T.counts tree.new) result }
-    // There are results of reads that give this result; if the tree is observable, they are its
-    // files.
+    // For each number `n` of the first read, some results of reads give this result. If the tree is
+    // observable, the reads find its files.
     ensures read { (n : ℕ) → IsExplainedBySomeReads (T.history tree.old) (λ read.
         AgreesOrIsFault (ArePackedFiles folder blocks.old.items blocks.new.items) result
         (sources_at_place_from_read place read n (map (λ name. name.now) names.now))) }
@@ -235,8 +241,8 @@ fn push_file<'a>(files: &mut Vec<File<'a>>, file: File<'a>) -> Result<(), AllocE
     Ok(())
 }
 
-/// Packs the file of a name. `position` has that of its folder, and its own in the folder, both
-/// counted from 1.
+/// Packs the file that has this name in the tree. `position` is the position of its folder in the
+/// package, and its own position in the folder, both counted from 1.
 fn pack_file<'a, T: Tree>(
     alloc: Global,
     tree: &mut T,
@@ -248,13 +254,14 @@ fn pack_file<'a, T: Tree>(
     // The tree is only read: no file changes, no I/O error is hidden, and no call is a misuse.
     ensures tree { OnlyReads MakeFault.Disk (T.history tree.old) (T.history tree.new)
         (T.counts tree.old) (T.counts tree.new) result }
-    // There are results of reads that give this result; if the tree is observable, they are its
-    // files.
+    // For each number `n` of the first read, some results of reads give this result. If the tree is
+    // observable, the reads find its files.
     ensures read { (n : ℕ) → IsExplainedBySomeReads (T.history tree.old) (λ read.
         AgreesOrIsFault
         (IsPackedFile position.0 position.1 blocks.old.items blocks.new.items) result
         (source_file_read_at place read n name.now)) }
 {
+    // The offsets at which the block of the file and the file's bytes begin.
     let start = blocks.len();
     let at = read_listed(tree, place, position, name, blocks)?;
     let kind = FileKind::of(alloc, &blocks[at..])?;
@@ -263,8 +270,8 @@ fn pack_file<'a, T: Tree>(
     Ok(File { name, kind })
 }
 
-/// Reads the file under a name, which the argument at a place lists, as `read_in_block` does. A
-/// file that is absent is a fault at that place.
+/// Reads the file under a name as `read_in_block` does, and returns the offset at which its bytes
+/// begin. An absent file is reported at this place, that of the argument whose folder was listed.
 fn read_listed<T: Tree>(
     tree: &mut T,
     place: u32,
@@ -275,11 +282,12 @@ fn read_listed<T: Tree>(
     // The tree is only read, and `Disk` has a counted fault of the tree as its cause.
     ensures tree { OnlyReads MakeFault.Disk (T.history tree.old) (T.history tree.new)
         (T.counts tree.old) (T.counts tree.new) result }
-    // The block begins with its header and the positions, before the file's bytes.
+    // The block was appended with its header and the positions, and the file's bytes begin after
+    // them, at the offset `at`.
     ensures begun { IfOk result (λ at. HasBlockFront position.0 position.1 blocks.old.items
         blocks.new.items at) }
-    // There are results of reads that give this result; if the tree is observable, they are its
-    // files.
+    // For each number `n` of the first read, some results of reads give this result. If the tree is
+    // observable, the reads find its files.
     ensures read { (n : ℕ) → IsExplainedBySomeReads (T.history tree.old) (λ read.
         AgreesOrIsFault (λ at bytes. bytes ≡ drop at blocks.new.items) result
         (found_bytes_or_missing place (read n name.now))) }
@@ -302,10 +310,12 @@ fn read_in_block<T: Tree>(
     // The tree is only read: no file changes, no I/O error is hidden, and no call is a misuse.
     ensures tree { OnlyReads TreeFault.Disk (T.history tree.old) (T.history tree.new)
         (T.counts tree.old) (T.counts tree.new) result }
-    // If the file is present, the block begins with its header and the positions.
+    // If the file is present, its block was appended with its header and the positions, and the
+    // file's bytes begin after them, at the returned offset.
     ensures begun { IfOk result (λ found. IfSome found (HasBlockFront position.0 position.1
         blocks.old.items blocks.new.items)) }
-    // If the tree is observable, the bytes from the result on are the file's.
+    // If the tree is observable, the bytes from the returned offset on are those of its file. None
+    // is returned exactly if the tree has no file under the name.
     ensures answer { IfOk result (λ found. IfObservable (T.history tree.old) (λ v.
         option_map (λ at. drop at blocks.new.items) found ≡ files_of v name.now)) }
 {
@@ -318,8 +328,8 @@ fn read_in_block<T: Tree>(
     Ok(Some(at))
 }
 
-/// Reads the whole file under a name, which the argument at a place gives or lists. A file that is
-/// absent is a fault at that place.
+/// Reads the whole file under a name. An absent file is reported at this place, that of the
+/// argument that gives the file.
 pub fn read_file<T: Tree>(
     alloc: Global,
     tree: &mut T,
@@ -329,8 +339,8 @@ pub fn read_file<T: Tree>(
     // The tree is only read: no file changes, no I/O error is hidden, and no call is a misuse.
     ensures tree { OnlyReads MakeFault.Disk (T.history tree.old) (T.history tree.new)
         (T.counts tree.old) (T.counts tree.new) result }
-    // There are results of reads that give this result; if the tree is observable, they are its
-    // files.
+    // For each number `n` of the first read, some results of reads give this result. If the tree is
+    // observable, the reads find its files.
     ensures read { (n : ℕ) → IsExplainedBySomeReads (T.history tree.old) (λ read.
         AgreesOrIsFault (λ bytes found. found ≡ bytes.items) result
         (found_bytes_or_missing place (read n name.now))) }

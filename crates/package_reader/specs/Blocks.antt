@@ -22,20 +22,21 @@ abbrev pub head_size : Option Frame → ℕ
 head_size None = 0
 head_size (Some frame) = frame.head_len
 
--- the bytes `seen` of a block's payload were read. They are its first eight bytes, the positions, if
--- it has as many; else they are no more than it has
+-- the bytes `seen` of the payload of the block with this frame were read. They are `positions`, its first
+-- eight bytes, if the payload has as many; otherwise they are no more than the payload has
 abbrev pub SeesPositions : Option Frame → List ℕ → List ℕ → Type 0
 SeesPositions None positions seen = seen ≡ []
 SeesPositions (Some frame) positions seen =
     (length seen ≤ frame.payload_len) × (POSITIONS_LEN ≤ frame.payload_len → seen ≡ positions)
 
--- no more bytes of a block were seen than its header and the positions
+-- at most the bytes of the block's header and of its positions were read: `seen` counts the bytes that
+-- were read
 abbrev pub AreSeenWithinPositions : Option Frame → ℕ → Type 0
 AreSeenWithinPositions None seen = Unit {0}
 AreSeenWithinPositions (Some frame) seen = seen ≤ frame.head_len + min POSITIONS_LEN frame.payload_len
 
--- the parts that were read of the block at a place are those of this file; or the result is the first
--- failed test
+-- the result of reading the header and the positions of the block at this place of the file: its frame
+-- and its positions. Or the first failed test
 abbrev pub IsBlockRead : BlockPlace → List ℕ → Result BlockRead PieceFault → Type 0
 IsBlockRead place file (Ok read) =
     IsFrameOrEndOfStep (Ok read.framing) (drop place.at file) (block_step_at place file)
@@ -43,8 +44,9 @@ IsBlockRead place file (Ok read) =
 IsBlockRead place file (Err (Bad c)) = pieces_at place file ≡ refusal c
 IsBlockRead place file (Err Disk) = Unit {0}
 
--- the result of reading the block at a place in this package: no block is left, a block was passed, or
--- the contents of a file begin; or the first failed test
+-- the result for the block at the place `before` of this package, and the place `after` it. `End`: no
+-- block is left; `Passed`: the block has no contents; `Opened`: it has the contents of a file; or the
+-- first failed test
 abbrev pub IsNextBlock : BlockPlace → List ℕ → Result BlockStep PieceFault → BlockPlace → Type 0
 IsNextBlock before file (Ok End) after = pieces_at before file ≡ no_piece
 IsNextBlock before file (Ok Passed) after = pieces_at before file ≡ pieces_at after file
@@ -53,21 +55,23 @@ IsNextBlock before file (Ok (Opened o)) after =
 IsNextBlock before file (Err (Bad c)) after = pieces_at before file ≡ refusal c
 IsNextBlock before file (Err Disk) after = Unit {0}
 
--- a reader is at a later place after a block, and within the package, and so are the unread bytes of an
--- opened file
+-- after a passed block the place is later, and within the package. The unread bytes of an opened file end
+-- no later than the new place, which is within the package
 abbrev pub IsAtLaterPlace : BlockPlace → BlockStep → BlockPlace → Type 0
 IsAtLaterPlace before End after = Unit {0}
 IsAtLaterPlace before Passed after = (before.at < after.at) × (after.at ≤ after.len)
 IsAtLaterPlace before (Opened o) after =
     (o.at + file_bytes_left o.file ≤ after.at) × (after.at ≤ after.len)
 
--- the bytes that were read end, at this offset, no later than the next read begins
+-- the bytes that were read end at the offset `end`. The next read begins no earlier: at the place
+-- `after`, or in the opened file
 abbrev pub ReadEndsBeforeNext : ℕ → BlockStep → BlockPlace → Type 0
 ReadEndsBeforeNext end End after = Unit {0}
 ReadEndsBeforeNext end Passed after = end ≤ after.at
 ReadEndsBeforeNext end (Opened o) after = end ≤ o.at
 
--- the walk before and after a block: it advances over the opened file; at the end no file is expected
+-- the walk before and after a block: it passes an opened file, and no other; at the end no file was
+-- expected
 abbrev pub IsWalkAfterBlock : Walk → BlockStep → Walk → Type 0
 IsWalkAfterBlock before End after = files_left_in_walk before ≡ []
 IsWalkAfterBlock before Passed after = after ≡ before

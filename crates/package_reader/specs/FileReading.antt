@@ -1,5 +1,5 @@
 -- A single file of a package that is read in pieces. The rules are in `docs/formats.md`, "The other
--- blocks", the paragraph of pieces. Serves the contracts of `FilePieces`.
+-- blocks", point 2 of the last list (the pieces). Serves the contracts of `FilePieces`.
 use Rattle.std.specs.Prelude.{◌≡◌, ◌<◌, ℕ, ◌+◌, ◌⊎◌, Bool, true, false, List, [], ◌++◌, length, Option, Some, None, option_map, Result, Ok, Err}
 use Rattle.base_core.specs.declared.cause.Cause.{Cause}
 use Rattle.pkg_core.specs.Contents.{ExpectedFile, hash_fault}
@@ -41,15 +41,16 @@ remembered_fault file = file.refused
 
 -- ---- which bytes of the package are still to be read
 
--- no test of a file failed, and from a package of these bytes the bytes `left` of the file are still to
--- be read
+-- no test of the file failed, and `left` are its bytes that are still to be read from a package of these
+-- bytes
 abbrev pub HasUnreadBytes : FilePieces → List ℕ → List ℕ → Type 0
 HasUnreadBytes file pkg left = (file.refused ≡ None) × AreUnreadBytes file.opened pkg left
 
 -- ---- the results
 
--- the result of a call for the next piece if the tree has the package: these bytes are the next of
--- those that are left, and the rest is still to be read; or none is left
+-- the result of a call for the next piece if the tree has the package. True: `bytes` are the next of the
+-- bytes that were left (`left`), and the others are still to be read then (`AreUnreadBytesThen`). False:
+-- no byte was left. No test fails
 abbrev pub ReturnsNextBytes : (List ℕ → Type 0) → List ℕ → List ℕ → Result Bool PieceFault → Type 0
 ReturnsNextBytes AreUnreadBytesThen left bytes (Ok true) =
     (rest : List ℕ) × (left ≡ bytes ++ rest) × AreUnreadBytesThen rest
@@ -64,13 +65,14 @@ abbrev pub AreAsExpected : Option ExpectedFile → List ℕ → Type 0
 AreAsExpected None bytes = bytes ≡ []
 AreAsExpected (Some e) bytes = (length bytes ≡ e.size) × (hash_fault e.hash bytes ≡ None)
 
--- the bytes have the expected size, and another digest
+-- the bytes have the expected size, but another digest; `c` is the fault of the digest
 abbrev pub HaveOtherDigest : Option ExpectedFile → List ℕ → Cause → Type 0
 HaveOtherDigest None bytes c = ⊥
 HaveOtherDigest (Some e) bytes c = (length bytes ≡ e.size) × (hash_fault e.hash bytes ≡ Some c)
 
--- exactly these bytes were returned, by the state of a reader: more are to be read, or the bytes are as
--- expected; after a failed test nothing is promised
+-- exactly these bytes were returned by a reader in this state. If the file is open, its check has taken
+-- them. Otherwise they are the whole file, and have the expected size and digest. After a failed test
+-- nothing is stated
 abbrev pub HaveBeenReturnedInState : Option Cause → Option OpenFile → Option ExpectedFile → List ℕ → Type 0
 HaveBeenReturnedInState (Some c) opened due bytes = Unit {0}
 HaveBeenReturnedInState None None due bytes = AreAsExpected due bytes
@@ -82,9 +84,10 @@ HaveBeenReturned file bytes =
     HaveBeenReturnedInState (remembered_fault file) file.opened (expected_file_of file)
     bytes
 
--- The result of a call after these bytes (`so_far`) were returned. Without an error, no test has
--- failed: the piece follows the bytes; or they are complete, and as expected. With an error, the bytes
--- and the piece are complete and have another digest; or a test had failed before.
+-- The result of a call after the bytes `so_far` were returned; `bytes` is the piece. True: the piece was
+-- returned after them. False: they are the whole file, and have the expected size and digest. After both
+-- no test has failed. With an error, `so_far` and the piece have the expected size and another digest; or
+-- a test had failed before.
 abbrev pub IsTestedReturn : FilePieces → List ℕ → List ℕ → Result Bool PieceFault → FilePieces → Type 0
 IsTestedReturn old so_far bytes (Ok true) new =
     (remembered_fault new ≡ None) × HaveBeenReturned new (so_far ++ bytes)
@@ -102,7 +105,7 @@ HasFewerLeft old len new true =
     (0 < len) × (bytes_left_of old ≡ len + bytes_left_of new)
 HasFewerLeft old len new false = bytes_left_of old ≡ 0
 
--- a failed test is remembered by the reader of a file
+-- the reader of a file remembers a failed test as its fault
 abbrev pub RemembersFileFault : PieceFault → FilePieces → Type 0
 RemembersFileFault (Bad c) file = file.refused ≡ Some c
 RemembersFileFault Disk file = Unit {0}

@@ -1,6 +1,6 @@
 -- The position of a reader of the pieces of a package, and the result of a call. The rules are in
--- `docs/formats.md`, "The other blocks", the paragraph of pieces; the order of the files in the
--- paragraph above it. Serves the contracts of `PieceReader`.
+-- `docs/formats.md`, "The other blocks", point 2 of the last list; the order of the files in the second
+-- paragraph. Serves the contracts of `PieceReader`.
 use Rattle.std.specs.Prelude.{◌≡◌, ℕ, ◌+◌, ◌-◌, if◌then◌else◌, List, [], ◌∷◌, is_none, Option, Some, None, IfSome, Result, Ok, Err}
 use Rattle.base_core.specs.declared.cause.Cause.{Cause}
 use Rattle.pkg_core.specs.Contents.{ExpectedFile}
@@ -29,7 +29,8 @@ name_in_tree reader = reader.name.now
 abbrev pub package_len : PieceReader → ℕ
 package_len reader = reader.place.len
 
--- the offset of the byte that is read next: in the file that is open, or else at the next block
+-- the offset of the byte that is read next: the next byte of the open file, or the first byte of the next
+-- block if no file is open
 abbrev pub next_read_offset : BlockPlace → Option OpenFile → ℕ
 next_read_offset place None = place.at
 next_read_offset place (Some o) = o.at
@@ -38,7 +39,8 @@ next_read_offset place (Some o) = o.at
 abbrev pub offset_of : PieceReader → ℕ
 offset_of reader = next_read_offset reader.place reader.opened
 
--- the files whose last piece is still to be read: the open file, and those that the walk has left
+-- the files whose last piece is still to be read: the open file, if one is open, and those that the walk
+-- has left
 abbrev pub files_to_read_in : BlockPlace → Option OpenFile → List ExpectedFile
 files_to_read_in place None = files_left_in_walk place.walk
 files_to_read_in place (Some o) = expected_of o.file.wanted ∷ files_left_in_walk place.walk
@@ -64,27 +66,29 @@ IsBetweenFiles reader = CanContinue reader × (reader.opened ≡ None)
 
 -- ---- the pieces to be read, of a package of these bytes
 
--- these pieces are those of the rest of the open file, followed by those of the blocks from a place on
+-- these are the pieces of the rest of the open file, if one is open, followed by those of the blocks from
+-- the place on
 abbrev pub ArePiecesFrom : BlockPlace → Option OpenFile → List ℕ → PiecesRead → Type 0
 ArePiecesFrom place None pkg pieces = pieces ≡ pieces_at place pkg
 ArePiecesFrom place (Some o) pkg pieces =
     (so_far : List ℕ) × IsOpenFile o so_far pkg (pieces_at place pkg) pieces
 
--- these pieces are still to be read by a reader in this state: none after the last block, only the
--- fault after a failed test
+-- these are the pieces that a reader in this state still has to read from the package: none after the
+-- last block, and only the fault after a failed test
 abbrev pub AreUnreadPieces : Due → BlockPlace → Option OpenFile → List ℕ → PiecesRead → Type 0
 AreUnreadPieces Files place opened pkg pieces = ArePiecesFrom place opened pkg pieces
 AreUnreadPieces Nothing place opened pkg pieces = pieces ≡ no_piece
 AreUnreadPieces (Refused c) place opened pkg pieces = pieces ≡ refusal c
 
--- these pieces of a reader are still to be read, from a package of these bytes
+-- these are the pieces that a reader still has to read from a package of these bytes
 abbrev pub IsReading : PieceReader → List ℕ → PiecesRead → Type 0
 IsReading reader pkg pieces = AreUnreadPieces reader.due reader.place reader.opened pkg pieces
 
 -- ---- the results
 
--- the result of a call for the next piece: it has these bytes, and the rest is still to be read; no
--- piece is left; or the first failed test, which each later call returns again
+-- the result of a call for the next piece, if the pieces `before` were to be read. It is the first of
+-- them, with `bytes`, or None if no piece was left. An error is the first failed test, which each later
+-- call returns again. `AreUnreadBytes` holds of the pieces that are then still to be read
 abbrev pub ReturnsNextPiece : (PiecesRead → Type 0) → PiecesRead → List ℕ
     → Result (Option Part) PieceFault → Type 0
 ReturnsNextPiece AreUnreadBytes before bytes (Ok (Some part)) =
@@ -94,7 +98,8 @@ ReturnsNextPiece AreUnreadBytes before bytes (Err (Bad c)) = (before ≡ refusal
     × AreUnreadBytes (refusal c)
 ReturnsNextPiece AreUnreadBytes before bytes (Err Disk) = Unit {0}
 
--- the piece is one of the first expected file, which is expected until its last piece was read
+-- the piece is one of the first expected file (`before`). This file stays expected (`after`) until its
+-- last piece was read
 pub record IsOfFirstExpected (before : List ExpectedFile) (part : Part)
     (after : List ExpectedFile) : Type 0 where
   -- the first expected file
@@ -108,8 +113,8 @@ pub record IsOfFirstExpected (before : List ExpectedFile) (part : Part)
   -- the first one is still expected unless this was its last piece
   pub left : after ≡ (if part.last then others else first ∷ others)
 
--- the expected files before and after a call: the pieces are in the order of the files, and at the end
--- no file is expected
+-- the files that are expected `before` and `after` a call for the next piece. A piece is one of the first
+-- expected file; without a piece no file was expected
 abbrev pub IsReturnedInOrder : List ExpectedFile → Option Part → List ExpectedFile → Type 0
 IsReturnedInOrder before None after = before ≡ []
 IsReturnedInOrder before (Some part) after = IsOfFirstExpected before part after
@@ -143,7 +148,8 @@ returned_len_from start (Some o) = o.at - start
 abbrev pub returned_len : PieceReader → ℕ
 returned_len reader = returned_len_from reader.start reader.opened
 
--- the bytes of a piece are in the package, after those of its file that were returned before
+-- the bytes of the returned piece are in the package after those of its file that were returned before;
+-- without a piece nothing is stated
 abbrev pub HasPieceAt : PieceReader → List ℕ → List ℕ → Option Part → PieceReader → Type 0
 HasPieceAt old pkg bytes None new = Unit {0}
 HasPieceAt old pkg bytes (Some part) new = HasBytesAtOffset pkg (start_of_file new + returned_len old) bytes
@@ -158,15 +164,16 @@ pub record KeepsFileStart (part : Part) (len : ℕ) (old new : PieceReader) : Ty
 
 -- ---- inside
 
--- the walk before and after the search for the next file: it advances over the file that was found;
--- None if none is expected
+-- the walk before and after the search for the next file: it passes the file that was found, and no
+-- other. If none was found, no file was expected
 abbrev pub FindsNextFile : Walk → Option OpenFile → Walk → Type 0
 FindsNextFile before None after = files_left_in_walk before ≡ []
 FindsNextFile before (Some found) after =
     files_left_in_walk before ≡ expected_of found.file.wanted ∷ files_left_in_walk after
 
--- the result of the search for the next file in this package: its contents begin, and the pieces after
--- them are those from the new position; no piece is left; or the first failed test
+-- the result of the search for the next file in this package. A file: the pieces that were to be read are
+-- those of this file, and then those of the blocks from the new place on. None: no piece is left. Or the
+-- first failed test
 abbrev pub IsFileFound : BlockPlace → List ℕ → Result (Option OpenFile) PieceFault → BlockPlace
     → Type 0
 IsFileFound before pkg (Ok None) after = pieces_at before pkg ≡ no_piece
@@ -175,7 +182,8 @@ IsFileFound before pkg (Ok (Some o)) after =
 IsFileFound before pkg (Err (Bad c)) after = pieces_at before pkg ≡ refusal c
 IsFileFound before pkg (Err Disk) after = Unit {0}
 
--- the result for the file of the next piece, the one that is already open or the next one
+-- the result of the search for the file of the next piece, if the pieces `before` were to be read. It is
+-- the file that is already open, or else the next one; None if no piece is left; or the first failed test
 abbrev pub IsFileOpened : PieceReader → List ℕ → PiecesRead
     → Result (Option OpenFile) PieceFault → PieceReader → Type 0
 IsFileOpened old pkg before (Ok None) new = before ≡ no_piece
@@ -184,15 +192,16 @@ IsFileOpened old pkg before (Ok (Some o)) new =
 IsFileOpened old pkg before (Err (Bad c)) new = before ≡ refusal c
 IsFileOpened old pkg before (Err Disk) new = Unit {0}
 
--- an open file begins at `start`: its unread bytes follow those that were returned, and if it was open
--- before, it began there too
+-- the open file `o` begins at the offset `start`: its next byte follows the bytes that the reader has
+-- returned of it. If a file was already open, it began at the same offset
 pub record IsStartOf (old : PieceReader) (o : OpenFile) (start : ℕ) : Type 0 where
   -- the next byte follows the bytes that were returned
   pub located : o.at ≡ start + returned_len old
-  -- if the file was open before, it began there too
+  -- if a file was already open, it began at the same offset
   pub same : IfSome old.opened (λ o. start ≡ start_of_file old)
 
--- the result of reading the next piece, as *ReturnsNextPiece*, without a promise after a failed test
+-- the result of reading the next piece, as in *ReturnsNextPiece*. After the end or a failed test, nothing
+-- is stated of the pieces that later calls return
 abbrev pub IsPieceRead : PieceReader → List ℕ → PiecesRead → List ℕ
     → Result (Option Part) PieceFault → Type 0
 IsPieceRead new pkg before bytes (Ok (Some part)) = (after : PiecesRead)
@@ -201,8 +210,8 @@ IsPieceRead new pkg before bytes (Ok None) = before ≡ no_piece
 IsPieceRead new pkg before bytes (Err (Bad c)) = before ≡ refusal c
 IsPieceRead new pkg before bytes (Err Disk) = Unit {0}
 
--- the expected files before a file was opened: this file, and those that the walk has left; none if
--- none was opened
+-- the files that were expected before a file was opened (`before`): this file, and then those that the
+-- walk has left. None if no file was opened
 abbrev pub OpensFirstOrNoneExpected : List ExpectedFile → Option OpenFile → BlockPlace → Type 0
 OpensFirstOrNoneExpected before None place = before ≡ []
 OpensFirstOrNoneExpected before (Some o) place =

@@ -21,20 +21,21 @@ use pkg_core::{BlockPlace, FileCheck, HeadBytes, POSITIONS_LEN, Step};
 /// has as many.
 #[derive(Clone, Copy)]
 pub(crate) struct BlockRead {
-    /// The frame of its header; None if no block is left.
+    /// The frame that the block's header gives; None if no block is left at the place.
     pub framing: Option<Frame>,
-    /// The positions that its payload begins with; zeros if it has no eight bytes.
+    /// The first eight bytes of the payload: two positions, if the block is one of contents. Zeros
+    /// if the payload has fewer than eight bytes.
     pub positions: [u8; POSITIONS_LEN],
 }
 
-/// The result for a block of a package in a tree.
+/// What `next_block` finds at a place of a package in a tree: the end, or one more block.
 #[derive(Drop)]
 pub(crate) enum BlockStep<'a> {
     /// No block is left, and no file is expected.
     End,
     /// The block has no contents.
     Passed,
-    /// The contents of the next file begin.
+    /// The block has the contents of the next expected file, none of which were read yet.
     Opened(OpenFile<'a>),
 }
 
@@ -53,19 +54,25 @@ pub(crate) fn next_block<'a, T: Tree>(
 ) -> Result<BlockStep<'a>, PieceFault>
     // The place is within the file.
     requires { place.old.at ≤ place.old.len }
-    // The result is right for each package of this length that has the bytes that were read.
+    // The bytes `seen` were read from the old place on, and end no later than the next read begins.
+    // For each package of this length that has them there, the result is that for the block at the
+    // old place (*IsNextBlock*).
     ensures block { (seen : List ℕ)
         × IsSeenIn (T.history tree.old) name.now place.old.len place.old.at seen
         × IfOk result (λ step. ReadEndsBeforeNext (place.old.at + length seen) step place.new)
         × ((file : List ℕ) → length file ≡ place.old.len → HasBytesAtOffset file place.old.at seen
         → IsNextBlock place.old file result place.new) }
+    // The length of the package is unchanged.
     ensures len { place.new.len ≡ place.old.len }
+    // The new place is within the package.
     ensures within { place.new.at ≤ place.new.len }
-    // The walk advances over an opened file; at the end no file is expected.
+    // The walk passes an opened file, and no other; at the end no file was expected.
     ensures walk { IfOk result (λ step. IsWalkAfterBlock place.old.walk step place.new.walk) }
+    // If a block was passed, the new place is after the old one. An opened file ends no later than
+    // the new place.
     ensures further { IfOk result (λ step. IsAtLaterPlace place.old step place.new) }
     // The tree is unchanged. `Disk` is returned only if the tree failed, and no call is a misuse if
-    // the file still has its length.
+    // the tree has a file of this length under the name.
     ensures tree { ReadsFile name.now place.old.len DiskFault (T.history tree.old)
         (T.history tree.new) (T.counts tree.old) (T.counts tree.new) result }
 {
@@ -83,7 +90,9 @@ pub(crate) fn next_block<'a, T: Tree>(
 fn file_at<'a>(file: FileCheck<'a>, at: u64, framing: Option<Frame>) -> OpenFile<'a>
     // Offsets have 64 bits.
     requires { at + head_size framing + POSITIONS_LEN < 2 ^ 64 }
+    // The open file has the given check.
     ensures file { result.file ≡ file.entry }
+    // The bytes of the file begin after the header and the eight bytes of the positions.
     ensures at { result.at ≡ at + head_size framing + POSITIONS_LEN }
 {
     let head_len = match framing {
@@ -110,14 +119,15 @@ pub(crate) fn read_block<T: Tree>(
     // The end of the block is below 2^64.
     ensures small { IfOk result (λ read. IfSome read.framing (λ frame.
         place.now.at + raw_size frame < 2 ^ 64)) }
-    // The result is right for each file of this length that has the bytes that were read.
+    // The bytes `seen` were read at the place: at most the block's header and its positions. For
+    // each file of this length that has them there, the result is its block at this place.
     ensures block { (seen : List ℕ)
         × IsSeenIn (T.history tree.old) name.now place.now.len place.now.at seen
         × IfOk result (λ read. AreSeenWithinPositions read.framing (length seen))
         × ((file : List ℕ) → length file ≡ place.now.len → HasBytesAtOffset file place.now.at seen
         → IsBlockRead place.now file result) }
     // The tree is unchanged. `Disk` is returned only if the tree failed, and no call is a misuse if
-    // the file still has its length.
+    // the tree has a file of this length under the name.
     ensures tree { ReadsFile name.now place.now.len DiskFault (T.history tree.old)
         (T.history tree.new) (T.counts tree.old) (T.counts tree.new) result }
 {
@@ -139,14 +149,14 @@ fn read_positions<T: Tree>(
 ) -> Result<[u8; POSITIONS_LEN], PieceFault>
     // The end of the block fits into 64 bits.
     requires { IfSome framing (λ frame. at + raw_size frame < 2 ^ 64) }
-    // The bytes that were read are the positions, if the payload has as many bytes.
+    // The bytes that were read (`seen`) are the positions, if the payload has eight bytes or more.
     ensures seen { IfOk result (λ positions. (seen : List ℕ) × SeesPositions framing positions seen
         × ((file_len : ℕ)
         → AreBytesRead (T.history tree.old) name.now file_len (at + head_size framing) seen)) }
     // The only error is that the tree failed.
     ensures disk { IfErr result (λ fault. fault ≡ DiskFault) }
     // The tree is unchanged. `Disk` is returned only if the tree failed, and no call is a misuse if
-    // the file still has its length.
+    // the tree has a file of this length under the name.
     ensures tree { (file_len : ℕ) → at ≤ file_len
         → IfSome framing (λ frame. at + raw_size frame ≤ file_len)
         → ReadsFile name.now file_len DiskFault (T.history tree.old) (T.history tree.new)
@@ -169,28 +179,34 @@ pub(crate) fn next_file<'a, T: Tree>(
 ) -> Result<Option<OpenFile<'a>>, PieceFault>
     // The place is within the file.
     requires { place.old.at ≤ place.old.len }
-    // The result is right for each package of this length that has the bytes that were read.
+    // The bytes `seen` were read from the old place on, and end no later than the next read begins.
+    // For each package of this length that has them there, the result is the next of its files with
+    // contents, or None (*IsFileFound*).
     ensures file { (seen : List ℕ)
         × IsSeenIn (T.history tree.old) name.now place.old.len place.old.at seen
         × IfOk result (λ found. IfSome found (λ next.
         place.old.at + length seen ≡ next.at))
         × ((pkg : List ℕ) → length pkg ≡ place.old.len → HasBytesAtOffset pkg place.old.at seen
         → IsFileFound place.old pkg result place.new) }
+    // The length of the package is unchanged.
     ensures len { place.new.len ≡ place.old.len }
+    // The new place is within the package.
     ensures within { place.new.at ≤ place.new.len }
-    // The walk advances over the file that was found; without one no file is expected.
+    // The walk passes the file that was found, and no other with contents; if none was found, no
+    // file was expected.
     ensures walk { IfOk result (λ found. FindsNextFile place.old.walk found place.new.walk) }
     // The next file ends no later than the new place.
     ensures room { IfOk result (λ found. IfSome found (λ next.
         next.at + file_bytes_left next.file ≤ place.new.at)) }
     // The tree is unchanged. `Disk` is returned only if the tree failed, and no call is a misuse if
-    // the file still has its length.
+    // the tree has a file of this length under the name.
     ensures tree { ReadsFile name.now place.old.len DiskFault (T.history tree.old)
         (T.history tree.new) (T.counts tree.old) (T.counts tree.new) result }
 {
     'more: loop {
         match next_block(tree, name, place)? {
             BlockStep::End => return Ok(None),
+            // A block without contents is passed over.
             BlockStep::Passed => {}
             BlockStep::Opened(file) => return Ok(Some(file)),
         }

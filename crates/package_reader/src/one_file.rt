@@ -1,5 +1,5 @@
 //! The pieces of a single file of a package. The rules are in `docs/formats.md`, "The other
-//! blocks", the paragraph of pieces.
+//! blocks", point 2 of the last list (the pieces).
 
 ghost use Rattle.std.specs.Option.{ForSome};
 ghost use Rattle.std.specs.Prelude.{◌≡◌, ◌<◌, ◌≤◌, Some};
@@ -12,15 +12,15 @@ use base_core::{Cause, Name, Tree};
 use pkg_core::{Contents, Wanted, wanted_file};
 
 /// The bytes of a single file of a package in pieces, read from the package at the offset at which
-/// the file begins. All of them are tested again. It allocates no memory. Contracts see, by
-/// `FileReading` of `specs/`, which bytes of a package are still to be read.
+/// the file begins. All bytes of the file are tested again. No memory is allocated. Contracts see,
+/// by `FileReading` of `specs/`, which bytes of a package are still to be read.
 #[derive(Drop)]
 pub struct FilePieces<'a> {
     // The name of the package.
     pub(crate) name: &'a Name,
     // How many bytes the package has.
     pub(crate) len: u64,
-    // The values of the package, which name the expected contents.
+    // The values of the package, which list the size and the digest of the file.
     pub(crate) contents: Contents<'a>,
     // The size and the digest that the bytes must have; None if the file has no contents.
     pub(crate) due: Option<Wanted<'a>>,
@@ -48,9 +48,10 @@ impl<'a> FilePieces<'a> {
     ghost use Rattle.package_reader.specs.Opened.{place_fault};
     ghost use Rattle.package_reader.specs.declared.piece.PieceFault.TheVariants.{Bad, Disk as DiskFault};
 
-    /// The file with these positions. It begins at this offset in the package, which has this name,
-    /// this length and these values. A file without contents has no pieces. Each call fails if the
-    /// file has contents, but no offset is given or the package is too short for them.
+    /// The pieces of the file with these positions. The file begins at the offset `at` in the
+    /// package, which has this name, this length and these values. A file without contents has no
+    /// pieces. Each call fails if the file has contents, but no offset is given or the package is
+    /// too short for them.
     pub fn new(
         name: &'a Name,
         len: u64,
@@ -59,7 +60,9 @@ impl<'a> FilePieces<'a> {
         file: u32,
         at: Option<u64>,
     ) -> FilePieces<'a>
+        // The pieces are read from the package of the given name.
         ensures name { package_name_of_file result ≡ name.entry.now }
+        // The package has the given length.
         ensures len { package_len_of_file result ≡ len }
         // The size and the digest that are compared are those that the values list for the file.
         ensures due { expected_file_of result ≡ expected_file_at folder file
@@ -68,7 +71,8 @@ impl<'a> FilePieces<'a> {
         ensures begun { HaveBeenReturned result [] }
         // If the file cannot be at this offset of the package, this is remembered as its fault.
         ensures fault { remembered_fault result ≡ place_fault (expected_file_of result) at len }
-        // If the package has there bytes of the expected size and digest, they are to be read.
+        // If a package of this length has bytes of the expected size and digest at the offset
+        // (`start`), these are the bytes to be read.
         ensures reading { (pkg bytes : List ℕ) (e : ExpectedFile) (start : ℕ) → length pkg ≡ len
             → at ≡ Some start → expected_file_at folder file
             (expected_files_of_package (value_of_contents contents.entry)) ≡ Some e
@@ -93,8 +97,8 @@ impl<'a> FilePieces<'a> {
         }
     }
 
-    /// The pieces of a file with contents, which begins at this offset; each call fails if it has
-    /// no place there.
+    /// The pieces of a file with contents, which begins at this offset. If the package cannot have
+    /// the file there, each call of `next_piece` fails.
     fn of(
         name: &'a Name,
         len: u64,
@@ -104,7 +108,9 @@ impl<'a> FilePieces<'a> {
     ) -> FilePieces<'a>
         // The file is not empty.
         requires { 0 < wanted.size }
+        // The pieces are read from the package of the given name.
         ensures name { package_name_of_file result ≡ name.entry.now }
+        // The package has the given length.
         ensures len { package_len_of_file result ≡ len }
         // The expected file is the wanted one.
         ensures due { expected_file_of result ≡ Some (expected_of wanted.entry) }
@@ -112,7 +118,8 @@ impl<'a> FilePieces<'a> {
         ensures begun { HaveBeenReturned result [] }
         // If the file cannot be at this offset of the package, this is remembered as its fault.
         ensures fault { remembered_fault result ≡ place_fault (expected_file_of result) at len }
-        // If the package has there bytes of the expected size and digest, they are to be read.
+        // If a package of this length has bytes of the expected size and digest at the offset
+        // (`start`), these are the bytes to be read.
         ensures reading { (pkg bytes : List ℕ) (start : ℕ) → length pkg ≡ len → at ≡ Some start
             → HasBytesAtOffset pkg start bytes → length bytes ≡ wanted.entry.size
             → hash_fault wanted.entry.hash.now bytes ≡ None → HasUnreadBytes result pkg bytes }
@@ -138,9 +145,9 @@ impl<'a> FilePieces<'a> {
         }
     }
 
-    /// Reads the next piece, and returns whether there was one; else the file has ended. The pieces
-    /// have 65,536 bytes each, and the last one 1 to 65,536. The tree is unchanged, whatever the
-    /// result.
+    /// Reads the next piece into `piece`, and returns true; or returns false if no byte of the file
+    /// is left. The pieces have 65,536 bytes each, and the last one 1 to 65,536. The tree is
+    /// unchanged, whatever the result.
     ///
     /// # Errors
     ///
@@ -152,8 +159,8 @@ impl<'a> FilePieces<'a> {
         tree: &mut T,
         piece: &mut Piece,
     ) -> Result<bool, PieceFault>
-        // If the tree has the package: the piece is the next of the bytes that are left; or none
-        // are left.
+        // If the tree has the package: the piece has the next of the bytes that are left (`left`),
+        // or no byte is left.
         ensures piece { IfObservable (T.history tree.old) (λ v. (pkg left : List ℕ)
             → files_of v (package_name_of_file self.old) ≡ Some pkg
             → HasUnreadBytes self.old pkg left
@@ -170,12 +177,12 @@ impl<'a> FilePieces<'a> {
         ensures refused { IfErr result (λ fault. RemembersFileFault fault self.new) }
         // Each later call returns a test that failed.
         ensures again { IfSome (remembered_fault self.old) (λ cause. result ≡ Err (Bad cause)) }
-        // The name and the length of the package are unchanged.
+        // The name of the package is unchanged.
         ensures name { package_name_of_file self.new ≡ package_name_of_file self.old }
         // The length of the package is unchanged.
         ensures len { package_len_of_file self.new ≡ package_len_of_file self.old }
         // The tree is unchanged. `Disk` is returned only if the tree failed, and no call is a
-        // misuse if the file still has its length.
+        // misuse if the tree has a file of this length under the name.
         ensures tree { ReadsFile (package_name_of_file self.old) (package_len_of_file self.old)
             DiskFault
             (T.history tree.old) (T.history tree.new) (T.counts tree.old) (T.counts tree.new)
@@ -198,8 +205,8 @@ impl<'a> FilePieces<'a> {
     fn read_next<T: Tree>(&mut self, tree: &mut T, piece: &mut Piece) -> Result<bool, PieceFault>
         // No test has failed so far.
         requires { remembered_fault self.old ≡ None }
-        // If the tree has the package: the piece is the next of the bytes that are left; or none
-        // are left.
+        // If the tree has the package: the piece has the next of the bytes that are left (`left`),
+        // or no byte is left.
         ensures piece { IfObservable (T.history tree.old) (λ v. (pkg left : List ℕ)
             → files_of v (package_name_of_file self.old) ≡ Some pkg
             → HasUnreadBytes self.old pkg left
@@ -211,12 +218,12 @@ impl<'a> FilePieces<'a> {
         ensures due { expected_file_of self.new ≡ expected_file_of self.old }
         // The bytes of the piece are subtracted from those that are left.
         ensures left { IfOk result (HasFewerLeft self.old (length piece.new) self.new) }
-        // The name and the length of the package are unchanged.
+        // The name of the package is unchanged.
         ensures name { package_name_of_file self.new ≡ package_name_of_file self.old }
         // The length of the package is unchanged.
         ensures len { package_len_of_file self.new ≡ package_len_of_file self.old }
         // The tree is unchanged. `Disk` is returned only if the tree failed, and no call is a
-        // misuse if the file still has its length.
+        // misuse if the tree has a file of this length under the name.
         ensures tree { ReadsFile (package_name_of_file self.old) (package_len_of_file self.old)
             DiskFault
             (T.history tree.old) (T.history tree.new) (T.counts tree.old) (T.counts tree.new)
@@ -224,6 +231,7 @@ impl<'a> FilePieces<'a> {
     {
         // The proof needs that the file ends within the package.
         let _len = self.len;
+        // Without an open file, no byte is left.
         let Some(file) = self.opened.take() else {
             return Ok(false);
         };

@@ -1,5 +1,5 @@
 //! A file of a package that is read in pieces. The rules are in `docs/formats.md`, "The other
-//! blocks", the paragraph of pieces.
+//! blocks", point 2 of the last list (the pieces).
 
 ghost use Rattle.std.specs.Prelude.{◌≡◌, ◌≤◌, ◌<◌, ◌+◌, ◌++◌, ◌^◌, [], ℕ, List, None, Some, length, IfNone, IfOk, IfSome, IsOkAnd};
 ghost use Rattle.std.specs.Result.{result_err};
@@ -22,7 +22,7 @@ use pkg_core::{FileCheck, Part, Wanted};
 pub(crate) struct OpenFile<'a> {
     /// The check of the file, with the expected size and digest.
     pub(crate) file: FileCheck<'a>,
-    /// The offset of its next byte in the package.
+    /// The offset in the package of the next byte of this file.
     pub(crate) at: u64,
 }
 
@@ -46,7 +46,8 @@ impl<'a> OpenFile<'a> {
         // The bytes of the piece were read at the offset of the next byte.
         ensures seen { IsNotDiskResult result → (file_len : ℕ)
             → AreBytesRead (T.history tree.old) name.now file_len self.entry.at piece.new }
-        // For each file that has the bytes that were seen.
+        // For each package that has the bytes of the piece at the offset: the piece is the next one
+        // of this file, or the file's digest differs (*IsResultOfNextPiece*).
         ensures piece { (file so_far : List ℕ) (further before : PiecesRead)
             → HasBytesAtOffset file self.entry.at piece.new
             → self.entry.at + file_bytes_left self.entry.file ≤ length file
@@ -54,30 +55,33 @@ impl<'a> OpenFile<'a> {
             → IsResultOfNextPiece so_far file piece.new further before result }
         // The piece has the length of the next piece, unless the tree failed.
         ensures len { IsNotDiskResult result → length piece.new ≡ next_piece_len self.entry.file }
+        // The returned part is of this file, and a returned rest of the file begins after the
+        // piece.
         ensures part { IfOk result (IsPieceOf self.entry (length piece.new)) }
-        // Only the last piece ends the file, and after it all bytes together have its size and its
-        // digest.
+        // A returned rest of the file has bytes left.
         ensures more { IfOk result (λ read. IfSome read.1 (λ further.
             0 < file_bytes_left further.file)) }
-        // The last piece has all bytes that were left.
+        // If no rest is returned, the piece has all bytes that were left.
         ensures all { IfOk result (λ read. IfNone read.1
             (length piece.new ≡ file_bytes_left self.entry.file)) }
-        // All bytes together are tested with the last piece.
+        // If `so_far` was returned before: with the last piece all bytes of the file have its size
+        // and its digest, or its digest differs.
         ensures digest { (so_far : List ℕ) → HasTaken self.entry.file so_far
             → 0 < file_bytes_left self.entry.file
             → AreTestedSoFar self.entry (so_far ++ piece.new) result }
-        // The rest of the file ends where the file ended before.
+        // A returned rest of the file ends at the same offset as the file before this piece.
         ensures room { IfOk result (λ read. IfSome read.1 (λ further.
             further.at + file_bytes_left further.file
             ≡ self.entry.at + file_bytes_left self.entry.file)) }
         // The tree is unchanged. `Disk` is returned only if the tree failed, and no call is a
-        // misuse if the file still has its length.
+        // misuse if the tree has a file of this length under the name.
         ensures tree { (file_len : ℕ) → self.entry.at + file_bytes_left self.entry.file ≤ file_len
             → ReadsFile name.now file_len DiskFault (T.history tree.old) (T.history tree.new)
             (T.counts tree.old) (T.counts tree.new) result }
     {
         let len = self.file.next_piece_len();
         piece.read(tree, name, self.at, len)?;
+        // The offset after the piece.
         let at = self.at + len as u64;
         match self.file.take(piece.bytes()) {
             Ok((part, Some(file))) => Ok((part, Some(OpenFile { file, at }))),
@@ -106,11 +110,12 @@ pub(crate) fn open_at<'a>(
     ensures within { IfOk result (λ o. o.at + file_bytes_left o.file ≤ len) }
     // On Ok, the open file is the wanted one.
     ensures wanted { IfOk result (λ o. o.file.wanted ≡ wanted.entry) }
-    // No bytes were taken yet, and some are left.
+    // No bytes of the file were taken yet.
     ensures taken { IfOk result (λ o. HasTaken o.file []) }
     // On Ok, bytes of the file are left.
     ensures more { IfOk result (λ o. 0 < file_bytes_left o.file) }
-    // If the package has there bytes of the expected size and digest, they are to be read.
+    // If a package of this length has bytes of the wanted size and digest at the offset (`start`),
+    // these are the bytes to be read.
     ensures left { (pkg bytes : List ℕ) (start : ℕ) → length pkg ≡ len → at ≡ Some start
         → HasBytesAtOffset pkg start bytes → length bytes ≡ wanted.entry.size
         → hash_fault wanted.entry.hash.now bytes ≡ None
@@ -122,6 +127,7 @@ pub(crate) fn open_at<'a>(
             found: (0, 0),
         });
     };
+    // How many bytes the package has from the offset on.
     let found = len.saturating_sub(at);
     if found < wanted.size {
         return Err(Cause::DataSize {

@@ -1,5 +1,5 @@
 //! The buffer of a piece, and why there is no next one. The rules are in `docs/formats.md`, "The
-//! other blocks", the paragraph of pieces.
+//! other blocks", point 2 of the last list (the pieces).
 
 ghost use Rattle.std.specs.Prelude.{◌≡◌, ◌≤◌, ◌+◌, ℕ, [], length, IfErr, OnOk};
 ghost use Rattle.pkg_core.specs.Seen.{AreBytesRead, ReadsFile};
@@ -26,8 +26,10 @@ impl Model for Piece {
 
     ghost Value = { List ℕ };
 
+    // Contracts see the bytes of the piece.
     ghost view = { λ piece. take piece.len piece.bytes };
 
+    // A piece has at most 65,536 bytes.
     ghost invariant = { λ piece. piece.len ≤ PIECE_LEN };
 }
 
@@ -45,6 +47,7 @@ impl Piece {
     /// The bytes of the piece, at most 65,536 (`PIECE_LEN` of `pkg_core`).
     pub fn bytes(&self) -> &[u8]
         ensures bytes { result.now ≡ self.now }
+        // A piece has at most 65,536 bytes.
         ensures few { length result.now ≤ PIECE_LEN }
     {
         &self.bytes[..self.len]
@@ -60,8 +63,9 @@ impl Piece {
         at: u64,
         len: usize,
     ) -> Result<(), PieceFault>
-        // The piece is not above the greatest length.
+        // No more bytes are asked for than a piece may have.
         requires { len ≤ PIECE_LEN }
+        // On Ok, the piece has `len` bytes.
         ensures len { OnOk result (length self.new ≡ len) }
         // The only error is that the tree failed.
         ensures disk { IfErr result (λ fault. fault ≡ DiskFault) }
@@ -69,7 +73,7 @@ impl Piece {
         ensures seen { OnOk result ((file_len : ℕ)
             → AreBytesRead (T.history tree.old) name.now file_len at self.new) }
         // The tree is unchanged. `Disk` is returned only if the tree failed, and no call is a
-        // misuse if the file still has its length.
+        // misuse if the tree has a file of this length under the name.
         ensures tree { (file_len : ℕ) → at + len ≤ file_len
             → ReadsFile name.now file_len DiskFault (T.history tree.old) (T.history tree.new)
             (T.counts tree.old) (T.counts tree.new) result }
@@ -95,9 +99,10 @@ impl From<Cause> for PieceFault {
     ghost use Rattle.std.specs.Prelude.{◌≡◌};
     ghost use Rattle.package_reader.specs.declared.piece.PieceFault.TheVariants.{Bad};
 
+    // What `from` returns.
     ghost from_gives = { λ cause fault. fault ≡ Bad cause };
 
-    /// A failed test is why there is no piece.
+    /// A failed test becomes `Bad`.
     fn from(cause: Cause) -> PieceFault {
         PieceFault::Bad(cause)
     }
@@ -107,9 +112,10 @@ impl From<Disk> for PieceFault {
     ghost use Rattle.std.specs.Prelude.{◌≡◌};
     ghost use Rattle.package_reader.specs.declared.piece.PieceFault.TheVariants.{Disk as DiskFault};
 
+    // What `from` returns.
     ghost from_gives = { λ _ fault. fault ≡ DiskFault };
 
-    /// A failed call of the tree is why there is no piece.
+    /// A failed call of the tree becomes `Disk`.
     fn from(_: Disk) -> PieceFault {
         PieceFault::Disk
     }

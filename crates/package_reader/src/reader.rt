@@ -1,5 +1,5 @@
 //! A reader of the pieces of a package's files in order. The rules are in `docs/formats.md`, "The
-//! other blocks", the paragraph of pieces; the order of the files in the paragraph above it.
+//! other blocks", point 2 of the last list; the order of the files in the second paragraph.
 
 ghost use Rattle.std.specs.Option.{ForSome};
 ghost use Rattle.std.specs.Prelude.{◌≤◌, ◌≡◌, List};
@@ -22,7 +22,7 @@ pub(crate) enum Due {
     Files,
     /// Nothing: the last block was passed.
     Nothing,
-    /// A test failed.
+    /// Nothing: this test failed, and each later call returns it.
     Refused(Cause),
 }
 
@@ -34,9 +34,11 @@ pub(crate) enum Due {
 pub struct PieceReader<'a> {
     /// The name of the package.
     pub(crate) name: &'a Name,
-    /// The position of the reader in the blocks: after the block of the open file.
+    /// The position of the reader in the blocks: after the block of the open file, or at the next
+    /// block if no file is open.
     pub(crate) place: BlockPlace<'a>,
-    /// The file of which some pieces, but not all, were read.
+    /// The file of which some pieces, but not all, were read; None if the reader is between two
+    /// files.
     pub(crate) opened: Option<OpenFile<'a>>,
     /// The offset at which the file of the last piece begins.
     pub(crate) start: u64,
@@ -67,13 +69,16 @@ impl<'a> PieceReader<'a> {
     /// A reader before the first piece of the package of this name, whose front and values were
     /// read.
     pub fn new(front: &Front, contents: &Contents<'a>, name: &'a Name) -> PieceReader<'a>
+        // The reader reads the package of the given name.
         ensures name { name_in_tree result ≡ name.entry.now }
+        // The package has the length of the front's file.
         ensures len { package_len result ≡ front_file_len front.now }
         // The first read is after the first block.
         ensures offset { offset_of result ≡ front_end front.now }
         // Each file with contents is still to be read.
         ensures files { files_to_read result
             ≡ expected_files_of_package (value_of_contents contents.entry.now) }
+        // The reader can continue, and no file is open.
         ensures start { IsBetweenFiles result }
         // The pieces to read are those of the blocks after the front.
         ensures pieces { (pkg : List ℕ) → IsReading result pkg
@@ -94,9 +99,13 @@ impl<'a> PieceReader<'a> {
     pub(crate) fn in_front_of(name: &'a Name, place: BlockPlace<'a>) -> PieceReader<'a>
         // The place is within the package.
         requires { place.at ≤ place.len }
+        // The reader reads the package of the given name.
         ensures name { name_in_tree result ≡ name.entry.now }
+        // The reader is at the given place.
         ensures place { result.place ≡ place.entry }
+        // No file is open.
         ensures opened { result.opened ≡ None }
+        // No test failed, and the last block was not passed.
         ensures due { result.due ≡ Files }
     {
         PieceReader {
@@ -104,8 +113,7 @@ impl<'a> PieceReader<'a> {
             place,
             opened: None,
             start: 0,
-            /// What is still to be read: files, nothing after the last block, or nothing after a
-            /// failed test.
+            // No test failed, and the last block was not passed yet.
             due: Due::Files,
         }
     }
@@ -131,8 +139,9 @@ impl<'a> PieceReader<'a> {
         tree: &mut T,
         piece: &mut Piece,
     ) -> Result<Option<Part>, PieceFault>
-        // For each package of this length that has the bytes read between the old position and the
-        // new one.
+        // The bytes `seen` were read from the old offset on; if a piece is returned, they end at
+        // the new offset. For each package of this length that has them there, the result is the
+        // next of the pieces that were to be read (`before`).
         ensures piece { (seen : List ℕ)
             × IsSeenIn (T.history tree.old) (name_in_tree self.old) (package_len self.old)
             (offset_of self.old) seen
@@ -143,8 +152,7 @@ impl<'a> PieceReader<'a> {
             → (before : PiecesRead) → IsReading self.old pkg before
             → ReturnsNextPiece (IsReading self.new pkg) before piece.new result
             × IfOk result (λ found. HasPieceAt self.old pkg piece.new found self.new)) }
-        // The pieces are in the order of the files in the package; after a piece the reader can
-        // continue.
+        // The pieces are in the order of the files in the package; at the end no file is expected.
         ensures order { IfOk result (λ found.
             IsReturnedInOrder (files_to_read self.old) found (files_to_read self.new)) }
         // After a piece the reader can continue.
@@ -153,18 +161,18 @@ impl<'a> PieceReader<'a> {
         // A piece that is not the last one is completely before the next read.
         ensures bytes { IfOk result (λ found. IfSome found (λ part. part.last ≡ false
             → offset_of self.old + length piece.new ≤ offset_of self.new)) }
-        // The offset at which its file begins is unchanged, and the bytes returned so far grow by
-        // the piece.
+        // If a file was open, the offset at which it begins is unchanged. The bytes returned of the
+        // open file grow by the piece; after a last piece they are 0.
         ensures start { IfOk result (λ found. IfSome found (λ part.
             KeepsFileStart part (length piece.new) self.old self.new)) }
         // A failed test is remembered, and each later call returns it.
         ensures refused { IfErr result (λ fault. RemembersFault fault self.new) }
-        // The name and the length of the package are unchanged.
+        // The name of the package is unchanged.
         ensures name { name_in_tree self.new ≡ name_in_tree self.old }
         // The length of the package is unchanged.
         ensures len { package_len self.new ≡ package_len self.old }
         // The tree is unchanged. `Disk` is returned only if the tree failed, and no call is a
-        // misuse if the file still has its length.
+        // misuse if the tree has a file of this length under the name.
         ensures tree { ReadsFile (name_in_tree self.old) (package_len self.old) DiskFault
             (T.history tree.old) (T.history tree.new) (T.counts tree.old) (T.counts tree.new)
             result }
@@ -183,8 +191,11 @@ impl<'a> PieceReader<'a> {
         tree: &mut T,
         piece: &mut Piece,
     ) -> Result<Option<Part>, PieceFault>
+        // No test failed, and the last block was not passed.
         requires { CanContinue self.old }
-        // The result is right for each package of this length that has the bytes that were read.
+        // The bytes `seen` were read from the old offset on; they end where the next read begins,
+        // if there is one. For each package of this length that has them there, the result is the
+        // next of the pieces that were to be read (`before`).
         ensures piece { (seen : List ℕ)
             × IsSeenIn (T.history tree.old) (name_in_tree self.old) (package_len self.old)
             (offset_of self.old) seen
@@ -195,7 +206,7 @@ impl<'a> PieceReader<'a> {
             → (before : PiecesRead) → IsReading self.old pkg before
             → ReturnsNextPiece (IsReading self.new pkg) before piece.new result
             × IfOk result (λ found. HasPieceAt self.old pkg piece.new found self.new)) }
-        // The pieces are in the order of the files in the package.
+        // The pieces are in the order of the files in the package; at the end no file is expected.
         ensures order { IfOk result (λ found.
             IsReturnedInOrder (files_to_read self.old) found (files_to_read self.new)) }
         // After a piece the reader can continue.
@@ -204,17 +215,18 @@ impl<'a> PieceReader<'a> {
         // A piece that is not the last one is completely before the next read.
         ensures bytes { IfOk result (λ found. IfSome found (λ part. part.last ≡ false
             → offset_of self.old + length piece.new ≤ offset_of self.new)) }
-        // The offset at which the file begins is unchanged while the file is open.
+        // If a file was open, the offset at which it begins is unchanged. The bytes returned of the
+        // open file grow by the piece; after a last piece they are 0.
         ensures start { IfOk result (λ found. IfSome found (λ part.
             KeepsFileStart part (length piece.new) self.old self.new)) }
         // A failed test is remembered for the next call.
         ensures refused { IfErr result (λ fault. RemembersFault fault self.new) }
-        // The name and the length of the package are unchanged.
+        // The name of the package is unchanged.
         ensures name { name_in_tree self.new ≡ name_in_tree self.old }
         // The length of the package is unchanged.
         ensures len { package_len self.new ≡ package_len self.old }
         // The tree is unchanged. `Disk` is returned only if the tree failed, and no call is a
-        // misuse if the file still has its length.
+        // misuse if the tree has a file of this length under the name.
         ensures tree { ReadsFile (name_in_tree self.old) (package_len self.old) DiskFault
             (T.history tree.old) (T.history tree.new) (T.counts tree.old) (T.counts tree.new)
             result }
@@ -240,7 +252,9 @@ impl<'a> PieceReader<'a> {
         tree: &mut T,
         piece: &mut Piece,
     ) -> Result<Option<Part>, PieceFault>
-        // For each package of this length that has the bytes that were read.
+        // The bytes `seen` were read from the old offset on; they end where the next read begins,
+        // if there is one. For each package of this length that has them there, the result is the
+        // next of the pieces that were to be read (*IsPieceRead*).
         ensures piece { (seen : List ℕ)
             × IsSeenIn (T.history tree.old) (name_in_tree self.old) (package_len self.old)
             (offset_of self.old) seen
@@ -251,27 +265,28 @@ impl<'a> PieceReader<'a> {
             → (before : PiecesRead) → ArePiecesFrom self.old.place self.old.opened pkg before
             → IsPieceRead self.new pkg before piece.new result
             × IfOk result (λ found. HasPieceAt self.old pkg piece.new found self.new)) }
-        // The pieces are in the order of the files in the package.
+        // The pieces are in the order of the files in the package; at the end no file is expected.
         ensures order { IfOk result (λ found. IsReturnedInOrder
             (files_to_read_in self.old.place self.old.opened) found (files_to_read_in
             self.new.place self.new.opened)) }
         // A piece that is not the last one is completely before the next read.
         ensures bytes { IfOk result (λ found. IfSome found (λ part. part.last ≡ false
             → offset_of self.old + length piece.new ≤ offset_of self.new)) }
-        // The offset at which the file begins is unchanged while the file is open.
+        // If a file was open, the offset at which it begins is unchanged. The bytes returned of the
+        // open file grow by the piece; after a last piece they are 0.
         ensures start { IfOk result (λ found. IfSome found (λ part.
             KeepsFileStart part (length piece.new) self.old self.new)) }
-        // The state of the reader is unchanged.
+        // Whether files are left is not changed here (`due`).
         ensures due { self.new.due ≡ self.old.due }
         // No file is open exactly after a last piece.
         ensures open { IfOk result (λ found. IfSome found (λ part.
             is_none self.new.opened ≡ part.last)) }
-        // The name and the length of the package are unchanged.
+        // The name of the package is unchanged.
         ensures name { name_in_tree self.new ≡ name_in_tree self.old }
         // The length of the package is unchanged.
         ensures len { package_len self.new ≡ package_len self.old }
         // The tree is unchanged. `Disk` is returned only if the tree failed, and no call is a
-        // misuse if the file still has its length.
+        // misuse if the tree has a file of this length under the name.
         ensures tree { ReadsFile (name_in_tree self.old) (package_len self.old) DiskFault
             (T.history tree.old) (T.history tree.new) (T.counts tree.old) (T.counts tree.new)
             result }
@@ -288,7 +303,9 @@ impl<'a> PieceReader<'a> {
 
     /// The file that is open, or the next one; None after the last block.
     fn open_next<T: Tree>(&mut self, tree: &mut T) -> Result<Option<OpenFile<'a>>, PieceFault>
-        // For each package of this length that has the bytes that were read.
+        // The bytes `seen` were read from the old offset on; they end where the next read begins,
+        // if there is one. For each package of this length that has them there, the result is the
+        // file of the next piece, or None if no piece is left (*IsFileOpened*).
         ensures file { (seen : List ℕ)
             × IsSeenIn (T.history tree.old) (name_in_tree self.old) (package_len self.old)
             (offset_of self.old) seen
@@ -298,7 +315,7 @@ impl<'a> PieceReader<'a> {
             → HasBytesAtOffset pkg (offset_of self.old) seen
             → (before : PiecesRead) → ArePiecesFrom self.old.place self.old.opened pkg before
             → IsFileOpened self.old pkg before result self.new) }
-        // The file is the first expected one; without a file none is expected.
+        // The returned file is the first expected one; if none is returned, no file is expected.
         ensures opens { IfOk result (λ found.
             OpensFirstOrNoneExpected
             (files_to_read_in self.old.place self.old.opened) found self.new.place) }
@@ -308,15 +325,16 @@ impl<'a> PieceReader<'a> {
         // The file begins at the offset that the reader remembers.
         ensures start { IfOk result (λ found. IfSome found (λ file.
             IsStartOf self.old file self.new.start)) }
+        // The caller gets the open file, so none is open in the reader.
         ensures opened { self.new.opened ≡ None }
-        // The state of the reader is unchanged.
+        // Whether files are left is not changed here (`due`).
         ensures due { self.new.due ≡ self.old.due }
-        // The name and the length of the package are unchanged.
+        // The name of the package is unchanged.
         ensures name { name_in_tree self.new ≡ name_in_tree self.old }
         // The length of the package is unchanged.
         ensures len { package_len self.new ≡ package_len self.old }
         // The tree is unchanged. `Disk` is returned only if the tree failed, and no call is a
-        // misuse if the file still has its length.
+        // misuse if the tree has a file of this length under the name.
         ensures tree { ReadsFile (name_in_tree self.old) (package_len self.old) DiskFault
             (T.history tree.old) (T.history tree.new) (T.counts tree.old) (T.counts tree.new)
             result }
@@ -327,6 +345,7 @@ impl<'a> PieceReader<'a> {
         let Some(found) = next_file(tree, self.name, &mut self.place)? else {
             return Ok(None);
         };
+        // The file begins at its next byte, as none was read yet.
         self.start = found.at;
         Ok(Some(found))
     }

@@ -36,15 +36,15 @@ AreAtPlaces pkg (place ∷ places) (contents ∷ others) =
 
 -- ---- the result of the tests
 
--- the result of the tests for the files of a package: each has its contents at its place, or the first
--- failed test
+-- the result of the tests of the files of a package: no test fails, and each file with contents has them
+-- at its place. Or the first failed test
 abbrev pub AreFilesTested : FilesRead → List ℕ → FilesTest → Type 0
 AreFilesTested files pkg (Sound places) =
     (fault_of_files_read files ≡ None) × AreAtPlaces pkg places.items (contents_in files)
 AreFilesTested files pkg (Bad c) = fault_of_files_read files ≡ Some c
 
--- the result of the tests for a whole package: no test fails, and each file has its contents at its
--- place, or the first failed test
+-- the result of all tests of a package: no test fails, and each file with contents has them at its place.
+-- Or the first failed test
 abbrev pub IsWholeTested : List ℕ → FilesTest → Type 0
 IsWholeTested pkg (Sound places) =
     (package_fault pkg ≡ None) × AreAtPlaces pkg places.items (contents_in (files_read_from_package pkg))
@@ -57,17 +57,20 @@ HasSoundPayload front (Bad c) = Unit {0}
 
 -- ---- in the order of the files
 
--- a file precedes another by its folder, and then by itself
+-- the file with the first two positions (folder and file) precedes the file with the other two. Its
+-- folder is earlier; or both are in one folder, and the file is earlier in it
 abbrev pub IsBeforeFile : ℕ → ℕ → ℕ → ℕ → Type 0
 IsBeforeFile folder file other_folder other_file =
     (folder < other_folder) ⊎ ((folder ≡ other_folder) × (file < other_file))
 
--- whether a file precedes another by its folder, and then by itself
+-- whether the file with the first two positions (folder and file) precedes the file with the other two.
+-- Its folder is earlier; or both are in one folder, and the file is earlier in it
 abbrev pub is_before_file : ℕ → ℕ → ℕ → ℕ → Bool
 is_before_file folder file other_folder other_file =
     nat_lt folder other_folder || ((folder == other_folder) && nat_lt file other_file)
 
--- each of these places is of a file after the one with these positions
+-- each of these places is that of a file after the file at the position `file` in the folder at the
+-- position `folder`
 abbrev pub ArePlacedAfter : ℕ → ℕ → List FilePlace → Type 0
 ArePlacedAfter folder file [] = Unit {0}
 ArePlacedAfter folder file (place ∷ places) =
@@ -83,11 +86,12 @@ AreInFileOrder (place ∷ places) =
 abbrev pub is_place_of : ℕ → ℕ → FilePlace → Bool
 is_place_of folder file place = (place.folder == folder) && (place.file == file)
 
--- the offset at which the file with these positions begins, if its place is among these
+-- the offset at which the contents begin of the file at the position `file` in the folder at the position
+-- `folder`. None if its place is not among these
 abbrev pub offset_of_file : ℕ → ℕ → List FilePlace → Option ℕ
 offset_of_file folder file places =
     option_map (λ place. place.at) (find (is_place_of folder file) places)
 
--- the place of the file of which a piece is a part, and which begins at this offset
+-- the place of the file that this part belongs to, which begins at the offset `at`
 abbrev pub place_of_part : Part → ℕ → FilePlace
 place_of_part part at = record { folder = part.path; file = part.file; at = at }

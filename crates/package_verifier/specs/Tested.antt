@@ -23,7 +23,7 @@ tested_name pkg = pkg.name
 abbrev pub tested_len : TestedPackage → ℕ
 tested_len pkg = front_file_len pkg.front
 
--- the bytes of the value of a tested package
+-- the payload of the first block of a tested package
 abbrev pub tested_payload : TestedPackage → List ℕ
 tested_payload pkg = front_payload pkg.front
 
@@ -39,19 +39,19 @@ tested_id pkg = sha256 (tested_payload pkg)
 
 -- a tested package is that of this file, read under this name: no test of the file as a package fails
 pub record IsTestedOf (name file : List ℕ) (pkg : TestedPackage) : Type 0 where
-  -- it was read under this name
+  -- the tested package was read under this name
   pub named : tested_name pkg ≡ name
   -- no test of the file fails
   pub sound : package_fault file ≡ None
-  -- it has the value of the file
+  -- the tested package has the value of the package in the file
   pub value : tested_value pkg ≡ root_value Package (payload_in file)
-  -- it has the id of the file
+  -- the tested package has the id of the package in the file
   pub id : tested_id pkg ≡ package_id file
-  -- needed to read its files again
+  -- the tested package has the length of the file; this is needed to read its files again
   pub long : tested_len pkg ≡ length file
-  -- it has the bytes of the value of the file
+  -- the tested package has the payload of the first block of the file
   pub payload : tested_payload pkg ≡ payload_in file
-  -- it has the place of the contents of each file
+  -- the tested package has the place of the contents of each of its files
   pub places : AreAtPlaces file pkg.places.items (contents_in (files_read_from_package file))
 
 -- the result of `read_package` for a file under this name, or for none

@@ -1,5 +1,5 @@
 //! The contents of a package's files are read once and tested, piece by piece. The rules are in
-//! `docs/formats.md`, "The other blocks", the paragraph of pieces.
+//! `docs/formats.md`, "The other blocks", point 2 of the last list (the pieces).
 
 ghost use Rattle.std.specs.Prelude.{◌≡◌, ℕ, List, Some, length, IfOk};
 ghost use Rattle.adb_block.specs.Reading.{block_stream_from};
@@ -37,7 +37,8 @@ pub(crate) fn read_files<T: Tree>(
     front: &Front,
     contents: &Contents<'_>,
 ) -> Result<FilesTest, TreeFault>
-    // For each package of this length that has the bytes that were read.
+    // For each package of this length that has the bytes read from the end of the front on
+    // (`seen`): the result is that of the tests of its files.
     ensures files { IfOk result (λ test. (seen : List ℕ)
         × IsSeenIn (T.history tree.old) name.now (front_file_len front.now) (front_end front.now)
         seen
@@ -46,7 +47,7 @@ pub(crate) fn read_files<T: Tree>(
         (expected_files_of_package (value_of_contents contents.now))
         (block_stream_from (position_after_front front.now pkg))) pkg test)) }
     // The tree is unchanged. `Disk` is returned only if the tree failed, and no call is a misuse if
-    // the file still has its length.
+    // the tree has a file of this length under the name.
     ensures tree { ReadsFile name.now (front_file_len front.now) DiskFault (T.history tree.old)
         (T.history tree.new) (T.counts tree.old) (T.counts tree.new) result }
 {

@@ -1,7 +1,7 @@
 //! A package in a tree that was read and tested once. The rules are in `docs/formats.md`, "The
-//! other blocks", the last two paragraphs (the front, and pieces). What is kept of a package in
-//! memory is described in the README of this crate and in `docs/DECISIONS.md`, "Packages that are
-//! not held whole".
+//! other blocks", the last list (the front, and the pieces). What is kept of a package in memory is
+//! described in the README of this crate and in `docs/DECISIONS.md`, "Packages that are not in
+//! memory as a whole".
 
 ghost use Rattle.std.specs.Prelude.{◌≡◌, true, is_none};
 ghost use Rattle.package_reader.specs.adb_schema.Soundness.{payload_fault};
@@ -16,7 +16,7 @@ use package_reader::{Contents, FilePieces, Front};
 /// file begin. Contracts see, by `Tested` of `specs/`, its value and of which files it is.
 #[derive(Drop)]
 pub struct TestedPackage {
-    /// The name under which it was read.
+    /// The name under which the package was read.
     pub(crate) name: Name,
     /// The header and the first block, which has the values.
     pub(crate) front: Front,
@@ -62,10 +62,11 @@ impl TestedPackage {
         ensures name { package_name_of_file result ≡ tested_name self.now }
         // The file has the length of the tested package.
         ensures len { package_len_of_file result ≡ tested_len self.now }
-        // Whatever the tree has, its bytes are compared with the size and the digest that the
-        // package's value lists for it.
+        // Whatever the tree has, the bytes of the file are compared with the size and the digest
+        // that the package's value lists.
         ensures due { expected_file_of result ≡ expected_file_at folder file
             (expected_files_of_package (tested_value self.now)) }
+        // No bytes were returned yet.
         ensures begun { HaveBeenReturned result [] }
         // The pieces give the contents of the file in the package that was tested.
         ensures reading { (name pkg : List ℕ) → IsTestedOf name pkg self.now → HasUnreadBytes

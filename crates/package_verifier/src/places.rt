@@ -8,20 +8,22 @@ ghost use Rattle.package_verifier.specs.Places.{AreInFileOrder, is_before_file, 
 use package_reader::Part;
 use std::alloc::AllocError;
 
-/// Where the contents of a file begin in its package: the positions of its folder and of itself,
-/// which count from 1, and an offset.
+/// Where the contents of a file begin in its package: the positions of the folder and of the file
+/// in it, and the offset of the contents.
 #[derive(Clone, Copy)]
 pub(crate) struct FilePlace {
-    /// The position of its folder.
+    /// The position of the file's folder in the package, counted from 1.
     pub folder: u32,
-    /// Its position in the folder.
+    /// The position of the file in this folder, counted from 1.
     pub file: u32,
-    /// The offset at which its contents begin in the package.
+    /// The offset in the package at which the contents of the file begin.
     pub at: u64,
 }
 
-/// Records where the file of a part begins, after its last piece was read.
+/// Records that the file of a part begins at the offset `at`, if the part is the last piece of the
+/// file.
 pub(crate) fn keep_place(places: &mut Vec<FilePlace>, part: Part, at: u64) -> Result<(), AllocError>
+    // On Ok, a last part adds the place of its file at the end, and another part adds nothing.
     ensures { OnOk result (places.new.items ≡ (if part.last
         then places.old.items ++ place_of_part part at ∷ [] else places.old.items)) }
 {
@@ -35,11 +37,12 @@ pub(crate) fn keep_place(places: &mut Vec<FilePlace>, part: Part, at: u64) -> Re
     Ok(())
 }
 
-/// The offset at which the file with these positions begins, from places in the order of the files,
-/// by bisection.
+/// The offset at which the file with these positions begins, by bisection of places that are in the
+/// order of the files. None if no place is that of this file.
 pub(crate) fn offset_of(places: &[FilePlace], folder: u32, file: u32) -> Option<u64>
     ensures { AreInFileOrder places.now → result ≡ offset_of_file folder file places.now }
 {
+    // The index of the first place that is not before the wanted one.
     let i = count_before(places, folder, file);
     if i == places.len() {
         return None;
@@ -58,7 +61,8 @@ pub(crate) fn offset_of(places: &[FilePlace], folder: u32, file: u32) -> Option<
 fn count_before(places: &[FilePlace], folder: u32, file: u32) -> usize
     // The result is at most the length.
     ensures within { result ≤ length places.now }
-    // All elements before this index are before the wanted one, and none from it on.
+    // If the places are in order: all places before the returned index are of files before the one
+    // with these positions, and no place from this index on is.
     ensures point { AreInFileOrder places.now → IsPartitionPoint
         (λ place. is_before_file place.folder place.file folder file ≡ true)
         (λ place. is_before_file place.folder place.file folder file ≡ false) places.now result }

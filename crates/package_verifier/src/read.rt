@@ -1,6 +1,6 @@
 //! The reader and the tests of a package in a tree: its front, its values, and then the blocks
 //! after them piece by piece. The rules are in `docs/formats.md`, "Tests of a container", and "The
-//! other blocks", the paragraphs of a front and of pieces.
+//! other blocks", the last list (the front, and the pieces).
 
 ghost use Rattle.std.specs.Prelude.{◌≡◌, ℕ, List, Option, Some, IfOk};
 ghost use Rattle.package_reader.specs.adb_schema.declared.read.TheConstants.{PACKAGE_WORD};
@@ -42,7 +42,8 @@ pub fn read_package<T: Tree>(
     tree: &mut T,
     name: &Name,
 ) -> Result<PackageRead, TreeFault>
-    // The result is that for some file, which is the one under the name if the tree is observable.
+    // The result is right for some file, or for none (`found`). If the tree is observable, this is
+    // what the tree has under the name.
     ensures read { IfOk result (λ read. (found : Option (List ℕ))
         × IfObservable (T.history tree.old) (λ v. found ≡ files_of v name.now)
         × IsPackageReadResult name.now found read) }
@@ -65,7 +66,8 @@ fn read_named<T: Tree>(
 ) -> Result<PackageRead, TreeFault>
     // The copy has the bytes of the name.
     requires { own_name ≡ name.now }
-    // If the tree is observable, the result is that for its file of this name.
+    // The result is right for some file, or for none (`found`). If the tree is observable, this is
+    // what the tree has under the name.
     ensures read { IfOk result (λ read. (found : Option (List ℕ))
         × IfObservable (T.history tree.old) (λ v. found ≡ files_of v name.now)
         × IsPackageReadResult name.now found read) }
@@ -86,9 +88,13 @@ fn read_named<T: Tree>(
     }
 }
 
-/// The result for a package of this name with this front, by the result of the tests.
+/// The result of reading the package of this name with this front, given the result of the tests of
+/// its values and files.
 fn read_by(name: Name, front: Front, test: FilesTest) -> PackageRead
+    // If no test failed, the payload of the front passes all tests of its values.
     requires { HasSoundPayload front test }
+    // The result is that of `read_package` for each package with this front for which these are the
+    // results of all tests.
     ensures { (pkg : List ℕ) → IsFrontOf PACKAGE_WORD pkg front → IsWholeTested pkg test
         → IsPackageReadResult name (Some pkg) result }
 {
@@ -109,15 +115,17 @@ fn test_values_and_files<T: Tree>(
     name: &Name,
     front: &Front,
 ) -> Result<FilesTest, TreeFault>
-    // For each package with this front that has the bytes that were seen after it.
+    // For each package with this front that has the bytes read after the front (`seen`): the result
+    // is that of all tests of the package.
     ensures whole { IfOk result (λ test. (seen : List ℕ)
         × IsSeenIn (T.history tree.old) name.now (front_file_len front.now) (front_end front.now)
         seen
         × ((pkg : List ℕ) → IsFrontOf PACKAGE_WORD pkg front.now
         → HasBytesAtOffset pkg (front_end front.now) seen → IsWholeTested pkg test)) }
+    // If no test failed, the payload of the front passes all tests of its values.
     ensures payload { IfOk result (HasSoundPayload front.now) }
     // The tree is unchanged. `Disk` is returned only if the tree failed, and no call is a misuse if
-    // the file still has its length.
+    // the tree has a file of this length under the name.
     ensures tree { ReadsFile name.now (front_file_len front.now) DiskFault (T.history tree.old)
         (T.history tree.new) (T.counts tree.old) (T.counts tree.new) result }
 {

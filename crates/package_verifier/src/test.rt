@@ -40,7 +40,8 @@ pub fn test_package<T: Tree>(
     tree: &mut T,
     name: &Name,
 ) -> Result<PackageTest, TreeFault>
-    // The result is that for some file, which is the one under the name if the tree is observable.
+    // The result is right for some file, or for none (`found`). If the tree is observable, this is
+    // what the tree has under the name.
     ensures tests { IfOk result (λ test. (found : Option (List ℕ))
         × IfObservable (T.history tree.old) (λ v. found ≡ files_of v name.now)
         × IsPackageTestResult found test) }
@@ -55,6 +56,7 @@ pub fn test_package<T: Tree>(
 
 /// The result of the tests, by the result of the read.
 fn test_of(read: &PackageRead) -> PackageTest
+    // If this is the result of reading a file, or none, the returned result is that of testing it.
     ensures { (name : List ℕ) (found : Option (List ℕ)) → IsPackageReadResult name found read.now
         → IsPackageTestResult found result }
 {
@@ -65,8 +67,9 @@ fn test_of(read: &PackageRead) -> PackageTest
     }
 }
 
-/// The result of the tests with this first failed test.
+/// The result of the tests if this is the first test that failed.
 fn test_by(cause: Cause) -> PackageTest
+    // The result is that for each file whose first failed test is this one.
     ensures { (file : List ℕ) → package_fault file ≡ Some cause
         → IsPackageTestResult (Some file) result }
 {

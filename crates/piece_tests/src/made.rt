@@ -1,5 +1,5 @@
-//! Packages of several files, with flaws. The layout is in `docs/formats.md`, "Container", "Values"
-//! and "The other blocks".
+//! Makes the packages that the rows ask about, of several files, with a flaw or without. The layout
+//! is in `docs/formats.md`, "Container", "Values" and "The other blocks".
 
 ghost use Rattle.std.specs.Prelude.{◌<◌, ◌^◌, length};
 
@@ -8,11 +8,12 @@ use sha1::Sha1;
 use sha2::Digest;
 use std::alloc::{AllocError, Global};
 
-/// The head of a payload, whose root is not yet set, and the information of the package `a` of
-/// version `1`.
+/// The first 24 bytes of a payload. Its head, in which the word of the root is not set yet, is
+/// followed by the information of the package `a` of version `1`. The object of the information is
+/// at offset 12.
 const INFO: &[u8] = b"\0\0\0\0\0\0\0\0\x01a\x011\x03\0\0\0\x08\0\0\x80\x0a\0\0\x80";
 
-/// The flaw of a package.
+/// A flaw that a package is made with.
 #[derive(Clone, Copy)]
 pub(crate) enum Flaw {
     /// No flaw.
@@ -25,7 +26,7 @@ pub(crate) enum Flaw {
     Shortened(usize),
 }
 
-/// The contents of a file of this length: 0 to 250, repeated.
+/// The contents of a file of this length: the bytes 0 to 250, again and again.
 pub(crate) fn bytes_of(alloc: Global, len: u32) -> Result<Vec<u8>, AllocError> {
     let mut bytes = Vec::new(alloc);
     for i in 0..len {
@@ -58,8 +59,10 @@ pub(crate) fn package_of(alloc: Global, sizes: &[u32], flaw: Flaw) -> Result<Vec
     Ok(file)
 }
 
-/// The payload of the contents of the file at an index, counted from 0, with a flaw.
+/// The payload of the block with the contents of the file with the index `i`, counted from 0, with
+/// a flaw.
 fn contents_with(alloc: Global, sizes: &[u32], i: usize, flaw: Flaw) -> Result<Vec<u8>, AllocError>
+    // The index is that of one of the files.
     requires { i < length sizes.now }
 {
     match flaw {
@@ -71,18 +74,20 @@ fn contents_with(alloc: Global, sizes: &[u32], i: usize, flaw: Flaw) -> Result<V
     }
 }
 
-/// The payload of the contents of the file that follows `before` others: the positions of its
-/// folder and of itself, which count from 1, and its bytes.
+/// The payload of the block with the contents of a file that follows `before` other files. It has
+/// the positions of the folder and of the file in it, which count from 1, and then the bytes of the
+/// file.
 fn contents_of(alloc: Global, before: usize, size: u32) -> Result<Vec<u8>, AllocError> {
     let mut payload = Vec::new(alloc);
+    // All files are in folder 1.
     payload.extend_from_slice(&1u32.to_le_bytes())?;
     payload.extend_from_slice(&low_word(before.saturating_add(1)).to_le_bytes())?;
     payload.extend_from_slice(&bytes_of(alloc, size)?)?;
     Ok(payload)
 }
 
-/// The payload of contents with a flaw. The bytes of the file follow its two positions, which are
-/// eight bytes. No byte of the file is 255.
+/// The payload of a block of contents, with a flaw. The bytes of the file follow the two positions,
+/// which are eight bytes. No byte of the file is 255 without a flaw.
 fn flawed(alloc: Global, payload: &[u8], flaw: Flaw) -> Result<Vec<u8>, AllocError> {
     let mut bytes = payload.to_vec(alloc)?;
     match flaw {
@@ -98,9 +103,9 @@ fn flawed(alloc: Global, payload: &[u8], flaw: Flaw) -> Result<Vec<u8>, AllocErr
     Ok(bytes)
 }
 
-/// The payload of a package with files of these sizes, named `a`, `b` and so on. A word's top four
-/// bits are its kind: 0xd an array, 0xe an object; the information of `INFO` is the object at
-/// offset 12.
+/// The payload of a package with files of these sizes, named `a`, `b` and so on. It begins with
+/// `INFO`, in which the object at offset 12 is the package's information. The top four bits of a
+/// word are its kind: 0xd for an array, 0xe for an object.
 pub(crate) fn payload_of(alloc: Global, sizes: &[u32]) -> Result<Vec<u8>, AllocError> {
     let mut payload = INFO.to_vec(alloc)?;
     let mut files = Vec::new(alloc);
@@ -111,6 +116,8 @@ pub(crate) fn payload_of(alloc: Global, sizes: &[u32]) -> Result<Vec<u8>, AllocE
         files.push(0xe000_0000 | object)?;
         letter = letter.wrapping_add(1);
     }
+    // From here on, the names are offsets: of the array of files, the folder, the array of folders,
+    // and the root.
     let files = add_words(&mut payload, &files)?;
     let folder = add_words(&mut payload, &[0, 0, 0xd000_0000 | files])?;
     let folders = add_words(&mut payload, &[0xe000_0000 | folder])?;
@@ -122,8 +129,9 @@ pub(crate) fn payload_of(alloc: Global, sizes: &[u32]) -> Result<Vec<u8>, AllocE
     Ok(payload)
 }
 
-/// Adds a file of this name, size and digest, and returns the offset of its object. The words of
-/// its fields are blobs (0x8), the size (0x1) and NULL.
+/// Adds the entry of a file whose name is this letter, with this size and digest, and returns the
+/// offset of the object. The words of its fields refer to blobs (0x8), have the size (0x1), or are
+/// NULL (0).
 fn add_file(
     payload: &mut Vec<u8>,
     letter: u8,
@@ -133,9 +141,10 @@ fn add_file(
     let name = low_word(payload.len());
     payload.extend_from_slice(&[1, letter])?;
     let digest = low_word(payload.len());
-    // The length of a blob is in the byte before it.
+    // A blob begins with its length: one byte here, before the digest.
     payload.push(20)?;
     payload.extend_from_slice(hash)?;
+    // The fields: name, access list, size, time and hash.
     let words = [
         0x8000_0000 | name,
         0,
@@ -146,8 +155,8 @@ fn add_file(
     add_words(payload, &words)
 }
 
-/// Adds an object or an array of these words, at an offset that is a multiple of four, and returns
-/// the offset.
+/// Adds the object or the array of these words, at an offset that is a multiple of four, and
+/// returns the offset. Before the words is their number and 1.
 fn add_words(payload: &mut Vec<u8>, words: &[u32]) -> Result<u32, AllocError> {
     for _ in 0..(4 - payload.len() % 4) % 4 {
         payload.push(0)?;
@@ -162,6 +171,7 @@ fn add_words(payload: &mut Vec<u8>, words: &[u32]) -> Result<u32, AllocError> {
 
 /// The low 28 bits of a number, which are the offset in a word of a payload.
 pub(crate) fn low_word(number: usize) -> u32
+    // The result has at most 28 bits.
     ensures { result < 2 ^ 28 }
 {
     (number & 0x0fff_ffff) as u32

@@ -28,7 +28,7 @@ const MOST_BYTES: u32 = 1_000_000;
 /// The most pieces of a row's file.
 const MOST_PIECES: usize = 100;
 
-/// The length in bytes of the only file of the package of the question `open`.
+/// The length in bytes of the only file of the package that the question `open` is about.
 const OPENED: u32 = 3;
 
 /// The kinds of questions; the README of this crate has their answers.
@@ -81,7 +81,7 @@ impl Subject for Files {
     }
 }
 
-/// The number of a word, at most `MOST_BYTES`; 0 if it is no number.
+/// The number that the word of a row is, but at most `MOST_BYTES`; 0 if the word is no number.
 pub(crate) fn small_number(word: &[u8]) -> u32 {
     let number = number_of(word).unwrap_or(0);
     u32::try_from(number).unwrap_or(0).min(MOST_BYTES)
@@ -96,8 +96,8 @@ fn positions(folder: u32, file: u32) -> [u8; 8] {
     bytes
 }
 
-/// The values of a package with this payload; None if a test fails. The contract: their table is
-/// that of packages.
+/// The values of the package with this payload; None if a test fails. The contract says that they
+/// are those of a package, and not of another table.
 fn values(alloc: Global, payload: &[u8]) -> Option<Checked<'_>>
     ensures { IfSome result (λ checked. table_of_checked checked ≡ Tables.Package) }
 {
@@ -106,8 +106,8 @@ fn values(alloc: Global, payload: &[u8]) -> Option<Checked<'_>>
     Checked::new(alloc, shaped).ok()
 }
 
-/// Answers `pieces LEN` and `pieces LEN AT`: adds the pieces of one file of LEN bytes. With AT, its
-/// byte at this offset differs from the bytes of the digest.
+/// Answers `pieces LEN` and `pieces LEN AT`: adds the pieces of one file of LEN bytes. With AT, the
+/// byte of the file at this offset is wrong, so that the digest of the file differs.
 fn add_pieces(alloc: Global, words: &Words, answer: &mut Vec<u8>) -> Result<(), AllocError> {
     let len = small_number(word_at(words, 1));
     let mut bytes = bytes_of(alloc, len)?;
@@ -131,15 +131,16 @@ fn add_pieces(alloc: Global, words: &Words, answer: &mut Vec<u8>) -> Result<(), 
     }
 }
 
-/// Adds each piece of a file, and the result after the last one.
+/// Adds to `answer` each piece of a file with these bytes, and the result after the last piece.
 fn add_each(
     alloc: Global,
     file: FileCheck<'_>,
     bytes: &[u8],
     answer: &mut Vec<u8>,
 ) -> Result<(), AllocError> {
-    // The test of the bytes that are left; None after the last piece.
+    // The check of the bytes that are not taken yet; None after the last piece.
     let mut left = Some(file);
+    // The bytes of the file that are not taken yet.
     let mut rest = bytes;
     for _ in 0..MOST_PIECES {
         let Some(file) = left.take() else {
@@ -161,8 +162,8 @@ fn add_each(
     Ok(())
 }
 
-/// Adds the positions of a piece's folder and file, how long the piece is, and `last` if it is the
-/// last one of the file.
+/// Adds to `answer` the positions of the folder and the file that a piece belongs to, and the
+/// length of the piece. Adds `last` if it is the last piece of the file.
 pub(crate) fn add_part(
     alloc: Global,
     part: Part,
@@ -177,8 +178,8 @@ pub(crate) fn add_part(
     Ok(())
 }
 
-/// Adds the cause of a refusal, as its variant and its fields; for a wrong digest no more than
-/// that.
+/// Adds to `answer` the cause of a refusal: its variant and its fields; for a wrong digest only the
+/// words `another digest`.
 pub(crate) fn add_cause(
     alloc: Global,
     cause: Cause,
@@ -194,8 +195,8 @@ pub(crate) fn add_cause(
 }
 
 /// Answers `open FOLDER FILE LEN`: adds the result for a block of contents with these positions and
-/// this length of its payload. The only file of the package has three bytes. Then the same block
-/// follows once more.
+/// this length of its payload. The only file of the package has three bytes. The same block is then
+/// opened once more, when no file is expected any more.
 fn add_opened(alloc: Global, words: &Words, answer: &mut Vec<u8>) -> Result<(), AllocError> {
     let payload = payload_of(alloc, &[OPENED])?;
     let Some(checked) = values(alloc, &payload) else {
@@ -205,7 +206,7 @@ fn add_opened(alloc: Global, words: &Words, answer: &mut Vec<u8>) -> Result<(), 
     let folder = small_number(word_at(words, 1));
     let file = small_number(word_at(words, 2));
     let len = number_of(word_at(words, 3)).unwrap_or(0);
-    // At least the eight bytes of the positions.
+    // The payload has at least the eight bytes of the positions.
     let len = u64::try_from(len).unwrap_or(0).max(8);
     let positions = positions(folder, file);
     for _ in 0..2 {
@@ -220,7 +221,7 @@ fn add_opened(alloc: Global, words: &Words, answer: &mut Vec<u8>) -> Result<(), 
     Ok(())
 }
 
-/// Answers the rows of standard input.
+/// Answers the rows of standard input, one by one.
 fn main(rt: HostRuntime) -> io::Result<ExitCode> {
     run_program(&rt, rt.alloc(), &mut Files)
 }

@@ -1,5 +1,5 @@
 //! Packages in a tree: their fronts (headers and first blocks), and their files, which are read in
-//! pieces. The tests are in `docs/formats.md`, "The other blocks", its last two paragraphs.
+//! pieces. The tests are in `docs/formats.md`, "The other blocks", the last list.
 
 use crate::made::{Flaw, low_word, package_of};
 use crate::{add_cause, add_part, small_number};
@@ -12,7 +12,7 @@ use row_lines::{add_number, add_word, word_at};
 use std::alloc::{AllocError, Global};
 use tree_memory::MemoryTree;
 
-/// The most pieces that are read, and the most files of a row's package.
+/// The most pieces of one package that are read, and the most files of a row's package.
 const MOST: usize = 100;
 
 /// The questions about a package with files of some sizes.
@@ -36,22 +36,23 @@ pub(crate) enum Asked {
     Ends,
 }
 
-/// Which parts of a package are read.
+/// What is read of a package, and what is added to the answer.
 #[derive(Clone, Copy)]
 struct Reading<'r> {
     /// Whether the front (header and first block) alone is read, and no piece.
     front: bool,
-    /// Whether the number of calls on the tree after the front was read is printed, and the longest
-    /// read.
+    /// Whether two numbers are added to the answer: of the calls on the tree after the front was
+    /// read, and of the bytes of the longest read.
     counts: bool,
-    /// The position of the file that is read again first, and then all files before it; 0 for none.
+    /// If above 0, files are read again, from the file with this position down to the first file.
     back: u32,
-    /// The bytes that replace the package before its files are read again, if it is replaced.
+    /// The bytes that replace the package before its files are read again; None if the package
+    /// stays.
     changed: Option<&'r [u8]>,
 }
 
 impl Reading<'_> {
-    /// All pieces are read once, and nothing else is printed.
+    /// All pieces are read once, and nothing else is added to the answer.
     const PIECES: Reading<'static> = Reading {
         front: false,
         counts: false,
@@ -60,14 +61,15 @@ impl Reading<'_> {
     };
 }
 
-/// Adds to `answer` the answer to a question about a package, as the README of this crate lists it;
-/// if the question takes a number, it precedes the sizes of the files.
+/// Adds to `answer` the answer to a question about a package, as the README of this crate lists it.
+/// If the question takes a number, the number is before the sizes of the files in the row.
 pub(crate) fn add_asked(
     alloc: Global,
     asked: Asked,
     words: &Words,
     answer: &mut Vec<u8>,
 ) -> Result<(), AllocError> {
+    // The offset or the length in the row, if the question takes one.
     let number = small_number(word_at(words, 1)) as usize;
     // The index of the word with the first size, and the flaw of the package.
     let (first, flaw) = match asked {
@@ -82,8 +84,8 @@ pub(crate) fn add_asked(
     add_asked_of(alloc, asked, number, &sizes, &file, answer)
 }
 
-/// Adds to `answer` the answer to a question about the package in `file`. The number is the one of
-/// the row, an offset or a length.
+/// Adds to `answer` the answer to a question about the package in `file`. `number` is the offset or
+/// the length in the row, if the question takes one.
 fn add_asked_of(
     alloc: Global,
     asked: Asked,
@@ -92,6 +94,7 @@ fn add_asked_of(
     file: &[u8],
     answer: &mut Vec<u8>,
 ) -> Result<(), AllocError> {
+    // What is read, if the question asks for no more than the pieces.
     let mut reading = Reading::PIECES;
     match asked {
         Asked::Ends => return add_cuts(alloc, file, number, reading, answer),
@@ -104,8 +107,8 @@ fn add_asked_of(
     add_package(alloc, file, reading, answer)
 }
 
-/// Adds the result of reading a package and then its files again, from the last to the first. In
-/// between, the byte at the offset `at` of the last file is changed.
+/// Adds to `answer` the result of reading a package, and then of reading its files again, from the
+/// last to the first. In between, the byte at the offset `at` of the last file is changed.
 fn add_changed(
     alloc: Global,
     file: &[u8],
@@ -123,7 +126,7 @@ fn add_changed(
     add_package(alloc, file, reading, answer)
 }
 
-/// The sizes of files in the words from an index on.
+/// The sizes of files in the words of the row from the index `first` on.
 fn sizes_from(alloc: Global, words: &Words, first: usize) -> Result<Vec<u32>, AllocError> {
     let mut sizes = Vec::new(alloc);
     for i in first..words.len() {
@@ -146,8 +149,8 @@ pub(crate) fn add_fronts(
     add_cuts(alloc, file, 0, reading, answer)
 }
 
-/// Adds the results for a package that is cut to each length from `first` on: a length and its
-/// result wherever the result differs from that of the length before.
+/// Adds to `answer` the results for a package that is cut to each length from `first` on. A length
+/// is added with its result if the result differs from that of the length before.
 fn add_cuts(
     alloc: Global,
     file: &[u8],
@@ -155,6 +158,7 @@ fn add_cuts(
     reading: Reading<'_>,
     answer: &mut Vec<u8>,
 ) -> Result<(), AllocError> {
+    // The result for the length before.
     let mut last = Vec::new(alloc);
     for len in first..=file.len() {
         let found = package_text(alloc, &file[..len], reading)?;
@@ -166,7 +170,7 @@ fn add_cuts(
     Ok(())
 }
 
-/// Adds a length, and the result for a package that is cut to it.
+/// Adds to `answer` a length, and the result (`found`) for the package that is cut to this length.
 fn add_cut(
     alloc: Global,
     len: usize,
@@ -178,7 +182,7 @@ fn add_cut(
     add_word(answer, found)
 }
 
-/// The result of reading a package.
+/// The text that is added to the answer for the package in `file`.
 fn package_text(alloc: Global, file: &[u8], reading: Reading<'_>) -> Result<Vec<u8>, AllocError> {
     let mut text = Vec::new(alloc);
     add_package(alloc, file, reading, &mut text)?;
@@ -187,7 +191,7 @@ fn package_text(alloc: Global, file: &[u8], reading: Reading<'_>) -> Result<Vec<
 
 // ---- a package in a tree
 
-/// Adds the result of reading a package that is a file of these bytes in a tree.
+/// Adds to `answer` the result of reading the package with these bytes, as a file in a tree.
 fn add_package(
     alloc: Global,
     file: &[u8],
@@ -210,7 +214,7 @@ fn put(tree: &mut MemoryTree, name: &Name, bytes: &[u8]) -> Result<(), AllocErro
     Ok(())
 }
 
-/// Adds the result of reading the package that is the file of this name.
+/// Adds to `answer` the result of reading the package under this name in the tree.
 fn add_readings(
     alloc: Global,
     tree: &mut MemoryTree,
@@ -227,8 +231,8 @@ fn add_readings(
     }
 }
 
-/// Adds the pieces of a package whose front (header and first block) was read; then, if the row
-/// asks for it, the pieces of files read again, and the counts of calls.
+/// Adds to `answer` the pieces of a package whose front (header and first block) was read. Then, if
+/// `reading` asks for them, adds the pieces of files that are read again, and the counts.
 fn add_after_front(
     alloc: Global,
     tree: &mut MemoryTree,
@@ -237,6 +241,7 @@ fn add_after_front(
     reading: Reading<'_>,
     answer: &mut Vec<u8>,
 ) -> Result<(), AllocError> {
+    // The number of calls on the tree so far.
     let calls = tree.calls();
     let whole = add_contents(alloc, tree, name, front, reading.front, answer)?;
     if whole && reading.back > 0 {
@@ -248,7 +253,8 @@ fn add_after_front(
     Ok(())
 }
 
-/// Adds how many calls on the tree followed the first `before` calls, and the longest read.
+/// Adds to `answer` how many calls on the tree followed the first `before` calls, and the length of
+/// the longest read.
 fn add_counts(
     alloc: Global,
     tree: &MemoryTree,
@@ -262,8 +268,8 @@ fn add_counts(
     add_number(alloc, answer, u128::from(tree.longest_read()))
 }
 
-/// Adds the pieces of a package, or why its values are bad, and returns whether all pieces were
-/// read.
+/// Adds to `answer` the pieces of a package, or why its values are bad. Returns whether all pieces
+/// were read.
 fn add_contents(
     alloc: Global,
     tree: &mut MemoryTree,
@@ -282,8 +288,8 @@ fn add_contents(
     }
 }
 
-/// Adds the number of folders if only the front is read, and else the pieces; returns whether all
-/// pieces were read.
+/// Adds to `answer` the number of the package's folders if only the front is read, and otherwise
+/// the pieces. Returns whether all pieces were read.
 fn add_pieces(
     alloc: Global,
     tree: &mut MemoryTree,
@@ -300,7 +306,7 @@ fn add_pieces(
     add_all(alloc, tree, &mut reader, answer)
 }
 
-/// Adds how many folders the values of a package have. The result is false, as no piece is read.
+/// Adds to `answer` how many folders the package has. Returns false, as no piece is read.
 fn add_folders(
     alloc: Global,
     contents: &Contents<'_>,
@@ -311,8 +317,8 @@ fn add_folders(
     Ok(false)
 }
 
-/// Adds all pieces that are left, and returns whether the end was reached. After a fault it makes
-/// one more call.
+/// Adds to `answer` all pieces that are left, and returns whether the end was reached. After a
+/// fault, one more call is made, and its result is added too.
 fn add_all(
     alloc: Global,
     tree: &mut MemoryTree,
@@ -320,6 +326,7 @@ fn add_all(
     answer: &mut Vec<u8>,
 ) -> Result<bool, AllocError> {
     let mut piece = Piece::new();
+    // Whether a call had a fault before.
     let mut faulty = false;
     for _ in 0..MOST {
         match reader.next_piece(tree, &mut piece) {
@@ -340,8 +347,8 @@ fn add_all(
     Ok(false)
 }
 
-/// Tests the package, and replaces it by the changed bytes if there are any. Then adds the lengths
-/// of the pieces of file `reading.back` and of all before it, from the last to the first.
+/// Tests the package, and replaces it by `reading.changed`, if these are given. Then adds to
+/// `answer` the lengths of the pieces of the files, from the position `reading.back` to the first.
 fn add_again(
     alloc: Global,
     tree: &mut MemoryTree,
@@ -363,8 +370,8 @@ fn add_again(
     }
 }
 
-/// Adds the lengths of the pieces of the files from the position `back` to the first, until one has
-/// a fault.
+/// Adds to `answer` the lengths of the pieces of the files from the position `back` to the first,
+/// until a file has a fault.
 fn add_files(
     alloc: Global,
     tree: &mut MemoryTree,
@@ -382,8 +389,8 @@ fn add_files(
     Ok(())
 }
 
-/// Adds the lengths of the pieces of a file, and returns whether the end was reached. After a fault
-/// it makes one more call.
+/// Adds to `answer` the lengths of the pieces of a file, and returns whether the end was reached.
+/// After a fault, one more call is made, and its result is added too.
 fn add_file(
     alloc: Global,
     tree: &mut MemoryTree,
@@ -391,6 +398,7 @@ fn add_file(
     answer: &mut Vec<u8>,
 ) -> Result<bool, AllocError> {
     let mut piece = Piece::new();
+    // Whether a call had a fault before.
     let mut faulty = false;
     for _ in 0..MOST {
         match file.next_piece(tree, &mut piece) {
@@ -411,13 +419,13 @@ fn add_file(
     Ok(false)
 }
 
-/// Adds how long a piece is.
+/// Adds to `answer` how many bytes a piece has.
 fn add_len(alloc: Global, piece: &Piece, answer: &mut Vec<u8>) -> Result<(), AllocError> {
     add_word(answer, b"")?;
     add_number(alloc, answer, piece.bytes().len() as u128)
 }
 
-/// Adds a fault of reading a piece: the cause, or that the tree failed.
+/// Adds to `answer` why no piece was read: the cause of a failed test, or that the tree failed.
 fn add_fault(alloc: Global, fault: PieceFault, answer: &mut Vec<u8>) -> Result<(), AllocError> {
     match fault {
         PieceFault::Bad(cause) => add_cause(alloc, cause, answer),

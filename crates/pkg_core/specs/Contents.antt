@@ -34,8 +34,8 @@ pub record ExpectedFile : Type 0 where
   -- its digest
   pub hash : List ℕ
 
--- the file `file` at the position `i` of a folder, if the file has contents: it has no target, and its
--- size is above 0
+-- the expected file for the entry `file`, at the position `i` in the folder at the position `folder`. No
+-- element if the file has no contents. A file has contents if it has no target, and its size is above 0
 abbrev pub expected_at : ℕ → ℕ → Plain → List ExpectedFile
 expected_at folder i file =
     if is_file_with_contents file
@@ -47,13 +47,15 @@ expected_at folder i file =
     } ∷ []
     else []
 
--- the files of a folder that have contents; the first of these files has the position i in the folder
+-- the files of the folder at the position `folder` that have contents; the first of the given files has
+-- the position `i` in it
 abbrev pub expected_files_of_folder : ℕ → ℕ → List Plain → List ExpectedFile
 expected_files_of_folder folder i [] = []
 expected_files_of_folder folder i (file ∷ files) =
     expected_at folder i file ++ expected_files_of_folder folder (i + 1) files
 
--- the files of several folders that have contents; the first of these folders has the position i
+-- the files of several folders that have contents; the first of the given folders has the position `i` in
+-- the package
 abbrev pub expected_files_of_folders : ℕ → List Plain → List ExpectedFile
 expected_files_of_folders i [] = []
 expected_files_of_folders i (folder ∷ folders) =
@@ -80,9 +82,9 @@ abbrev pub digest_fault : (List ℕ → Digest) → List ℕ → List ℕ → Op
 digest_fault as_digest wanted found =
     if bytes_eq wanted found then None else Some (HashDiffers (as_digest wanted) (as_digest found))
 
--- the fault of bytes that do not have this digest, if they do not. The length of the digest selects the
--- function (FIPS 180-4): 20 bytes SHA-1, 32 SHA-256, 64 SHA-512. A digest of another length is not
--- compared
+-- the fault if the bytes do not have the digest `hash`; None if they have it. The length of the digest
+-- selects the function (FIPS 180-4): 20 bytes SHA-1, 32 SHA-256, 64 SHA-512. A digest of another length
+-- is not compared
 unfoldable pub hash_fault : List ℕ → List ℕ → Option Cause
 hash_fault hash bytes =
     if length hash == 20 then digest_fault Sha1 hash (sha1 bytes)
@@ -105,20 +107,20 @@ contents_fault_for_expected_file payload e =
     then Some (DataSize e.size (length (contents_bytes payload)))
     else hash_fault e.hash (contents_bytes payload)
 
--- the first failed test of contents against the next expected file; if none is expected, any contents
--- are out of order, and (0, 0) was expected
+-- the first failed test of a block of contents against the first of the files that are still expected. If
+-- none is expected, the contents are out of order, and the reported expected positions are (0, 0)
 abbrev pub next_contents_fault : List ℕ → List ExpectedFile → Option Cause
 next_contents_fault payload [] = Some (DataOrder (0, 0) (contents_positions payload))
 next_contents_fault payload (e ∷ es) = contents_fault_for_expected_file payload e
 
--- the first failed test of a block of contents at an offset: it has the bytes of the positions, and its
--- contents are those of the next expected file
+-- the first failed test of the block of contents with this payload at the offset `at`. The payload must
+-- have the eight bytes of the positions, and the contents must be those of the first expected file
 abbrev pub contents_block_fault : List ℕ → ℕ → List ExpectedFile → Option Cause
 contents_block_fault payload at es =
     if nat_lt (length payload) POSITIONS_LEN then Some (Truncated at) else next_contents_fault payload es
 
--- the fault at the end of the blocks, if a file is still expected: its positions were expected, and
--- (0, 0) was found
+-- the fault at the end of the blocks if files are still expected: the positions of the first of them were
+-- expected, and (0, 0) is reported as found
 abbrev pub missing_contents_fault : List ExpectedFile → Option Cause
 missing_contents_fault [] = None
 missing_contents_fault (e ∷ es) = Some (DataOrder (e.folder, e.file) (0, 0))
@@ -135,7 +137,8 @@ pub record Contents : Type 0 where
   -- the bytes of the file
   pub bytes : List ℕ
 
--- the files with their contents in order, up to the last or to the first failed test
+-- the result of reading the files with contents in order: each file that is read (`given`), and then the
+-- end (`no_more`) or the first failed test (`refused`)
 pub data FilesRead : Type 0 where
   no_more : FilesRead
   refused : Cause → FilesRead
@@ -146,17 +149,20 @@ abbrev pub files_unless_fault : Option Cause → FilesRead → FilesRead
 files_unless_fault None files = files
 files_unless_fault (Some c) files = refused c
 
--- the contents of an expected file: the bytes after its positions
+-- the contents of the expected file `e`, from a block with this payload: the bytes after the two
+-- positions
 abbrev pub contents_of_expected : List ℕ → ExpectedFile → Contents
 contents_of_expected payload e = record { folder = e.folder; file = e.file; bytes = contents_bytes payload }
 
--- the contents of the next expected file, from a block with this payload, and the files after it
--- (`further`)
+-- the contents of the first expected file, from a block with this payload. `further` gives the files that
+-- are read after it, from the files that are then still expected
 abbrev pub with_contents_of_next : List ℕ → (List ExpectedFile → FilesRead) → List ExpectedFile → FilesRead
 with_contents_of_next payload further [] = no_more
 with_contents_of_next payload further (e ∷ es) = given (contents_of_expected payload e) (further es)
 
--- the files from a block on, with `further` for those after it; a block without contents is skipped
+-- the files that are read from a block with this kind, payload and offset `at` on. `further` gives those
+-- of the blocks after it, from the files that are then still expected; a block without contents is
+-- skipped
 abbrev pub files_at_block :
     BlockKind → List ℕ → ℕ → (List ExpectedFile → FilesRead) → List ExpectedFile → FilesRead
 files_at_block Kinds.Contents payload at further es =
@@ -188,16 +194,17 @@ contents_fault es r = fault_of_files_read (files_read_from_blocks es r)
 
 -- ---- the bytes of one file
 
--- whether contents are of the file at these positions
+-- whether these contents are those of the file at the position `file` in the folder at the position
+-- `folder`
 abbrev pub is_contents_of_file : ℕ → ℕ → Contents → Bool
 is_contents_of_file folder file contents = (contents.folder == folder) && (contents.file == file)
 
--- the bytes of some contents; none if there are none
+-- the bytes of the contents; no bytes if there are no contents
 abbrev pub bytes_or_none : Option Contents → List ℕ
 bytes_or_none None = []
 bytes_or_none (Some contents) = contents.bytes
 
--- the bytes of the file with these positions, among the contents of a package; a file without contents
--- is empty
+-- the bytes of the file at the position `file` in the folder at the position `folder`, among the contents
+-- of a package. There are none if no contents are those of this file
 abbrev pub bytes_of_file : ℕ → ℕ → List Contents → List ℕ
 bytes_of_file folder file contents = bytes_or_none (find (is_contents_of_file folder file) contents)

@@ -20,26 +20,27 @@ abbrev pub with_block_if_contents : BlockKind → PlacedPayload → List PlacedP
 with_block_if_contents Kinds.Contents block blocks = block ∷ blocks
 with_block_if_contents kind block blocks = blocks
 
--- the blocks of contents that are read
+-- the blocks of contents among the blocks that are read, in order
 abbrev pub blocks_of_contents : Reading → List PlacedPayload
 blocks_of_contents done = []
 blocks_of_contents (fault c) = []
 blocks_of_contents (more b at r) = with_block_if_contents b.kind (b.payload, at) (blocks_of_contents r)
 
--- the fault of one test. A block is tested against the files that are still expected. If no block is
--- left, first the framing is tested, then that no file is left
+-- the fault of one test. A block is tested against the first of the files that are still expected (`es`).
+-- After the last block, the fault of the framing (`framing`) is first, if there is one, and then that a
+-- file is left
 abbrev pub contents_test_fault : Option Cause → List ExpectedFile → Option PlacedPayload → Option Cause
 contents_test_fault framing es (Some block) = contents_block_fault block.0 block.1 es
 contents_test_fault framing es None = option_or framing (missing_contents_fault es)
 
--- the k-th test, counted from 0: block k against the files from k on
+-- the test with the number `k`, counted from 0: the block of contents `k` against the expected file `k`
 abbrev pub contents_test_fault_at : List ExpectedFile → Reading → ℕ → Option Cause
 contents_test_fault_at es r k =
     contents_test_fault (result_err (blocks_of_stream r)) (drop k es) (slice_get (blocks_of_contents r) k)
 
--- one of the tests has this fault, and none before it has one
+-- one of the tests of the blocks fails with the fault `c`, and no test before it fails
 pub record IsFirstContentsFault (es : List ExpectedFile) (r : Reading) (c : Cause) : Type 0 where
-  -- the number of the block whose test fails, counted from 0
+  -- the number of the test that fails, counted from 0
   pub k : ℕ
   -- there is a test for each block, and one more after the last block
   pub reached : k ≤ length (blocks_of_contents r)

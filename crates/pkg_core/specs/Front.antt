@@ -1,6 +1,6 @@
 -- The front of a container: its header and its first block, and their tests. The rules are in
--- `docs/formats.md`, "The other blocks", the paragraph of a front; the tests in "Container", the table,
--- and "Values", the first paragraph.
+-- `docs/formats.md`, "The other blocks", point 1 of the last list (the front); the tests in "Container",
+-- the table, and "Values", the first paragraph.
 use Rattle.std.specs.Prelude.{◌≡◌, ℕ, ◌==◌, if◌then◌else◌, List, length, drop, Option, Some, None, Result, Ok, Err}
 use Rattle.base_core.specs.declared.cause.Cause.{Cause}
 use Rattle.base_core.specs.declared.cause.Cause.TheVariants.{WrongSchema}
@@ -21,8 +21,8 @@ front_block_fault done = None
 front_block_fault (fault c) = Some c
 front_block_fault (more b at r) = payload_head_fault b.payload
 
--- the first failed test of the front of a file with this result for its header; the file must have
--- this schema
+-- the first failed test of the front of a file that must have the schema `schema`, given the result of
+-- reading its header: the schema found, or a fault
 abbrev pub front_fault_after_header : ℕ → List ℕ → Result ℕ Cause → Option Cause
 front_fault_after_header schema file (Err c) = Some c
 front_fault_after_header schema file (Ok found) =
@@ -47,7 +47,7 @@ front_file_len front = front.len
 abbrev pub front_end : Front → ℕ
 front_end front = front.at
 
--- the position of a reader of blocks after a front, in this file
+-- the position of a reader of the blocks of this file after the front
 abbrev pub position_after_front : Front → List ℕ → ReaderPosition
 position_after_front front file = record {
   schema = front.schema;
@@ -72,8 +72,8 @@ pub record IsFrontOf (schema : ℕ) (file : List ℕ) (front : Front) : Type 0 w
   -- the head of the first payload passes its tests
   pub head : payload_head_fault (front_payload front) ≡ None
 
--- the result of reading a front, for a file or for none; an I/O error of the tree and running out of
--- memory say nothing about it
+-- the result of reading the front of a file that must have this schema, or of no file: the front, None
+-- for no file, or the first failed test. After an I/O error or out of memory nothing is stated
 abbrev pub IsFrontRead : ℕ → Option (List ℕ) → Result (Option Front) FrontFault → Type 0
 IsFrontRead schema None (Ok None) = Unit {0}
 IsFrontRead schema None (Ok (Some front)) = ⊥
@@ -88,19 +88,21 @@ IsFrontRead schema (Some file) (Err Memory) = Unit {0}
 
 -- ---- the front of a file that exists
 
--- the position of a reader of blocks after the first block of a file, which ends at this offset
+-- the position of a reader of the blocks of this file after the first block, which ends at the offset
+-- `at`
 abbrev pub position_after_first_block : ℕ → ℕ → List ℕ → ReaderPosition
 position_after_first_block schema at file =
     record { schema = schema; last = Some Adb; at = at; left = drop at file }
 
--- an I/O error of the tree, or out of memory; it says nothing about the container
+-- the fault is an I/O error of the tree, or out of memory, and not a failed test of the container
 abbrev pub IsDiskOrMemoryFault : FrontFault → Type 0
 IsDiskOrMemoryFault (Bad c) = ⊥
 IsDiskOrMemoryFault Disk = Unit {0}
 IsDiskOrMemoryFault Memory = Unit {0}
 
--- the result of reading the front of a file that exists, of which this many bytes were read: the front
--- takes exactly these
+-- the result of reading the front of a file that exists: its front, or the first failed test. The front
+-- ends after the first `seen` bytes of the file, which were read. After an I/O error or out of memory
+-- nothing is stated
 abbrev pub IsFrontReadOfFile : ℕ → Result Front FrontFault → ℕ → List ℕ → Type 0
 IsFrontReadOfFile schema (Ok front) seen file = IsFrontOf schema file front × (front.at ≡ seen)
 IsFrontReadOfFile schema (Err (Bad c)) seen file = front_fault schema file ≡ Some c

@@ -8,15 +8,16 @@ use Rattle.sha2.specs.Sha512.{sha512}
 use Rattle.adb_schema.specs.Rules.{is_digest_length}
 use Rattle.pkg_core.specs.Contents.{Contents, ExpectedFile, hash_fault}
 
--- the contents are those of the file that is expected: its positions, its size and its digest
+-- the contents are those of the expected file: they have its positions, its size and its digest
 pub record IsContentsOf (e : ExpectedFile) (contents : Contents) : Type 0 where
-  -- the position of its folder
+  -- the position of the file's folder
   pub folder : contents.folder ≡ e.folder
-  -- its position in the folder
+  -- the position of the file in the folder
   pub file : contents.file ≡ e.file
-  -- its size
+  -- the size of the file
   pub size : length contents.bytes ≡ e.size
-  -- its digest: the comparison has no fault
+  -- the digest of the file: it is equal to the computed one, unless its length is that of none of the
+  -- three functions
   pub hash : hash_fault e.hash contents.bytes ≡ None
 
 -- there are contents for each expected file, in order, and no others
@@ -28,23 +29,24 @@ AreContentsOf (e ∷ es) (contents ∷ others) = IsContentsOf e contents × AreC
 
 -- ---- if the values of the package are good
 
--- the digest is that of the bytes, by one of the three functions
+-- `hash` is the digest of the bytes by SHA-1, SHA-256 or SHA-512
 abbrev pub IsDigestOf : List ℕ → List ℕ → Type 0
 IsDigestOf hash bytes = (hash ≡ sha1 bytes) ⊎ ((hash ≡ sha256 bytes) ⊎ (hash ≡ sha512 bytes))
 
--- the contents are those of the file's entry
+-- the contents have the positions and the size of the expected file, and its digest by one of the three
+-- functions
 pub record MatchesExpected (e : ExpectedFile) (contents : Contents) : Type 0 where
-  -- the position of its folder
+  -- the position of the file's folder
   pub folder : contents.folder ≡ e.folder
-  -- its position in the folder
+  -- the position of the file in the folder
   pub file : contents.file ≡ e.file
-  -- its size
+  -- the size of the file
   pub size : length contents.bytes ≡ e.size
-  -- its digest, by SHA-1, SHA-256 or SHA-512
+  -- the digest of the file, by SHA-1, SHA-256 or SHA-512
   pub digest : IsDigestOf e.hash contents.bytes
 
--- there are contents for each expected file, in order and no others, and each are those of the file's
--- entry
+-- there are contents for each expected file, in order, and no others; each has the positions, the size
+-- and the digest of its file
 abbrev pub MatchEachExpectedSizeAndDigest : List ExpectedFile → List Contents → Type 0
 MatchEachExpectedSizeAndDigest [] [] = Unit {0}
 MatchEachExpectedSizeAndDigest [] (contents ∷ others) = ⊥

@@ -7,8 +7,9 @@ use Rattle.pkg_core.specs.Contents.{hash_fault}
 use Rattle.pkg_core.specs.declared.hasher.Hasher.{Hasher}
 use Rattle.pkg_core.specs.declared.hasher.Hasher.TheVariants as Hashers
 
--- a hasher has taken this message, to be compared with this digest: it is of the function that the
--- digest's length selects; for another length no bytes have a fault
+-- the hasher has taken the bytes `message`, whose digest is to be compared with `hash`. Its function is
+-- the one that the length of `hash` selects. `Other` is for a digest of any other length, which is not
+-- compared, so that no bytes have a fault
 abbrev pub HasHashedMessage : Hasher → List ℕ → List ℕ → Type 0
 HasHashedMessage (Hashers.Sha1 hasher) hash message = (length hash ≡ 20) × Holds hasher message
 HasHashedMessage (Hashers.Sha256 hasher) hash message = (length hash ≡ 32) × Holds256 hasher message

@@ -21,8 +21,9 @@ use Rattle.pkg_core.specs.declared.walk.FileContents.{FileContents}
 abbrev pub contents_view : FileContents → Contents
 contents_view f = record { folder = f.path; file = f.file; bytes = f.bytes.now }
 
--- the result of a call for the next file, by the files left before and after it: the next file; None if
--- no file is left; or the first failed test, which each later call returns again
+-- the result of a call for the next file; `before` are the files that were left before the call, and
+-- `after` those left after it. It is the first file left; None if no file is left; or the first failed
+-- test, which each later call returns again
 abbrev pub IsNextFile : FilesRead → Result (Option FileContents) Cause → FilesRead → Type 0
 IsNextFile before (Ok None) after = (before ≡ no_more) × (after ≡ no_more)
 IsNextFile before (Ok (Some f)) after = before ≡ given (contents_view f) after
@@ -30,12 +31,12 @@ IsNextFile before (Err c) after = (before ≡ refused c) × (after ≡ refused c
 
 -- ---- the walk over the files
 
--- the file that is wanted next
+-- the wanted file, as contracts see it
 abbrev pub expected_of : Wanted → ExpectedFile
 expected_of w = record { folder = w.folder; file = w.file; size = w.size; hash = w.hash.now }
 
--- the files with contents that are left in some folders: the first of these folders has the position
--- i, and its first j files are passed
+-- the files with contents that are left in some folders: the first of these folders has the position `i`,
+-- and its first `j` files are already passed
 abbrev pub files_left_from : ℕ → ℕ → List Plain → List ExpectedFile
 files_left_from i j [] = []
 files_left_from i j (folder ∷ folders) =
@@ -48,19 +49,20 @@ files_left_in_walk walk =
     files_left_from (walk.folder + 1) walk.file
     (drop walk.folder (list_of (entries_in (list_value walk.folders))))
 
--- the walk takes the first of the files before it and has the others after it, or returns None if there
--- is none
+-- the walk returns the first of the files that were left (`before`), and the others are left then
+-- (`after`). Or None, if no file was left
 abbrev pub TakesFirstExpected : List ExpectedFile → Option Wanted → List ExpectedFile → Type 0
 TakesFirstExpected before None after = (before ≡ []) × (after ≡ [])
 TakesFirstExpected before (Some w) after = before ≡ expected_of w ∷ after
 
 -- ---- one file
 
--- whether a file is the one at these positions
+-- whether the expected file `e` is at the position `file` in the folder at the position `folder`
 abbrev pub is_expected_at : ℕ → ℕ → ExpectedFile → Bool
 is_expected_at folder file e = (e.folder == folder) && (e.file == file)
 
--- the file with these positions among files that have contents, if it is there
+-- the file at the position `file` in the folder at the position `folder`, among these expected files;
+-- None if it is not there
 abbrev pub expected_file_at : ℕ → ℕ → List ExpectedFile → Option ExpectedFile
 expected_file_at folder file es = find (is_expected_at folder file) es
 
@@ -71,7 +73,7 @@ expected_file_at folder file es = find (is_expected_at folder file) es
 abbrev pub files_left : Rest → FilesRead
 files_left rest = files_read_from_blocks (files_left_in_walk rest.walk) (block_stream_from rest.blocks)
 
--- the files, unless a test failed before: then that fault alone
+-- the files that are still to be read, unless a test failed before: then only the fault of this test
 abbrev pub unless_refused : Option Cause → FilesRead → FilesRead
 unless_refused None files = files
 unless_refused (Some c) files = refused c
@@ -82,14 +84,16 @@ ReadsNext before (Ok None) after = (before ≡ no_more) × (after ≡ no_more)
 ReadsNext before (Ok (Some f)) after = before ≡ given (contents_view f) after
 ReadsNext before (Err c) after = before ≡ refused c
 
--- the contents in a payload are those of the first expected file, and the others are left
+-- `f` has the contents in the payload as those of the first expected file, and the other files stay
+-- expected (`after`)
 abbrev pub ReturnsContentsOfFirst : List ℕ → FileContents → List ExpectedFile → List ExpectedFile → Type 0
 ReturnsContentsOfFirst payload f [] after = ⊥
 ReturnsContentsOfFirst payload f (e ∷ es) after =
     (contents_view f ≡ contents_of_expected payload e) × (es ≡ after)
 
--- the result of the walk for a block of contents at an offset: those of the next file, if no test
--- fails, or the first failed test
+-- the result of the walk for the block of contents with this payload at the offset `at`. If no test
+-- fails, it is the contents of the first file that was left (`before`), and the others are left
+-- (`after`). Otherwise it is the first failed test
 abbrev pub ReturnsNextContents : List ℕ → ℕ → List ExpectedFile → Result FileContents Cause
     → List ExpectedFile
     → Type 0
@@ -103,7 +107,7 @@ ReturnsNextContents payload at before (Err c) after = contents_block_fault paylo
 abbrev pub opened_value : Package → Plain
 opened_value pkg = checked_value pkg.checked
 
--- the bytes of a package's value
+-- the payload of the first block of a package, which has the package's values
 abbrev pub opened_payload : Package → List ℕ
 opened_payload pkg = pkg.payload.now
 

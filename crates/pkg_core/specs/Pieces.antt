@@ -1,6 +1,5 @@
 -- The contents of a package's files in pieces, or the first failed test. The rules are in
--- `docs/formats.md`, "The other blocks", the paragraph of pieces; the tests in the paragraph of blocks
--- of contents above it.
+-- `docs/formats.md`, "The other blocks", point 2 of the last list; the tests in the first list.
 use Rattle.std.specs.Prelude.{ℕ, zero, suc, ◌-◌, ◌/◌, ◌==◌, ◌++◌, nat_lt, Bool, true, false, not, if◌then◌else◌, List, [], ◌∷◌, length, take, drop, Option, Some, None}
 use Rattle.base_core.specs.declared.cause.Cause.{Cause}
 use Rattle.base_core.specs.declared.cause.Cause.TheVariants.{Truncated, DataOrder, DataSize}
@@ -24,14 +23,14 @@ pub data PiecesRead : Type 0 where
 abbrev pub part_of : ExpectedFile → Bool → Part
 part_of e last = record { path = e.folder; file = e.file; last = last }
 
--- the last piece of a file, and then further ones. If the digest of all bytes of the file is wrong
--- (`Some c`), its fault is in their place
+-- the last piece of a file, and then the further pieces. If the digest of all bytes of the file is wrong
+-- (`Some c`), this fault is in place of the last piece and of all further ones
 abbrev pub last_piece : ExpectedFile → Option Cause → List ℕ → PiecesRead → PiecesRead
 last_piece e None bytes further = piece (part_of e true) bytes further
 last_piece e (Some c) bytes further = refusal c
 
--- the pieces of a file's bytes: this many whole ones, then the last one, and then further pieces of
--- other files
+-- the pieces of the bytes of the file `e`: this many pieces of the full length, then the last one, and
+-- then the further pieces, of other files. `digest` is the fault of the file's digest, if it is wrong
 abbrev pub pieces_of_one_file : ℕ → ExpectedFile → Option Cause → List ℕ → PiecesRead → PiecesRead
 pieces_of_one_file zero e digest bytes further = last_piece e digest bytes further
 pieces_of_one_file (suc n) e digest bytes further =
@@ -60,21 +59,23 @@ position_or_size_fault payload e =
     then Some (DataSize e.size (length (contents_bytes payload)))
     else None
 
--- the pieces, unless a test failed; then its fault in their place
+-- the pieces, unless a test failed: then its fault is in place of them
 abbrev pub pieces_unless_fault : Option Cause → PiecesRead → PiecesRead
 pieces_unless_fault None pieces = pieces
 pieces_unless_fault (Some c) pieces = refusal c
 
--- the pieces of a payload of contents against the next expected file, and then further ones; if none is
--- expected any contents are out of order, and (0, 0) was expected
+-- the pieces of a payload of contents, tested against the first expected file, and then the further
+-- pieces. If no file is expected, the contents are out of order, and the reported expected positions are
+-- (0, 0)
 abbrev pub pieces_of_payload : List ℕ → (List ExpectedFile → PiecesRead) → List ExpectedFile → PiecesRead
 pieces_of_payload payload further [] = refusal (DataOrder (0, 0) (contents_positions payload))
 pieces_of_payload payload further (e ∷ es) =
     pieces_unless_fault (position_or_size_fault payload e)
     (pieces_of_bytes e (contents_bytes payload) (further es))
 
--- the pieces from a block at an offset on, with `further` for those after it; a block without contents
--- is skipped, and one of contents has the bytes of the positions
+-- the pieces from a block with this kind, payload and offset `at` on. `further` gives those of the blocks
+-- after it, from the files that are then still expected. A block without contents is skipped; a block of
+-- contents must have the eight bytes of the positions
 abbrev pub pieces_at_block : BlockKind → List ℕ → ℕ → (List ExpectedFile → PiecesRead) → List ExpectedFile
     → PiecesRead
 pieces_at_block Kinds.Contents payload at further es =
@@ -84,7 +85,7 @@ pieces_at_block kind payload at further es = further es
 
 -- ---- all of them
 
--- the pieces of the blocks, against the files that are expected
+-- the pieces that are read from the blocks, which are tested against the expected files (`es`)
 unfoldable pub pieces_read_from_blocks : List ExpectedFile → Reading → PiecesRead
 pieces_read_from_blocks es done = pieces_unless_fault (missing_contents_fault es) no_piece
 pieces_read_from_blocks es (fault c) = refusal c
@@ -99,15 +100,15 @@ refusal_of_pieces (piece part bytes pieces) = refusal_of_pieces pieces
 
 -- ---- joined
 
--- the files from a piece on, after these bytes of its file were gathered: the file is complete with its
--- last part, and until then `further` continues with the bytes
+-- the files from a piece on. `bytes` are the bytes of its file up to this piece. If the piece is the last
+-- one, the file is complete; until then `further` continues with these bytes
 abbrev pub files_from_piece : Part → List ℕ → (List ℕ → FilesRead) → FilesRead
 files_from_piece part bytes further =
     if part.last
     then given (record { folder = part.path; file = part.file; bytes = bytes }) (further [])
     else further bytes
 
--- the files whose pieces these are, after these bytes of the first file were gathered
+-- the files whose pieces these are; `so_far` are the bytes of the first file from earlier pieces
 abbrev pub files_joined_from_pieces : PiecesRead → List ℕ → FilesRead
 files_joined_from_pieces no_piece so_far = no_more
 files_joined_from_pieces (refusal c) so_far = refused c

@@ -27,7 +27,7 @@ abbrev pub reader_at_place : BlockPlace → List ℕ → ReaderPosition
 reader_at_place place file =
     record { schema = 0; last = Some place.last; at = place.at; left = drop place.at file }
 
--- the result at a place of this file: a block, the end or a fault
+-- the result of reading the framing at a place of this file: a block, the end, or a fault of the framing
 abbrev pub block_step_at : BlockPlace → List ℕ → BlockStep
 block_step_at place file = next_step (Some place.last) place.at (drop place.at file)
 
@@ -40,7 +40,8 @@ pieces_at place file =
 abbrev pub payload_at : Frame → BlockPlace → List ℕ → List ℕ
 payload_at frame place file = (framed_piece frame (drop place.at file)).payload
 
--- the positions that a reader passes are the first bytes of the block's payload, if it has as many
+-- `positions` are the first eight bytes of the payload of the block of this frame at the place, if the
+-- payload has as many. Without a frame nothing is stated
 abbrev pub HasPositions : Option Frame → List ℕ → BlockPlace → List ℕ → Type 0
 HasPositions None positions place file = Unit {0}
 HasPositions (Some frame) positions place file =
@@ -48,7 +49,8 @@ HasPositions (Some frame) positions place file =
 
 -- ---- a step
 
--- the size of a block with its padding, with this many bytes left
+-- the size of a block with its padding, as far as the file has it: `left` bytes of the file are left from
+-- the block on
 abbrev pub whole_size : Frame → ℕ → ℕ
 whole_size frame left = raw_size frame + min (padding_of (raw_size frame)) (left - raw_size frame)
 
@@ -61,28 +63,29 @@ place_after place frame = record {
   at = place.at + whole_size frame (place.len - place.at);
 }
 
--- all bytes of a file that a step opened are still to be taken: those of the block's payload after the
--- positions
+-- if the step opened a file, all its bytes are still to be taken: those of the payload of the block of
+-- this frame after the positions
 abbrev pub HasWholeFileLeft : Frame → Step → Type 0
 HasWholeFileLeft frame End = Unit {0}
 HasWholeFileLeft frame Passed = Unit {0}
 HasWholeFileLeft frame (Opened f) = POSITIONS_LEN + file_bytes_left f ≡ frame.payload_len
 
--- a step opens a file only by a block of contents
+-- if the step opened a file, the block of this frame is one of contents
 abbrev pub OpensOnlyContents : Frame → Step → Type 0
 OpensOnlyContents frame End = Unit {0}
 OpensOnlyContents frame Passed = Unit {0}
 OpensOnlyContents frame (Opened f) = frame.kind ≡ Kinds.Contents
 
--- the walk before and after a step: it advances over the opened file; at the end no file is expected
+-- the walk before and after a step: it passes an opened file, and no other; at the end it expects no file
 abbrev pub IsWalkAfterStep : Walk → Step → Walk → Type 0
 IsWalkAfterStep before End after = (files_left_in_walk before ≡ []) × (files_left_in_walk after ≡ [])
 IsWalkAfterStep before Passed after = after ≡ before
 IsWalkAfterStep before (Opened f) after =
     files_left_in_walk before ≡ expected_of f.wanted ∷ files_left_in_walk after
 
--- the result of a step at a place of this file: no block is left; a block was passed; the contents of a
--- file begin, and the pieces after them are those from the new position; or the first failed test
+-- the result of a step from the place `before` of this file to the place `after`. `End`: no piece is
+-- left. `Passed`: the pieces are those from the new place on. `Opened`: the pieces are those of the
+-- opened file, and then those from the new place on. Or the first failed test
 abbrev pub IsStepResult : Option Frame → BlockPlace → List ℕ → Result Step Cause → BlockPlace → Type 0
 IsStepResult framing before file (Ok End) after = pieces_at before file ≡ no_piece
 IsStepResult framing before file (Ok Passed) after = pieces_at before file ≡ pieces_at after file

@@ -7,7 +7,8 @@ use Rattle.adb_schema.specs.declared.read.ReadFault.TheVariants as ReadFaults
 use Rattle.pkg_core.specs.declared.pack.PackageFault.{PackageFault}
 use Rattle.pkg_core.specs.declared.pack.PackageFault.TheVariants.{Bad, Memory}
 
--- a bad container is refused with the first failed test; running out of memory says nothing about it
+-- the refusal of a container has the first failed test (`fault`); a refusal for lack of memory says
+-- nothing about the container
 abbrev pub IsFaultOf : PackageFault → Option Cause → Type 0
 IsFaultOf (Bad cause) fault = fault ≡ Some cause
 IsFaultOf Memory fault = Unit {0}

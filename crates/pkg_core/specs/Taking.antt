@@ -1,5 +1,5 @@
--- The progress of a file whose bytes are taken in pieces. The rules are in `docs/formats.md`, "The
--- other blocks", the paragraph of pieces. Serves the contracts of `FileCheck` and `open_file`.
+-- The progress of a file whose bytes are taken in pieces. The rules are in `docs/formats.md`, "The other
+-- blocks", point 2 of the last list (the pieces). Serves the contracts of `FileCheck` and `open_file`.
 use Rattle.std.specs.Prelude.{◌≡◌, ℕ, ◌-◌, min, true, false, List, [], ◌++◌, length, Option, Some, None, Result, Ok, Err}
 use Rattle.base_core.specs.declared.cause.Cause.{Cause}
 use Rattle.pkg_core.specs.Contents.{contents_bytes, hash_fault}
@@ -25,19 +25,22 @@ pub record HasTaken (f : FileCheck) (so_far : List ℕ) : Type 0 where
   -- as many bytes are counted as taken
   pub long : length so_far ≡ f.done
 
--- these bytes of a file with this digest were taken; if none are left (None) they have the digest
+-- exactly `bytes` were taken of a file with the digest `hash`: if no check is left (None), all bytes of
+-- the file, and they have the digest
 abbrev pub HasTakenOrPassedDigest : List ℕ → List ℕ → Option FileCheck → Type 0
 HasTakenOrPassedDigest hash bytes None = hash_fault hash bytes ≡ None
 HasTakenOrPassedDigest hash bytes (Some f) = HasTaken f bytes
 
--- the pieces of the rest of a file, after the bytes that were taken so far, and then further ones
+-- the pieces of the rest of a file (`left`), after the bytes `so_far` that were taken before, and then
+-- the further pieces, of other files
 abbrev pub pieces_in : FileCheck → List ℕ → List ℕ → PiecesRead → PiecesRead
 pieces_in f so_far left further =
     pieces_of_one_file (piece_count_before_last (length left)) (expected_of f.wanted)
     (hash_fault f.wanted.hash.now (so_far ++ left)) left further
 
--- the result for the bytes of a call: they are the next piece, followed by the pieces of the rest or,
--- after the last piece, by the further ones; or the digest differs
+-- the result of taking `bytes`, with `left` as the rest of the file. `bytes` are the next piece, followed
+-- by the pieces of the rest or, after the last piece, by the further ones. An error is that the digest
+-- differs
 abbrev pub IsTakeResult : FileCheck → List ℕ → List ℕ → List ℕ → PiecesRead
     → Result (Part × Option FileCheck) Cause → Type 0
 IsTakeResult f so_far bytes left further (Ok (part, Some g)) =
@@ -49,14 +52,16 @@ IsTakeResult f so_far bytes left further (Ok (part, None)) =
 IsTakeResult f so_far bytes left further (Err c) =
     pieces_in f so_far (bytes ++ left) further ≡ refusal c
 
--- the result is a part of this file, and, unless it is the last, the same file with its rest
+-- the returned part is of this file. If it is not the last one, the check of the rest of the same file is
+-- returned with it
 abbrev pub IsPartOfCheckedFile : FileCheck → Part × Option FileCheck → Type 0
 IsPartOfCheckedFile f (part, Some g) =
     (part ≡ part_of (expected_of f.wanted) false) × (g.wanted ≡ f.wanted)
 IsPartOfCheckedFile f (part, None) = part ≡ part_of (expected_of f.wanted) true
 
--- the result of opening a file for a block of contents with this payload: the contents are those of a
--- file of which nothing was taken yet; or the first failed test
+-- the result of opening the file of a block of contents with this payload. `before` are the pieces from
+-- this block on, and `further` those after it. The check of a file of which no bytes were taken yet: the
+-- pieces are those of its bytes, and then the further ones. Or the first failed test
 abbrev pub IsOpenResult : PiecesRead → List ℕ → PiecesRead → Result FileCheck Cause → Type 0
 IsOpenResult before payload further (Ok f) =
     (before ≡ pieces_in f [] (contents_bytes payload) further) × HasTaken f []

@@ -7,7 +7,7 @@ use Rattle.adb_schema.specs.Soundness.{root_value}
 use Rattle.adb_view.specs.declared.tables.Which.TheVariants.{Package}
 use Rattle.pkg_core.specs.declared.contents.Contents.{Contents}
 
--- the bytes of the value of a package whose values were tested
+-- the payload of the first block of a package whose values were tested
 abbrev pub payload_of_contents : Contents → List ℕ
 payload_of_contents contents = payload_of contents.adb
 

@@ -35,13 +35,13 @@ fault_of_further_blocks which value r = further_blocks_fault_unless_package whic
 unfoldable pub container_fault_of_table : Which → List ℕ → Option Cause
 container_fault_of_table which file = file_fault_with_rest_test (fault_of_further_blocks which) which file
 
--- the first failed test of a file with this schema, whose table is None if the schema is none of the
--- four
+-- the first failed test of a file with this schema, given the table of the schema. None is the table of
+-- any other schema than the four
 abbrev pub container_fault_after_schema : List ℕ → ℕ → Option Which → Option Cause
 container_fault_after_schema file schema None = Some (WrongSchema schema)
 container_fault_after_schema file schema (Some which) = container_fault_of_table which file
 
--- the first failed test of a file with this result for its header
+-- the first failed test of a file, given the result of reading its header: the schema, or a fault
 abbrev pub container_fault_after_header : List ℕ → Result ℕ Cause → Option Cause
 container_fault_after_header file (Err c) = Some c
 container_fault_after_header file (Ok schema) =
@@ -69,7 +69,7 @@ files_after_first_block (fault c) = refused c
 files_after_first_block (more b at r) =
     files_read_from_blocks (expected_files_of_package (root_value Package b.payload)) r
 
--- the files that are read from a package with this result for its header
+-- the files that are read from a package, given the result of reading its header: the schema, or a fault
 abbrev pub files_after_header : List ℕ → Result ℕ Cause → FilesRead
 files_after_header file (Ok schema) =
     files_after_first_block (block_stream_from (first_block_position schema file))

@@ -46,6 +46,7 @@ pub fn verify(alloc: Global, bytes: &[u8]) -> Result<(), PackageFault>
     // On Ok, none of these tests failed.
     ensures sound { IfOk result (λ _. container_fault bytes.now ≡ None) }
 {
+    // The schema in the header of the file.
     let found = Blocks::new(bytes)?.schema();
     match table_of_schema(found) {
         Some(which) => verify_as(alloc, bytes, which),
@@ -98,6 +99,7 @@ fn verify_package(alloc: Global, bytes: &[u8]) -> Result<(), PackageFault>
 
 /// Reads the files of a package to the last.
 fn check_files(pkg: &mut Package<'_>) -> Result<(), Cause>
+    // The error is the first failed test of the files that were still to be read.
     ensures { result_err result ≡ fault_of_files_read (opened_files pkg.old) }
 {
     while pkg.next_file()?.is_some() {}
@@ -119,13 +121,14 @@ fn verify_other(alloc: Global, bytes: &[u8], which: Which) -> Result<(), Package
     Ok(())
 }
 
-/// Why bytes do not have this digest, if they do not. Its length selects the function: SHA-1,
-/// SHA-256 or SHA-512 (FIPS 180-4). A digest of another length is ignored; no file with contents
-/// has one in a checked package.
+/// Why bytes do not have the digest `hash`; None if they have it. The length of the digest selects
+/// the function: SHA-1, SHA-256 or SHA-512 (FIPS 180-4). A digest of another length is ignored; no
+/// file with contents has one in a checked package.
 #[tactic(auto, unfolding(crate::specs::Contents::hash_fault))]
 pub(crate) fn hash_fault(hash: &[u8], bytes: &[u8]) -> Option<Cause>
     ensures { result ≡ hash_fault hash.now bytes.now }
 {
+    // The lengths in bytes of a SHA-1, a SHA-256 and a SHA-512.
     match hash.len() {
         20 => sha1_fault(hash, Sha1::digest(bytes)),
         32 => sha256_fault(hash, Sha256::digest(bytes)),
@@ -134,9 +137,10 @@ pub(crate) fn hash_fault(hash: &[u8], bytes: &[u8]) -> Option<Cause>
     }
 }
 
-/// Why this SHA-1 (FIPS 180-4) is not the computed one: `HashDiffers`, or None if they are equal.
+/// The fault if the listed SHA-1 (FIPS 180-4), `hash`, is not the computed one, `found`:
+/// `HashDiffers`. None if both are equal.
 pub fn sha1_fault(hash: &[u8], found: [u8; 20]) -> Option<Cause>
-    // The length of a SHA-1.
+    // The listed digest has the length of a SHA-1.
     requires { length hash.now ≡ 20 }
     ensures { result ≡ digest_fault Digests.Sha1 hash.now found }
 {
@@ -151,9 +155,10 @@ pub fn sha1_fault(hash: &[u8], found: [u8; 20]) -> Option<Cause>
     })
 }
 
-/// Why this SHA-256 (FIPS 180-4) is not the computed one: `HashDiffers`, or None if they are equal.
+/// The fault if the listed SHA-256 (FIPS 180-4), `hash`, is not the computed one, `found`:
+/// `HashDiffers`. None if both are equal.
 pub fn sha256_fault(hash: &[u8], found: [u8; 32]) -> Option<Cause>
-    // The length of a SHA-256.
+    // The listed digest has the length of a SHA-256.
     requires { length hash.now ≡ 32 }
     ensures { result ≡ digest_fault Digests.Sha256 hash.now found }
 {
@@ -168,9 +173,10 @@ pub fn sha256_fault(hash: &[u8], found: [u8; 32]) -> Option<Cause>
     })
 }
 
-/// Why this SHA-512 (FIPS 180-4) is not the computed one: `HashDiffers`, or None if they are equal.
+/// The fault if the listed SHA-512 (FIPS 180-4), `hash`, is not the computed one, `found`:
+/// `HashDiffers`. None if both are equal.
 pub fn sha512_fault(hash: &[u8], found: [u8; 64]) -> Option<Cause>
-    // The length of a SHA-512.
+    // The listed digest has the length of a SHA-512.
     requires { length hash.now ≡ 64 }
     ensures { result ≡ digest_fault Digests.Sha512 hash.now found }
 {
@@ -192,8 +198,9 @@ pub fn good_blocks_give_the_contents_of_each_file()
         → AreContentsOf expected (contents_in (files_read_from_blocks expected r)) }
 {}
 
-/// The fault of the blocks that is reported is the first. Each block of contents is tested against
-/// the next expected file, then the framing after them, and finally that no file is left.
+/// The reported fault of the blocks is the first one. Each block of contents is tested against the
+/// next expected file. Then the framing after these blocks is tested, and finally that no file is
+/// left.
 pub fn the_first_fault_of_contents_is_reported()
     ensures { (expected : List ExpectedFile) (r : Reading) (c : Cause)
         → contents_fault expected r ≡ Some c → IsFirstContentsFault expected r c }

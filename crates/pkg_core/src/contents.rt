@@ -17,8 +17,8 @@ use adb_view::{Adb, Which, shape, values_of_few_visits_have_no_fault};
 use sha2::{Digest, Sha256};
 use std::alloc::Global;
 
-/// A package in a tree whose values were tested. They are borrowed from its front. Contracts see,
-/// by `Values` of `specs/`, the plain value and its bytes.
+/// The tested values of a package in a tree. They are borrowed from the front of the package.
+/// Contracts see, by `Values` of `specs/`, the plain value and its bytes.
 #[derive(Clone, Copy)]
 pub struct Contents<'a> {
     /// The payload of the package's first block.
@@ -50,7 +50,7 @@ impl<'a> Contents<'a> {
         // If no error is returned, no test of the values fails.
         ensures sound { IfOk result (λ _.
             payload_fault Tables.Package (front_payload front.entry.now) ≡ None) }
-        // The value and its bytes are those of the front.
+        // The plain value is that of the payload of the front.
         ensures value { IfOk result (λ contents. value_of_contents contents
             ≡ root_value Tables.Package (front_payload front.entry.now)) }
         // The payload is that of the front.
@@ -66,7 +66,7 @@ impl<'a> Contents<'a> {
     pub fn open(payload: &'a [u8]) -> Contents<'a>
         // The payload passes all tests of a package.
         requires { payload_fault Tables.Package payload.now ≡ None }
-        // The value and its bytes are those of the payload.
+        // The plain value is that of the payload.
         ensures value { value_of_contents result ≡ root_value Tables.Package payload.entry.now }
         // The result has the given payload.
         ensures payload { payload_of_contents result ≡ payload.entry.now }
@@ -78,8 +78,8 @@ impl<'a> Contents<'a> {
         Contents { adb }
     }
 
-    /// Each text and number of a package obeys the rule of its field: a folder's name is a path,
-    /// and so is a file's name after it.
+    /// A law: each text and number of the package obeys the rule of its field. For example, the
+    /// name of a folder is a path.
     pub fn values_keep_their_rules(&self)
         ensures { ObeysFieldRulesOfTable Tables.Package (value_of_contents self.now) }
     {
@@ -87,10 +87,12 @@ impl<'a> Contents<'a> {
         no_text_is_bad_where_each_keeps_its_rule();
     }
 
-    /// The value of a package is sound and normal.
+    /// A law: the value of a package is sound (it passes all tests) and normal.
     pub fn values_are_sound(&self)
         // The value obeys all rules of a package.
         ensures sound { IsSoundValue Tables.Package (value_of_contents self.now) }
+        // All integers of the value are below 2^64. The value has no empty blob, no empty list, and
+        // no null at the end of an object.
         ensures normal { IsNormal (value_of_contents self.now) }
     {
         // Laws that the proof needs; they have no effect at run time.
@@ -115,7 +117,7 @@ impl<'a> Contents<'a> {
     }
 }
 
-/// Tests the payload of a package in the order of `new`, and returns it opened.
+/// Tests the payload of a package, and returns it as an `Adb`, from which values can be read.
 fn check_payload<'a>(alloc: Global, payload: &'a [u8]) -> Result<Adb<'a>, ReadFault>
     // The error is the first failed test of the values, or out of memory.
     ensures bad { IfErr result
@@ -125,6 +127,7 @@ fn check_payload<'a>(alloc: Global, payload: &'a [u8]) -> Result<Adb<'a>, ReadFa
     // The result has the given payload.
     ensures payload { IfOk result (λ adb. payload_of adb ≡ payload.entry.now) }
 {
+    // The tests in their order: the head, the shape, the texts, and repeated names.
     let adb = Adb::new(payload)?;
     let shaped = shape(adb, Which::Package)?;
     let checked = Checked::new(alloc, shaped)?;

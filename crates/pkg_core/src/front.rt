@@ -1,5 +1,5 @@
 //! The front of a container in a tree: its header and its first block. The rules are in
-//! `docs/formats.md`, "The other blocks", the paragraph of a front.
+//! `docs/formats.md`, "The other blocks", point 1 of the last list (the front).
 
 ghost use Rattle.std.specs.Prelude.{◌≤◌};
 
@@ -25,9 +25,10 @@ impl From<Cause> for FrontFault {
     ghost use Rattle.std.specs.Prelude.{◌≡◌};
     ghost use Rattle.pkg_core.specs.declared.front.FrontFault.TheVariants.{Bad};
 
+    // What `from` returns.
     ghost from_gives = { λ cause fault. fault ≡ Bad cause };
 
-    /// A failed test is one of the front.
+    /// A failed test becomes `Bad`.
     fn from(cause: Cause) -> FrontFault {
         FrontFault::Bad(cause)
     }
@@ -37,9 +38,10 @@ impl From<Disk> for FrontFault {
     ghost use Rattle.std.specs.Prelude.{◌≡◌};
     ghost use Rattle.pkg_core.specs.declared.front.FrontFault.TheVariants.{Disk as DiskFault};
 
+    // What `from` returns.
     ghost from_gives = { λ _ fault. fault ≡ DiskFault };
 
-    /// A failed call of the tree is a fault of the disk.
+    /// A failed call of the tree becomes `Disk`.
     fn from(_: Disk) -> FrontFault {
         FrontFault::Disk
     }
@@ -49,9 +51,10 @@ impl From<AllocError> for FrontFault {
     ghost use Rattle.std.specs.Prelude.{◌≡◌};
     ghost use Rattle.pkg_core.specs.declared.front.FrontFault.TheVariants.{Memory};
 
+    // What `from` returns.
     ghost from_gives = { λ _ fault. fault ≡ Memory };
 
-    /// Running out of memory is a fault of its own.
+    /// A lack of memory becomes `Memory`.
     fn from(_: AllocError) -> FrontFault {
         FrontFault::Memory
     }
@@ -59,7 +62,7 @@ impl From<AllocError> for FrontFault {
 
 /// The front of a container: its schema, the payload of its first block, the file's length in
 /// bytes, and the offset after that block. Contracts see, by `Front` of `specs/`, the payload, the
-/// two numbers, and of which files it is the front.
+/// length, the offset, and of which files this is the front.
 #[derive(Drop)]
 pub struct Front {
     /// The schema in the file's header.
@@ -95,6 +98,7 @@ impl Front {
     /// The offset after the first block and its padding.
     pub fn end(&self) -> u64
         ensures exact { result ≡ front_end self.now }
+        // The offset is within the file.
         ensures within { result ≤ front_file_len self.now }
     {
         self.at

@@ -29,8 +29,10 @@ impl Hasher {
     /// those of SHA-1, SHA-256 and SHA-512.
     #[tactic(auto, unfolding(crate::specs::Contents::hash_fault))]
     pub fn new(hash: &[u8]) -> Hasher
+        // The hasher has taken no bytes yet.
         ensures { HasHashedMessage result hash.now [] }
     {
+        // The lengths in bytes of a SHA-1, a SHA-256 and a SHA-512.
         match hash.len() {
             20 => Hasher::Sha1(Sha1::new()),
             32 => Hasher::Sha256(Sha256::new()),
@@ -41,6 +43,7 @@ impl Hasher {
 
     /// Takes further bytes of the message.
     pub fn update(&mut self, bytes: &[u8])
+        // If the hasher had taken `so_far`, it has now taken `so_far` and these bytes.
         ensures { (hash so_far : List ℕ) → HasHashedMessage self.old hash so_far
             → HasHashedMessage self.new hash (so_far ++ bytes.now) }
     {
@@ -52,9 +55,10 @@ impl Hasher {
         }
     }
 
-    /// Why the bytes that were taken do not have the digest, if they do not.
+    /// Why the bytes that were taken do not have the digest `hash`; None if they have it.
     #[tactic(auto, unfolding(crate::specs::Contents::hash_fault))]
     pub fn fault(self, hash: &[u8]) -> Option<Cause>
+        // The fault is that of `so_far`, all bytes that were taken.
         ensures { (so_far : List ℕ) → HasHashedMessage self hash.now so_far
             → result ≡ hash_fault hash.now so_far }
     {
@@ -62,6 +66,7 @@ impl Hasher {
             Hasher::Sha1(hasher) if hash.len() == 20 => sha1_fault(hash, hasher.finalize()),
             Hasher::Sha256(hasher) if hash.len() == 32 => sha256_fault(hash, hasher.finalize()),
             Hasher::Sha512(hasher) if hash.len() == 64 => sha512_fault(hash, hasher.finalize()),
+            // A digest of another length is not compared.
             _ => None,
         }
     }

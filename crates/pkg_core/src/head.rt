@@ -1,5 +1,5 @@
 //! The header of a block in a file of a tree. The rules are in `docs/formats.md`, "Container", the
-//! paragraph of a block.
+//! second paragraph and the table of a long header.
 
 ghost use Rattle.std.specs.Prelude.{◌≡◌, ◌≤◌, ◌<◌, ◌+◌, ◌^◌, ℕ, [], ◌++◌, length, IfOk};
 ghost use Rattle.adb_block.specs.Frames.{IsHeadPrefix, head_len};
@@ -24,8 +24,10 @@ impl Model for HeadBytes {
 
     ghost Value = { List ℕ };
 
+    // Contracts see the bytes that were read.
     ghost view = { λ head. take head.len head.bytes };
 
+    // At most 16 bytes were read.
     ghost invariant = { λ head. head.len ≤ 16 };
 }
 
@@ -51,12 +53,12 @@ impl HeadBytes {
         // These bytes were read at the offset of the block.
         ensures seen { IfOk result (λ head. (file_len : ℕ)
             → AreBytesRead (T.history tree.old) name.now file_len at head) }
-        // They are the first bytes of the header: all of them, if the file has them.
+        // They are the first bytes of the header: all of its bytes, if the file has them all.
         ensures holds { IfOk result (λ head. IsHeadPrefix head left) }
         // No byte after the header was read.
         ensures short { IfOk result (λ head. length head ≤ head_len head) }
         // The tree is unchanged. `Disk` is returned only if the tree failed, and no call is a
-        // misuse if the file still has its length.
+        // misuse if the tree has a file of this length under the name.
         ensures tree { (file_len : ℕ) → at + left ≤ file_len
             → ReadsFile name.now file_len tree_fault (T.history tree.old) (T.history tree.new)
             (T.counts tree.old) (T.counts tree.new) result }
@@ -68,6 +70,8 @@ impl HeadBytes {
         let mut first = [0; 4];
         tree.read_at(name, at, &mut first)?;
         let len = head_len(&first);
+        // A short header is complete; the rest of an extended one that the file cuts off is not
+        // read.
         if len == 4 || len > left {
             return Ok(head_of_four(first));
         }
@@ -77,7 +81,7 @@ impl HeadBytes {
     }
 }
 
-/// The header without bytes.
+/// A header of which no byte was read, as fewer than four bytes are left in the file.
 fn no_head() -> HeadBytes
     ensures { result ≡ [] }
 {
@@ -87,7 +91,7 @@ fn no_head() -> HeadBytes
     }
 }
 
-/// The header after four bytes: a short one, or the front of an incomplete one.
+/// A header of which four bytes were read: a short one, or an extended one that the file cuts off.
 #[tactic(auto, using(crate::proofs::Heads::four_kept))]
 fn head_of_four(first: [u8; 4]) -> HeadBytes
     ensures { result ≡ first }

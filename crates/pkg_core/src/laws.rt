@@ -66,6 +66,7 @@ pub fn tested_payloads_hold_sound_values()
     ensures normal { (which : Which) (payload : List ℕ) → payload_fault which payload ≡ None
         → All (λ b. b < 256) payload → IsNormal (root_value which payload) }
 {
+    // Laws that the proof needs; they have no effect at run time.
     values_of_few_visits_have_no_fault();
     values_have_their_shape();
     values_are_normal();

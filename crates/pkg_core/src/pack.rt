@@ -33,9 +33,10 @@ impl From<Cause> for PackageFault {
     ghost use Rattle.std.specs.Prelude.{◌≡◌};
     ghost use Rattle.pkg_core.specs.declared.pack.PackageFault.TheVariants.{Bad};
 
+    // What `from` returns.
     ghost from_gives = { λ cause fault. fault ≡ Bad cause };
 
-    /// A failed test is one of the package.
+    /// A failed test becomes `Bad`.
     fn from(cause: Cause) -> PackageFault {
         PackageFault::Bad(cause)
     }
@@ -45,9 +46,10 @@ impl From<ReadFault> for PackageFault {
     ghost use Rattle.std.specs.Prelude.{◌≡◌};
     ghost use Rattle.pkg_core.specs.Refusals.{fault_of_read};
 
+    // What `from` returns.
     ghost from_gives = { λ read fault. fault ≡ fault_of_read read };
 
-    /// A failed test of the values is one of the package, and so is out of memory for them.
+    /// A failed test of the values becomes `Bad`, and a lack of memory becomes `Memory`.
     fn from(fault: ReadFault) -> PackageFault {
         match fault {
             ReadFault::Bad(cause) => PackageFault::Bad(cause),
@@ -56,18 +58,18 @@ impl From<ReadFault> for PackageFault {
     }
 }
 
-/// A package whose values were tested, before its first file, between two or after the last.
-/// Everything is borrowed from the file's bytes. Contracts see, by `Opened` of `specs/`, the plain
-/// value, its bytes, and the files that are left.
+/// A package whose values were tested, with a reader of its files: before the first file, between
+/// two files, or after the last. Everything is borrowed from the file's bytes. Contracts see, by
+/// `Opened` of `specs/`, the plain value, its bytes, and the files that are left.
 #[derive(Drop)]
 pub struct Package<'a> {
-    /// The values.
+    /// The tested values of the package.
     checked: Checked<'a>,
     /// The payload of the first block, whose digest is the id.
     payload: &'a [u8],
     /// The blocks and the files that are still to be read.
     rest: Rest<'a>,
-    /// The test that failed, if one did.
+    /// The test of the blocks that failed, if one did: each later call of `next_file` returns it.
     refused: Option<Cause>,
     // The payload's root is a package.
     ghost table: { table_of_checked checked ≡ Tables.Package },
@@ -88,14 +90,14 @@ impl<'a> Package<'a> {
     ///
     /// `Bad` with the cause of the first test that fails, or `Memory`.
     pub fn new(alloc: Global, bytes: &'a [u8]) -> Result<Package<'a>, PackageFault>
-        // The error is the first failed test of the values; the package is read if none fails.
+        // The error is the first failed test, apart from those of the contents, or out of memory.
         ensures bad { IfErr result
             (λ fault. IsFaultOf fault
             (container_fault_except_contents Tables.Package bytes.entry.now)) }
         // On Ok, none of these tests failed.
         ensures sound { IfOk result
             (λ _. container_fault_except_contents Tables.Package bytes.entry.now ≡ None) }
-        // It has the value, the id and the contents of the file from which it was read.
+        // The plain value is that of the payload of the file's first block.
         ensures value { IfOk result
             (λ pkg. opened_value pkg ≡ root_value Tables.Package (payload_in bytes.entry.now)) }
         // The payload is that of the package's first block.
@@ -107,6 +109,7 @@ impl<'a> Package<'a> {
             ≡ files_read_from_package bytes.entry.now) }
     {
         let checked = read_adb(alloc, bytes, Which::Package)?;
+        // The payload of the first block, and the blocks after it.
         let (payload, blocks) = first_block(bytes);
         let walk = Walk::new(checked.package().paths());
         Ok(Package {
@@ -117,8 +120,8 @@ impl<'a> Package<'a> {
         })
     }
 
-    /// Each text and number of a package obeys the rule of its field: a folder's name is a path,
-    /// and so is a file's name after it.
+    /// A law: each text and number of the package obeys the rule of its field. For example, the
+    /// name of a folder is a path.
     pub fn values_keep_their_rules(&self)
         ensures { ObeysFieldRulesOfTable Tables.Package (opened_value self.now) }
     {
@@ -175,8 +178,9 @@ impl<'a> Package<'a> {
 fn first_block<'a>(bytes: &'a [u8]) -> (&'a [u8], Blocks<'a>)
     // The container passes all tests, apart from those of its contents.
     requires { container_fault_except_contents Tables.Package bytes.now ≡ None }
+    // The first part of the result is the payload of the first block.
     ensures payload { result.0.now ≡ payload_in bytes.entry.now }
-    // The files read from the blocks that are left are those of the package.
+    // The blocks in the second part of the result give the files of the package.
     ensures files { files_read_from_blocks (expected_files_of_package
         (root_value Tables.Package result.0.now))
         (block_stream_from result.1) ≡ files_read_from_package bytes.entry.now }

@@ -22,20 +22,20 @@ pub struct BlockPlace<'a> {
     pub len: u64,
     /// The files whose contents are expected.
     pub walk: Walk<'a>,
-    /// The kind of the block before.
+    /// The kind of the block directly before the offset `at`, which decides what may follow.
     pub last: BlockKind,
     /// The offset of the next block.
     pub at: u64,
 }
 
-/// The result for a block after the first one.
+/// What `BlockPlace::step` finds at its offset, after the first block: the end, or one more block.
 #[derive(Drop)]
 pub enum Step<'a> {
     /// No block is left, and no file is expected.
     End,
     /// The block has no contents.
     Passed,
-    /// The contents of the next file begin.
+    /// The block has the contents of the next expected file, whose bytes are still to be taken.
     Opened(FileCheck<'a>),
 }
 
@@ -53,11 +53,12 @@ impl<'a> BlockPlace<'a> {
         framing: Option<Frame>,
         positions: &[u8; POSITIONS_LEN],
     ) -> Result<Step<'a>, Cause>
-        // The place, and the block there, are within the file.
+        // The offset of the place is within the file.
         requires at { self.old.at ≤ self.old.len }
         // The block ends within the file.
         requires fits { IfSome framing (λ frame. raw_size frame ≤ self.old.len - self.old.at) }
-        // The step is right for each file of this length with this block there.
+        // For each file of this length that has this block at the place, the result and the new
+        // place are those of *IsStepResult*.
         ensures step { (file : List ℕ) → length file ≡ self.old.len
             → IsFrameOrEndOfStep (Ok framing) (drop self.old.at file) (block_step_at self.old file)
             → HasPositions framing positions.now self.old file
@@ -69,12 +70,14 @@ impl<'a> BlockPlace<'a> {
             ≡ self.old.at + whole_size frame (self.old.len - self.old.at))) }
         // The place is still within the file.
         ensures within { self.new.at ≤ self.new.len }
-        // All bytes of an opened file are still to be taken. Only contents open a file, which is
-        // the next of the walk. `End` is returned only if no block is left.
+        // All bytes of an opened file are still to be taken: those of the payload after the
+        // positions.
         ensures left { IfSome framing (λ frame. IfOk result (HasWholeFileLeft frame)) }
+        // A file is opened only by a block of contents.
         ensures kind { IfSome framing (λ frame. IfOk result (OpensOnlyContents frame)) }
-        // The walk advances over an opened file; at the end no file is expected.
+        // The walk passes an opened file, and no other; at the end it expects no file.
         ensures walk { IfOk result (λ step. IsWalkAfterStep self.old.walk step self.new.walk) }
+        // If no block is left (`framing` is None), the result is `End` or an error.
         ensures ended { framing ≡ None → IfOk result (λ step. step ≡ Ended) }
     {
         match framing {
@@ -83,18 +86,21 @@ impl<'a> BlockPlace<'a> {
         }
     }
 
-    /// Ends the walk if no block is left; then no file may be expected. The clauses are those of
-    /// `step`.
+    /// The step after the last block: `End`, or an error if the walk still expects a file. The
+    /// clauses are those of `step`.
     #[tactic(auto, using(crate::proofs::Placed::end_good, crate::proofs::Placed::end_bad))]
     fn end(&mut self) -> Result<Step<'a>, Cause>
-        // The step is right for each file in which no block is left at the place.
+        // For each file in which no block is left at the place, the result is that of
+        // *IsStepResult*.
         ensures step { (file : List ℕ) → block_step_at self.old file ≡ ended
             → IsStepResult None self.old file result self.new }
         // The length of the file is unchanged.
         ensures len { self.new.len ≡ self.old.len }
+        // The offset of the place is unchanged.
         ensures at { self.new.at ≡ self.old.at }
-        // The walk advances over an opened file; at the end no file is expected.
+        // The walk passes an opened file, and no other; at the end it expects no file.
         ensures walk { IfOk result (λ step. IsWalkAfterStep self.old.walk step self.new.walk) }
+        // On Ok, the result is `End`.
         ensures ended { IfOk result (λ step. step ≡ Ended) }
     {
         match self.walk.end() {
@@ -114,7 +120,8 @@ impl<'a> BlockPlace<'a> {
         requires at { self.old.at ≤ self.old.len }
         // The block ends within the file.
         requires fits { raw_size frame ≤ self.old.len - self.old.at }
-        // The step is right for each file of this length with this block there.
+        // For each file of this length that has this block at the place, the result and the new
+        // place are those of *IsStepResult*.
         ensures step { (file : List ℕ) → length file ≡ self.old.len
             → IsFrameOrEndOfStep (Ok (Some frame)) (drop self.old.at file)
             (block_step_at self.old file)
@@ -127,9 +134,12 @@ impl<'a> BlockPlace<'a> {
             ≡ self.old.at + whole_size frame (self.old.len - self.old.at)) }
         // The place is still within the file.
         ensures within { self.new.at ≤ self.new.len }
+        // All bytes of an opened file are still to be taken: those of the payload after the
+        // positions.
         ensures left { IfOk result (HasWholeFileLeft frame) }
+        // A file is opened only by a block of contents.
         ensures kind { IfOk result (OpensOnlyContents frame) }
-        // The walk advances over an opened file; at the end no file is expected.
+        // The walk passes an opened file, and no other; at the end it expects no file.
         ensures walk { IfOk result (λ step. IsWalkAfterStep self.old.walk step self.new.walk) }
     {
         match frame.kind {
@@ -149,7 +159,8 @@ impl<'a> BlockPlace<'a> {
         requires fits { raw_size frame ≤ self.old.len - self.old.at }
         // The block is one of contents.
         requires kind { frame.kind ≡ Kinds.Contents }
-        // The step is right for each file of this length with this block there.
+        // For each file of this length that has this block at the place, the result and the new
+        // place are those of *IsStepResult*.
         ensures step { (file : List ℕ) → length file ≡ self.old.len
             → IsFrameOrEndOfStep (Ok (Some frame)) (drop self.old.at file)
             (block_step_at self.old file)
@@ -162,11 +173,15 @@ impl<'a> BlockPlace<'a> {
             ≡ self.old.at + whole_size frame (self.old.len - self.old.at)) }
         // The place is still within the file.
         ensures within { self.new.at ≤ self.new.len }
+        // All bytes of an opened file are still to be taken: those of the payload after the
+        // positions.
         ensures left { IfOk result (HasWholeFileLeft frame) }
+        // A file is opened only by a block of contents.
         ensures kind { IfOk result (OpensOnlyContents frame) }
-        // The walk advances over an opened file; at the end no file is expected.
+        // The walk passes an opened file, and no other; at the end it expects no file.
         ensures walk { IfOk result (λ step. IsWalkAfterStep self.old.walk step self.new.walk) }
     {
+        // The payload of a block of contents begins with the two positions, which are eight bytes.
         if frame.payload_len < POSITIONS_LEN as u64 {
             return Err(Cause::Truncated { at: self.at });
         }
@@ -185,8 +200,11 @@ impl<'a> BlockPlace<'a> {
         requires at { self.old.at ≤ self.old.len }
         // The block ends within the file.
         requires fits { raw_size frame ≤ self.old.len - self.old.at }
+        // The new place is after the block and its padding; the walk is unchanged.
         ensures { self.new ≡ place_after self.old frame }
     {
+        // How many bytes the file has from the block on, and how many the block has without its
+        // padding.
         let left = self.len - self.at;
         let raw = frame.head_len + frame.payload_len;
         let padding = padding_of(raw as usize) as u64;

@@ -1,5 +1,6 @@
 //! The reader of a container's front in a tree. The rules are in `docs/formats.md`, "The other
-//! blocks", the paragraph of a front; the tests and their order in "Container", the table.
+//! blocks", point 1 of the last list (the front); the tests and their order in "Container", the
+//! table.
 
 ghost use Rattle.std.specs.Prelude.{◌≡◌, ◌≤◌, ◌+◌, ◌-◌, ℕ, List, Option, None, true, length, min, take, IfOk, IfErr, IfSome};
 ghost use Rattle.adb_block.specs.Framing.{next_step};
@@ -34,10 +35,12 @@ pub fn read_front<T: Tree>(
     name: &Name,
     schema: u32,
 ) -> Result<Option<Front>, FrontFault>
-    // The result is that for some file, which is the one under the name if the tree is observable.
+    // The result is right for some file, or for none (`found`). If the tree is observable, this is
+    // what the tree has under the name.
     ensures front { (found : Option (List ℕ)) × IfObservable (T.history tree.old) (λ v.
         found ≡ files_of v name.now) × IsFrontRead schema found result }
-    // And it is the front of each file of this length that has the bytes that were read.
+    // A returned front is that of each file of its length that begins with the bytes that were read
+    // (`seen`). These end where the front ends.
     ensures seen { IfOk result (λ found. IfSome found (λ front. (seen : List ℕ)
         × IsSeenIn (T.history tree.old) name.now (front_file_len front) 0 seen
         × (front_end front ≡ length seen)
@@ -72,8 +75,10 @@ impl Model for Header {
 
     ghost Value = { List ℕ };
 
+    // Contracts see the bytes that were read.
     ghost view = { λ header. take header.len header.bytes };
 
+    // At most 8 bytes were read.
     ghost invariant = { λ header. header.len ≤ 8 };
 }
 
@@ -81,7 +86,7 @@ impl Header {
     /// Reads the first bytes of a file of this length.
     #[tactic(auto, using(crate::proofs::SeenBytes::seen_by_read, crate::proofs::SeenBytes::proper_where_long))]
     fn read<T: Tree>(tree: &mut T, name: &Name, len: u64) -> Result<Header, FrontFault>
-        // At most 8 bytes are read, or as many as the file has.
+        // Eight bytes are read, or all bytes of a shorter file.
         ensures len { IfOk result (λ header. length header ≡ min len 8) }
         // These are the first bytes of the file.
         ensures seen { IfOk result (λ header. (file_len : ℕ)
@@ -89,11 +94,12 @@ impl Header {
         // The only error is that the tree failed.
         ensures disk { IfErr result (λ fault. fault ≡ DiskFault) }
         // The tree is unchanged. `Disk` is returned only if the tree failed, and no call is a
-        // misuse if the file still has its length.
+        // misuse if the tree has a file of this length under the name.
         ensures tree { ReadsFile name.now len DiskFault (T.history tree.old) (T.history tree.new)
             (T.counts tree.old) (T.counts tree.new) result }
     {
         let mut bytes = [0; 8];
+        // How many bytes of the header the file has.
         let some = len.min(8) as usize;
         tree.read_at(name, 0, &mut bytes[..some])?;
         Ok(Header { bytes, len: some })
@@ -125,7 +131,7 @@ fn read_payload<T: Tree>(
     // An error is that the tree failed, or out of memory.
     ensures good { IfErr result (λ fault. IsDiskOrMemoryFault fault) }
     // The tree is unchanged. `Disk` is returned only if the tree failed, and no call is a misuse if
-    // the file still has its length.
+    // the tree has a file of this length under the name.
     ensures tree { (file_len : ℕ) → at + len ≤ file_len → ReadsFile name.now file_len DiskFault
         (T.history tree.old) (T.history tree.new) (T.counts tree.old) (T.counts tree.new) result }
 {
@@ -143,13 +149,15 @@ fn read_present<T: Tree>(
     len: u64,
     schema: u32,
 ) -> Result<Front, FrontFault>
+    // The front has the given length of the file.
     ensures len { IfOk result (λ front. front.len ≡ len) }
-    // The result is right for each file of this length that has the bytes that were read.
+    // The result is right for each file of this length that begins with the bytes that were read
+    // (`seen`).
     ensures front { (seen : List ℕ) × IsSeenIn (T.history tree.old) name.now len 0 seen
         × ((file : List ℕ) → length file ≡ len → HasBytesAtOffset file 0 seen
         → IsFrontReadOfFile schema result (length seen) file) }
     // The tree is unchanged. `Disk` is returned only if the tree failed, and no call is a misuse if
-    // the file still has its length.
+    // the tree has a file of this length under the name.
     ensures tree { ReadsFile name.now len DiskFault (T.history tree.old) (T.history tree.new)
         (T.counts tree.old) (T.counts tree.new) result }
 {
@@ -162,8 +170,10 @@ fn read_present<T: Tree>(
     let head = HeadBytes::read(tree, name, 8, len - 8)?;
     let framed = first_framed(len - 8, &head)?;
     let padding = padding_after(framed, len - 8);
+    // The offset of the payload of the first block.
     let start = 8 + framed.head_len;
     let payload = read_payload(alloc, tree, name, start, framed.payload_len)?;
+    // Only the head of the payload is tested here; `Contents::new` tests the values.
     Adb::new(&payload)?;
     Ok(Front {
         schema,
@@ -176,12 +186,14 @@ fn read_present<T: Tree>(
 /// The frame of a file's first block by its header, with this many bytes left after the file's own
 /// header of eight bytes.
 fn first_framed(left: u64, head: &HeadBytes) -> Result<Frame, Cause>
+    // These are the first bytes of the block's header: all of its bytes, if the file has them all.
     requires holds { IsHeadPrefix head.now left }
+    // No byte after the header is among them.
     requires short { length head.now ≤ head_len head.now }
     // The result is that of the tests, for any rest of the file that begins with these bytes.
     ensures exact { (bytes : List ℕ) → length bytes ≡ left → take (length head.now) bytes ≡ head.now
         → IsFrameOfStep result bytes (next_step None 8 bytes) }
-    // The first block of a file may have this kind.
+    // A first block may have the kind of this frame.
     ensures order { IfOk result (λ framed. may_be_next_kind None framed.kind ≡ true) }
     // The block ends within the file, and its whole header was read.
     ensures within { IfOk result (λ framed. (raw_size framed ≤ left)
@@ -197,6 +209,7 @@ fn first_framed(left: u64, head: &HeadBytes) -> Result<Frame, Cause>
 /// How many bytes of padding follow a block, as far as the file has them, with this many bytes left
 /// from its header on.
 fn padding_after(framed: Frame, left: u64) -> u64
+    // The block ends within these bytes.
     requires { raw_size framed ≤ left }
     ensures { result ≡ min (padding_of (raw_size framed)) (left - raw_size framed) }
 {

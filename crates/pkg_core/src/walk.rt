@@ -29,17 +29,18 @@ pub struct Walk<'a> {
     file: usize,
 }
 
-/// A file whose contents are expected: the positions of its folder and of itself in it, which count
-/// from 1, its size in bytes, and its digest.
+/// A file whose contents are expected: the position of its folder, the position of the file in this
+/// folder, the size in bytes, and the digest. Positions count from 1.
 #[derive(Clone, Copy)]
 pub struct Wanted<'a> {
-    /// The position of its folder in the package.
+    /// The position of the file's folder in the package, counted from 1.
     pub folder: u32,
-    /// Its position in the folder.
+    /// The position of the file in this folder, counted from 1.
     pub file: u32,
-    /// Its size in bytes.
+    /// The size of the file in bytes, as its entry lists it.
     pub size: u64,
-    /// The digest that its bytes must have.
+    /// The digest that the bytes of the file must have; the length of the digest selects the
+    /// function.
     pub hash: &'a [u8],
 }
 
@@ -49,6 +50,7 @@ impl<'a> Walk<'a> {
 
     /// A walk before the first of these folders.
     pub fn new(folders: List<'a, DirInfo<'a>>) -> Walk<'a>
+        // All files with contents are left.
         ensures { files_left_in_walk result
             ≡ expected_files_of_folders 1 (list_of (entries_in (list_value folders.entry))) }
     {
@@ -61,10 +63,13 @@ impl<'a> Walk<'a> {
 
     /// Goes on to the next file that has contents, or None after the last.
     pub fn next(&mut self) -> Option<Wanted<'a>>
+        // The result is the first file that was left, and the others stay left; None if none was
+        // left.
         ensures { TakesFirstExpected (files_left_in_walk self.old) result
             (files_left_in_walk self.new) }
     {
         while self.folder < self.folders.len() {
+            // The files of the next folder; `get` counts from 1.
             let files = self.folders.get(self.folder + 1).files();
             match self.next_in(files) {
                 Some(wanted) => return Some(wanted),
@@ -81,7 +86,9 @@ impl<'a> Walk<'a> {
     fn next_in(&mut self, files: List<'a, FileInfo<'a>>) -> Option<Wanted<'a>>
         // Positions have 32 bits.
         requires { self.old.folder + 1 < 2 ^ 32 }
+        // The folders are unchanged.
         ensures folders { self.new.folders ≡ self.old.folders }
+        // The number of passed folders is unchanged.
         ensures folder { self.new.folder ≡ self.old.folder }
         // The file that is returned is the first that is left in the folder, and the later ones
         // stay left.
@@ -110,6 +117,7 @@ impl<'a> Walk<'a> {
 /// The file of a package with these positions, if it has contents, in constant time. None if and
 /// only if there is no such file, or it has no contents.
 pub fn wanted_file<'a>(view: &PackageView<'a>, folder: u32, file: u32) -> Option<Wanted<'a>>
+    // The result is the expected file of the package with these positions.
     ensures { option_map expected_of result ≡ expected_file_at folder file
         (expected_files_of_package (package_value view.now)) }
 {
@@ -130,6 +138,7 @@ fn wanted_in_folder<'a>(
     if i == 0 {
         return None;
     }
+    // The package has fewer folders.
     if i > folders.len() {
         return None;
     }
@@ -146,6 +155,7 @@ fn wanted_in<'a>(files: List<'a, FileInfo<'a>>, folder: u32, file: u32) -> Optio
     if i == 0 {
         return None;
     }
+    // The folder has fewer files.
     if i > files.len() {
         return None;
     }
@@ -172,31 +182,35 @@ fn has_contents(file: &FileInfo<'_>) -> bool
 /// folder and that of the file, four bytes each.
 pub const POSITIONS_LEN: usize = 8;
 
-/// The contents of a file, with the positions of its folder (`path`) and of itself in it, which
-/// count from 1. The bytes are borrowed.
+/// The contents of a file, with the position of its folder (`path`) and the position of the file in
+/// this folder. The bytes are borrowed.
 #[derive(Clone, Copy)]
 pub struct FileContents<'a> {
-    /// The position of its folder in the package.
+    /// The position of the file's folder in the package, counted from 1.
     pub path: u32,
-    /// Its position in the folder.
+    /// The position of the file in this folder, counted from 1.
     pub file: u32,
-    /// Its contents.
+    /// The bytes of the file.
     pub bytes: &'a [u8],
 }
 
 /// The blocks that are left, and the walk over the files that are expected in them.
 #[derive(Drop)]
 pub(crate) struct Rest<'a> {
+    /// The blocks that are still to be read.
     pub(crate) blocks: Blocks<'a>,
+    /// The walk over the files whose contents these blocks must have.
     pub(crate) walk: Walk<'a>,
 }
 
 impl<'a> Rest<'a> {
     ghost use Rattle.pkg_core.specs.Opened.{files_left, ReadsNext};
 
-    /// Reads on to the next contents, and tests them; None after the last block.
+    /// Reads the blocks up to the next one with contents, and tests these contents; None after the
+    /// last block.
     #[tactic(auto, unfolding(crate::specs::Contents::files_read_from_blocks))]
     pub(crate) fn next(&mut self) -> Result<Option<FileContents<'a>>, Cause>
+        // The result is the first file that was left, or the first failed test of the blocks.
         ensures { ReadsNext (files_left self.old) result (files_left self.new) }
     {
         loop {
@@ -217,7 +231,8 @@ impl<'a> Walk<'a> {
 
     /// Ends the walk at the end of the blocks; then no file may be left.
     pub fn end(&mut self) -> Result<(), Cause>
-        // An error says that the contents of a file are missing.
+        // The error says that the first file left has no contents; it is returned exactly if a file
+        // is left.
         ensures exact { result_err result ≡ missing_contents_fault (files_left_in_walk self.old) }
         // On Ok, no file is left.
         ensures end { IfOk result (λ _. files_left_in_walk self.new ≡ []) }
@@ -231,8 +246,10 @@ impl<'a> Walk<'a> {
         }
     }
 
-    /// Tests a block of contents against the next file, and returns the contents of that file.
+    /// Tests the block of contents with this payload, at the offset `at`, against the next file.
+    /// Returns the contents of that file.
     pub(crate) fn give(&mut self, payload: &'a [u8], at: u64) -> Result<FileContents<'a>, Cause>
+        // The result is the contents of the first file left, or the first failed test of the block.
         ensures { ReturnsNextContents payload.entry.now at (files_left_in_walk self.old) result
             (files_left_in_walk self.new) }
     {
@@ -256,8 +273,8 @@ impl<'a> Walk<'a> {
     }
 }
 
-/// Why contents are not those of a file, if they are not: first the positions are compared, then
-/// the size, then the digest.
+/// Why a block with this payload does not have the contents of the wanted file: first the positions
+/// are compared, then the size, then the digest. None if all agree.
 fn contents_fault_for_expected_file(payload: &[u8], wanted: Wanted<'_>) -> Option<Cause>
     // The payload has at least the two positions of contents.
     requires { POSITIONS_LEN ≤ length payload.now }

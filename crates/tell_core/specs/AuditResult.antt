@@ -17,22 +17,25 @@ use Rattle.report_core.specs.declared.refusal.Refusal.{Refusal}
 abbrev pub first_audit_read_number : ℕ
 first_audit_read_number = 2
 
--- what an `audit` reports of the files of all packages of a database
+-- what `audit` reports of the files of all packages of the database; `read` gives the results of the
+-- reads of these files
 abbrev pub audit_of : Reads → Database → Result ReportAndRefusal Refusal
 audit_of read database =
     Ok (report_and_refusal (audit_report read first_audit_read_number database.packages) None)
 
--- the result of `audit`: its report on the database, or the database's refusal
+-- the result of `audit`: its report on the database that is read, or the refusal of the database
 abbrev pub audit_result : CommandLine → Reads → Result ReportAndRefusal Refusal
 audit_result command read = and_then (database_for command read) (audit_of read)
 
--- what a `manifest` reports on the packages of a database that it names, or its refusal
+-- what `manifest` reports on those packages of the database that its operands name; or the refusal, if an
+-- operand names no installed package
 abbrev pub manifest_report : CommandLine → Database → Result ReportAndRefusal Refusal
 manifest_report command database =
     and_then (manifest_of database.packages command.operands) (λ report.
     Ok (report_and_refusal report None))
 
--- the result of `manifest`: its report on the database, or the database's refusal
+-- the result of `manifest`: its report on the database that is read; or the refusal of the database, or
+-- of an operand
 abbrev pub manifest_result : CommandLine → Reads → Result ReportAndRefusal Refusal
 manifest_result command read =
     and_then (database_for command read) (manifest_report command)

@@ -9,7 +9,8 @@ use Rattle.installed_info.specs.declared.telling.ReportAndRefusal.{ReportAndRefu
 use Rattle.change_inputs.specs.make_info.Reads.{Reads}
 use Rattle.report_core.specs.declared.refusal.Refusal.{Refusal}
 
--- what `info` reports on the packages of the database, which alone is read, or its refusal
+-- the result of `info`: its report on the packages of the database, or the refusal of the database or of
+-- the command. Of the root only the database is read
 abbrev pub info_result : CommandLine → Reads → Result ReportAndRefusal Refusal
 info_result command read =
     and_then (database_for command read) (λ database. info_of command database.packages)

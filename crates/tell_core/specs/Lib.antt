@@ -1,4 +1,4 @@
--- passed on: a crate above that names this one need not name these
+-- re-exported, so that a crate that uses this one need not name these crates
 pub use Rattle.audit_core.specs as audit_core
 pub use Rattle.audit_core.specs.path_clashes as path_clashes
 pub use Rattle.change_inputs.specs as change_inputs

@@ -12,13 +12,14 @@ use Rattle.change_inputs.specs.make_info.Reads.{Reads}
 use Rattle.query_core.specs.Queries.{text_of_query}
 use Rattle.report_core.specs.declared.refusal.Refusal.{Refusal}
 
--- what a query reports on the candidates and repositories of inputs; or the refusal of too many
--- candidates. It upgrades no names.
+-- what `list`, `search` or `policy` reports on the candidates and repositories of these inputs
+-- (*no_names* are to be upgraded). Or the refusal of too many candidates
 abbrev pub query_report : CommandLine → Inputs → Result ReportAndRefusal Refusal
 query_report command inputs =
     and_then (root_pool inputs no_names) (λ pool.
     Ok (report_and_refusal (text_of_query command pool inputs.root.repositories) None))
 
--- the result of a query: its report on the inputs, or their refusal
+-- the result of `list`, `search` or `policy`: its report on the inputs that are read. Or the refusal of
+-- an input, or of too many candidates
 abbrev pub query_result : CommandLine → Reads → Result ReportAndRefusal Refusal
 query_result command read = and_then (inputs_of command read) (query_report command)

@@ -12,8 +12,8 @@ use Rattle.tell_core.specs.AuditResult.{audit_result, manifest_result}
 use Rattle.tell_core.specs.InfoResult.{info_result}
 use Rattle.tell_core.specs.QueryResult.{query_result}
 
--- what an applet reports for a command, by what reads find, or why it is refused; each other applet
--- reports nothing here
+-- what a command with this applet reports, or why it is refused, given the results of the reads. Any
+-- other applet has an empty report here
 abbrev pub report_for_applet : Applet → CommandLine → Reads → Result ReportAndRefusal Refusal
 report_for_applet Info command read = info_result command read
 report_for_applet Audit command read = audit_result command read

@@ -13,8 +13,8 @@ use command_core::Command;
 use installed_info::ReportAndRefusal;
 use std::alloc::Global;
 
-/// Reports the installed files that differ from their records. The database of the root is read,
-/// and each file that it lists.
+/// Reports the installed files that differ from their entries in the database. The database of the
+/// root is read, and each file that the database lists.
 ///
 /// # Errors
 ///
@@ -24,8 +24,12 @@ pub(crate) fn report_audit<T: Tree>(
     command: &Command,
     tree: &mut T,
 ) -> Result<ReportAndRefusal, Refused>
+    // The result is that of the definition, for some results of the reads; if the tree is
+    // observable, the reads find its files. An I/O error of the tree and out of memory may occur in
+    // any case.
     ensures told { IsExplainedBySomeReads (T.history tree.old) (λ read.
         AgreesUnlessDiskOrMemory (λ done. done) result (audit_result command.now read)) }
+    // The tree is only read: no file changes, no I/O error is hidden, and no call is a misuse.
     ensures tree { OnlyReads Refused.Disk (T.history tree.old) (T.history tree.new)
         (T.counts tree.old) (T.counts tree.new) result }
 {
@@ -42,10 +46,13 @@ fn audit_installed<T: Tree>(
     installed: &Installed,
     tree: &mut T,
 ) -> Result<ReportAndRefusal, Refused>
-    // The report or the refusal is that of the definition, with some reads.
+    // The result is that of the definition, for some results of the reads; if the tree is
+    // observable, the reads find its files. An I/O error of the tree and out of memory may occur in
+    // any case.
     ensures told { IsExplainedBySomeReads (T.history tree.old) (λ read.
         AgreesUnlessDiskOrMemory (λ done. done) result (audit_of read
         (installed_seen installed.now))) }
+    // The tree is only read: no file changes, no I/O error is hidden, and no call is a misuse.
     ensures tree { OnlyReads Refused.Disk (T.history tree.old) (T.history tree.new)
         (T.counts tree.old) (T.counts tree.new) result }
 {
@@ -72,8 +79,12 @@ pub(crate) fn report_manifest<T: Tree>(
     command: &Command,
     tree: &mut T,
 ) -> Result<ReportAndRefusal, Refused>
+    // The result is that of the definition, for some results of the reads; if the tree is
+    // observable, the reads find its files. An I/O error of the tree and out of memory may occur in
+    // any case.
     ensures told { IsExplainedBySomeReads (T.history tree.old) (λ read.
         AgreesUnlessDiskOrMemory (λ done. done) result (manifest_result command.now read)) }
+    // The tree is only read: no file changes, no I/O error is hidden, and no call is a misuse.
     ensures tree { OnlyReads Refused.Disk (T.history tree.old) (T.history tree.new)
         (T.counts tree.old) (T.counts tree.new) result }
 {
@@ -82,12 +93,14 @@ pub(crate) fn report_manifest<T: Tree>(
     Ok(done)
 }
 
-// The manifest of the packages of a database that a command names.
+// The manifest of those packages of the database that the operands of the command name.
 fn manifest_installed(
     alloc: Global,
     command: &Command,
     installed: &Installed,
 ) -> Result<ReportAndRefusal, Refused>
+    // The result is the manifest of the definition, or its refusal; out of memory may occur in any
+    // case.
     ensures { Agrees (λ done. done) result
         (manifest_report command.now (installed_seen installed.now)) }
 {
@@ -97,6 +110,7 @@ fn manifest_installed(
             report,
             following_refusal: None,
         }),
+        // An operand names no installed package.
         Err(refusal) => Err(Refused::Refusal(refusal)),
     }
 }

@@ -12,8 +12,8 @@ use command_core::Command;
 use installed_info::{ReportAndRefusal, tell};
 use std::alloc::Global;
 
-/// Reports on the installed packages, as `info` asks for it. Only the database of the root is read,
-/// and the tree is unchanged, whatever the answer.
+/// Reports on the installed packages as the options and operands of `info` ask for it. Only the
+/// database of the root is read, and the tree is unchanged, whatever the answer.
 ///
 /// # Errors
 ///
@@ -24,8 +24,12 @@ pub(crate) fn report_info<T: Tree>(
     command: &Command,
     tree: &mut T,
 ) -> Result<ReportAndRefusal, Refused>
+    // The result is that of the definition, for some results of the reads; if the tree is
+    // observable, the reads find its files. An I/O error of the tree and out of memory may occur in
+    // any case.
     ensures told { IsExplainedBySomeReads (T.history tree.old) (λ read.
         AgreesUnlessDiskOrMemory (λ done. done) result (info_result command.now read)) }
+    // The tree is only read: no file changes, no I/O error is hidden, and no call is a misuse.
     ensures tree { OnlyReads Refused.Disk (T.history tree.old) (T.history tree.new)
         (T.counts tree.old) (T.counts tree.new) result }
 {
@@ -34,18 +38,21 @@ pub(crate) fn report_info<T: Tree>(
     Ok(done)
 }
 
-// Reports on the packages of the database, or refuses it.
+// Reports on the packages of the database as `info` asks for it, or refuses the command.
 fn report_installed(
     alloc: Global,
     command: &Command,
     installed: &Installed,
 ) -> Result<ReportAndRefusal, Refused>
+    // The result is the report of the definition, or its refusal; out of memory may occur in any
+    // case.
     ensures { Agrees (λ done. done) result
         (info_of command.now (installed_seen installed.now).packages) }
 {
     let db = installed.db(alloc)?;
     match tell(alloc, command, &db)? {
         Ok(done) => Ok(done),
+        // The command is refused for an operand, and nothing is reported.
         Err(refusal) => Err(Refused::Refusal(refusal)),
     }
 }

@@ -16,8 +16,8 @@ use installed_info::{ReportAndRefusal, Upgrade};
 use query_core::{list, policy, search};
 use std::alloc::{AllocError, Global};
 
-/// Reports candidates as `list`, `search` or `policy` asks for them. The database of the root,
-/// world, the list of repositories and their indexes are read.
+/// Reports candidates as the command `list`, `search` or `policy` asks for them. The database of
+/// the root, world, the list of repositories and their indexes are read.
 ///
 /// # Errors
 ///
@@ -28,8 +28,12 @@ pub(crate) fn report_query<T: Tree>(
     command: &Command,
     tree: &mut T,
 ) -> Result<ReportAndRefusal, Refused>
+    // The result is that of the definition, for some results of the reads; if the tree is
+    // observable, the reads find its files. An I/O error of the tree and out of memory may occur in
+    // any case.
     ensures told { IsExplainedBySomeReads (T.history tree.old) (λ read.
         AgreesUnlessDiskOrMemory (λ done. done) result (query_result command.now read)) }
+    // The tree is only read: no file changes, no I/O error is hidden, and no call is a misuse.
     ensures tree { OnlyReads Refused.Disk (T.history tree.old) (T.history tree.new)
         (T.counts tree.old) (T.counts tree.new) result }
 {
@@ -38,15 +42,18 @@ pub(crate) fn report_query<T: Tree>(
     Ok(done)
 }
 
-// The report of a query of what was loaded.
+// The report of `list`, `search` or `policy` on the inputs that were read.
 fn query_loaded(
     alloc: Global,
     command: &Command,
     loaded: &Loaded,
 ) -> Result<ReportAndRefusal, Refused>
+    // The result is the report of the definition, or the refusal of too many candidates; out of
+    // memory may occur in any case.
     ensures { Agrees (λ done. done) result
         (query_report command.now (inputs_seen loaded.now)) }
 {
+    // All candidates; no name is to be upgraded.
     let pool = loaded.pool(alloc, Upgrade::Nothing)?;
     let report = query(alloc, command, &pool, loaded.repositories())?;
     Ok(ReportAndRefusal {
@@ -55,7 +62,8 @@ fn query_loaded(
     })
 }
 
-// The report of a query of candidates and repositories, by its applet.
+// The report of `list`, `search` or `policy` on these candidates (`pool`) and repositories, by the
+// applet of the command.
 #[tactic(auto, unfolding(query_core::specs::Queries::text_of_query))]
 fn query(
     alloc: Global,

@@ -1,5 +1,5 @@
-//! The command that is asked for reports on a root. Each command's rules are in `docs/commands.md`,
-//! under its name.
+//! The report of any of the commands that only report on an installed root. Each command's rules
+//! are in `docs/commands.md`, under its name.
 ghost use Rattle.base_core.specs.Read.{OnlyReads};
 ghost use Rattle.change_inputs.specs.Answers.{AgreesUnlessDiskOrMemory};
 ghost use Rattle.installed_info.specs.Info.{report_and_refusal};
@@ -29,8 +29,12 @@ pub fn tell<T: Tree>(
     command: &Command,
     tree: &mut T,
 ) -> Result<ReportAndRefusal, Refused>
+    // The result is that of the definition, for some results of the reads; if the tree is
+    // observable, the reads find its files. An I/O error of the tree and out of memory may occur in
+    // any case.
     ensures told { IsExplainedBySomeReads (T.history tree.old) (λ read.
         AgreesUnlessDiskOrMemory (λ done. done) result (report_for_command command.now read)) }
+    // The tree is only read: no file changes, no I/O error is hidden, and no call is a misuse.
     ensures tree { OnlyReads Refused.Disk (T.history tree.old) (T.history tree.new)
         (T.counts tree.old) (T.counts tree.new) result }
 {
@@ -39,7 +43,7 @@ pub fn tell<T: Tree>(
         Applet::Audit => report_audit(alloc, command, tree),
         Applet::Manifest => report_manifest(alloc, command, tree),
         Applet::List | Applet::Search | Applet::Policy => report_query(alloc, command, tree),
-        // Ok(no_report(alloc)) => No other applet is asked for a report.
+        // Callers ask for no report of any other applet.
         _ => Ok(no_report(alloc)),
     }
 }

@@ -10,8 +10,9 @@ use tree_memory::MemoryTree;
 /// The most bytes that a row reads at once.
 const LONGEST: usize = 4096;
 
-/// Answers `read NAME AT LEN`: reads LEN bytes of the file at the offset AT into a buffer of digits
-/// `7`. Adds whether that succeeded, the buffer, and the longest read so far.
+/// Answers `read NAME AT LEN`: reads LEN bytes of the file, from the offset AT on, into a buffer of
+/// digits `7`. Adds whether the read succeeded, the buffer, and the length of the longest read so
+/// far.
 pub(crate) fn add_read(
     alloc: Global,
     tree: &mut MemoryTree,
@@ -22,21 +23,23 @@ pub(crate) fn add_read(
         return answer.extend_from_slice(b"no name");
     };
     let len = usize::try_from(long_at(words, 3)).unwrap_or(0);
+    // The buffer; bytes that the read does not write stay `7`.
     let mut into = Vec::from_elem(alloc, b'7', len.min(LONGEST))?;
     let read = tree.read_at(&name, long_at(words, 2), &mut into);
     add_ok_or_failed(read.is_ok(), answer)?;
     add_word(answer, &into)?;
+    // Adds the space between the bytes and the number.
     add_word(answer, b"")?;
     add_number(alloc, answer, u128::from(tree.longest_read()))
 }
 
-/// Adds `ok` if a call succeeded, and else `failed`: it was a misuse (an invalid call), or planned
-/// to fail.
+/// Adds `ok` if a call succeeded. Otherwise adds `failed`: the call was a misuse (an invalid call),
+/// or was planned to fail.
 fn add_ok_or_failed(succeeded: bool, answer: &mut Vec<u8>) -> Result<(), AllocError> {
     answer.extend_from_slice(if succeeded { b"ok" } else { b"failed" })
 }
 
-/// The calls that write to the file of a name, or sync it.
+/// The calls that change the file of a name, or sync it.
 #[derive(Clone, Copy)]
 enum Call {
     Create,
@@ -56,8 +59,8 @@ const CALLS: [(&[u8], Call); 5] = [
     (b"rename", Call::Rename),
 ];
 
-/// Makes a call that writes; adds whether it succeeded, how many maps of names there are, and the
-/// files that are then in the tree.
+/// Makes the call on the tree that the first word of the row names. Adds whether the call
+/// succeeded, how many maps of names the tree has then, and the files that are then in the tree.
 pub(crate) fn add_call(
     alloc: Global,
     tree: &mut MemoryTree,
@@ -80,7 +83,8 @@ pub(crate) fn add_call(
     add_written(alloc, tree, succeeded, answer)
 }
 
-/// Renames a file to the name in the third word of the row, and returns whether that succeeds.
+/// Renames a file to the name in the third word of the row, and returns whether the rename
+/// succeeds. False if the word is no name.
 fn rename_succeeds(
     alloc: Global,
     tree: &mut MemoryTree,
@@ -93,8 +97,8 @@ fn rename_succeeds(
     }
 }
 
-/// Syncs the names, and adds what `add_call` adds: whether it succeeded, how many maps of names
-/// there are, and what then is in the tree.
+/// Syncs the names of the tree. Adds whether the sync succeeded, how many maps of names the tree
+/// has then, and the files that are then in the tree.
 pub(crate) fn add_sync_names(
     alloc: Global,
     tree: &mut MemoryTree,
@@ -104,7 +108,7 @@ pub(crate) fn add_sync_names(
     add_written(alloc, tree, succeeded, answer)
 }
 
-/// Adds whether a call that writes succeeded, the number of maps of names, and the files of the
+/// Adds whether a call succeeded, the number of the tree's maps of names, and the files of the
 /// tree.
 fn add_written(
     alloc: Global,
@@ -118,8 +122,8 @@ fn add_written(
     add_tree(alloc, tree, answer)
 }
 
-/// Answers `turns TIMES HERE THERE`: renames a file from HERE to THERE and back, TIMES times; adds
-/// nothing.
+/// Answers `turns TIMES HERE THERE`: renames a file from HERE to THERE and back, TIMES times,
+/// whether or not the renames succeed; adds nothing.
 pub(crate) fn make_turns(
     alloc: Global,
     tree: &mut MemoryTree,

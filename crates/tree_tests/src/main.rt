@@ -1,8 +1,8 @@
 //! Answers questions to `base_core` and `tree_memory`: names and lists of names, and a sink (output
 //! stream) in memory; a tree in memory with its misuses (invalid calls), its planned failures, and
 //! the files that a crash leaves of it. Its stored run has all rows; `tests/lines.md` describes
-//! their form. The tree and the sink stay from one row to the next. The README of this crate has a
-//! row for each question.
+//! their form. The tree and the sink are kept from one row to the next. The README of this crate
+//! has a row for each question.
 #![tactic(auto)]
 
 mod calls;
@@ -29,15 +29,16 @@ enum Question {
     Names,
     /// `new_sink`: the sink is replaced by an empty one.
     NewSink,
-    /// `fail_after N`, `take_at_most N`: how much the sink takes.
+    /// `fail_after N`, `take_at_most N`: limits how many bytes the sink takes.
     SetSink,
     /// `write BYTES`, `write_all BYTES`: bytes are written to the sink.
     Write,
-    /// `sink_bytes`: the bytes in the sink, and how often it ran out of memory.
+    /// `sink_bytes`: the bytes that the sink took, and how often the sink ran out of memory.
     SinkBytesAndWants,
     /// `new_tree`: the tree is replaced by an empty one.
     NewTree,
-    /// `put NAME BYTES`, `can_put NAME`: a file is put, or whether it can be.
+    /// `put NAME BYTES`, `can_put NAME`: whether the tree can have a file under the name; `put`
+    /// also puts it there.
     Put,
     /// `file NAME`: the bytes of the file.
     File,
@@ -51,7 +52,7 @@ enum Question {
     PlanFailures,
     /// `counts`: the counts of calls on the tree, and of maps of names.
     Counts,
-    /// `image N`: the files of the crash image number N.
+    /// `image N`: the files of the possible crash image with the number N.
     Image,
     /// `turns N HERE THERE`: a file is renamed to THERE and back, N times.
     Turns,
@@ -65,14 +66,17 @@ enum Question {
 // The first word of each question.
 #[rattlefmt::skip]
 const QUESTIONS: [(&[u8], Question); 26] = [
+    // Questions about names.
     (b"name", Question::Name),
     (b"names", Question::Names),
+    // Questions and calls to the sink.
     (b"new_sink", Question::NewSink),
     (b"fail_after", Question::SetSink),
     (b"take_at_most", Question::SetSink),
     (b"write", Question::Write),
     (b"write_all", Question::Write),
     (b"sink_bytes", Question::SinkBytesAndWants),
+    // Questions and calls to the tree.
     (b"new_tree", Question::NewTree),
     (b"put", Question::Put),
     (b"can_put", Question::Put),
@@ -86,6 +90,7 @@ const QUESTIONS: [(&[u8], Question); 26] = [
     (b"image", Question::Image),
     (b"turns", Question::Turns),
     (b"sync_names", Question::SyncNames),
+    // Calls that change a file of the tree, or sync it.
     (b"create", Question::Call),
     (b"append", Question::Call),
     (b"sync", Question::Call),
@@ -103,8 +108,8 @@ struct InMemory {
 }
 
 impl Subject for InMemory {
-    // Answers a question by its first word, on the tree and the sink as earlier rows have left
-    // them.
+    // Answers a question, which the first word of the row names, on the tree and the sink as
+    // earlier rows have left them.
     fn answer(
         &mut self,
         alloc: Global,
@@ -136,7 +141,7 @@ impl Subject for InMemory {
     }
 }
 
-// Answers a question about the tree, or makes a call on it.
+// Answers a question about the tree, or makes the call on the tree that the row names.
 fn answer_of_tree(
     alloc: Global,
     tree: &mut MemoryTree,
@@ -159,7 +164,7 @@ fn answer_of_tree(
     }
 }
 
-// Answers the rows of standard input.
+// Answers the rows of standard input, with a tree and a sink that are empty at first.
 fn main(rt: HostRuntime) -> io::Result<ExitCode> {
     let alloc = rt.alloc();
     let mut in_memory = InMemory {

@@ -1,6 +1,6 @@
-//! Names, a sink in memory, and a tree in memory: what is put and read, which calls are to fail,
-//! and what a crash leaves. The rules are in `docs/crash-safety.md`, "A tree at one moment",
-//! "What a crash leaves" and "Misuses, faults and counts".
+//! Answers about names, a sink in memory and a tree in memory: what is put and read, which calls
+//! are planned to fail, and what a crash leaves. The rules are in `docs/crash-safety.md`, "A tree
+//! at one moment", "What a crash leaves" and "Misuses, faults and counts".
 
 use base_core::{Name, Names, Sink, Tree, Words, read_all, write_all};
 use row_lines::{add_named, add_number, add_word, add_yes_or_no, number_of, word_at};
@@ -19,6 +19,7 @@ pub(crate) fn add_put(
         return answer.extend_from_slice(b"no name");
     };
     let can = tree.can_put(&name);
+    // `can_put` only asks.
     if can && word_at(words, 0) == b"put".as_slice() {
         tree.put(&name, word_at(words, 2))?;
     }
@@ -78,8 +79,8 @@ pub(crate) fn add_list(
     }
 }
 
-/// Makes the calls on the tree with these numbers fail (`fail_at N ..`), or all after the next N
-/// calls (`stop_after N`).
+/// Plans which later calls on the tree fail: those with these numbers (`fail_at N ..`), or all
+/// after the next N calls (`stop_after N`).
 pub(crate) fn plan_failures(
     alloc: Global,
     tree: &mut MemoryTree,
@@ -97,7 +98,8 @@ pub(crate) fn plan_failures(
 }
 
 /// Adds how many calls on the tree were made, and how many of them wrote, failed, and ran out of
-/// memory. Then adds the length of the longest read, and how many maps of names there are.
+/// memory (`wants`). Then adds the length of the longest read, and the number of the tree's maps of
+/// names.
 pub(crate) fn add_counts(
     alloc: Global,
     tree: &MemoryTree,
@@ -111,7 +113,7 @@ pub(crate) fn add_counts(
     add_count(alloc, answer, b"maps ", tree.maps())
 }
 
-// Adds a word and a number.
+// Adds what a number counts (`what`), and the number.
 fn add_count(
     alloc: Global,
     answer: &mut Vec<u8>,
@@ -122,7 +124,7 @@ fn add_count(
     add_number(alloc, answer, u128::from(count))
 }
 
-/// Adds each name with the bytes of its file.
+/// Adds each name in the tree with the bytes of its file.
 pub(crate) fn add_tree(
     alloc: Global,
     tree: &MemoryTree,
@@ -152,8 +154,8 @@ pub(crate) fn add_image(
     add_counts(alloc, &image, answer)
 }
 
-/// Lets the sink fail after N more bytes (`fail_after N`), or take at most N bytes of each write
-/// (`take_at_most N`).
+/// Plans that the sink fails after N more bytes (`fail_after N`), or takes at most N bytes of each
+/// write (`take_at_most N`).
 pub(crate) fn set_sink(sink: &mut MemorySink, words: &Words) {
     let count = usize::try_from(long_at(words, 1)).unwrap_or(0);
     if word_at(words, 0) == b"fail_after".as_slice() {
@@ -193,8 +195,8 @@ pub(crate) fn add_sink_bytes_and_wants(
     add_number(alloc, answer, u128::from(sink.wants()))
 }
 
-/// Answers `name TEXT`: adds whether TEXT is a valid name. The name and a copy of it must then have
-/// the bytes of TEXT.
+/// Answers `name TEXT`: adds whether TEXT is a valid name. If it is, the answer is yes only if the
+/// name and a copy of the name have the bytes of TEXT.
 pub(crate) fn add_is_name(
     alloc: Global,
     words: &Words,
@@ -213,12 +215,14 @@ pub(crate) fn add_is_name(
     }
 }
 
-/// The name that the word at an index of the row is; None if it is no valid name.
+/// The name in the word of the row with the index `i`, counted from 0; None if the word is no valid
+/// name.
 pub(crate) fn name_at(alloc: Global, words: &Words, i: usize) -> Result<Option<Name>, AllocError> {
     Name::read(alloc, word_at(words, i))
 }
 
-/// The number that the word at an index of the row is; 0 if it is no number of 64 bits.
+/// The number in the word of the row with the index `i`, counted from 0; 0 if the word is no number
+/// of 64 bits.
 pub(crate) fn long_at(words: &Words, i: usize) -> u64 {
     number_of(word_at(words, i))
         .and_then(|number| u64::try_from(number).ok())
@@ -241,7 +245,7 @@ pub(crate) fn add_names(
     add_each(&names, answer)
 }
 
-/// Adds each name of a list.
+/// Adds each name of a list, in its order.
 pub(crate) fn add_each(names: &Names, answer: &mut Vec<u8>) -> Result<(), AllocError> {
     for i in 0..names.len() {
         add_word(answer, names.get(i).as_bytes())?;
