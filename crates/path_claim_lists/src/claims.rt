@@ -154,10 +154,7 @@ fn has_one_claim_of_each_path(claims: &[Claim<'_>]) -> bool
 }
 
 /// The first claim of each path, among claims in the order of their paths.
-fn first_claims<'a>(
-    alloc: Global,
-    claims: &[Claim<'a>],
-) -> Result<Vec<Claim<'a>>, AllocError>
+fn first_claims<'a>(alloc: Global, claims: &[Claim<'a>]) -> Result<Vec<Claim<'a>>, AllocError>
     // The claims are in the order of their paths.
     requires { IsSorted claim_cmp (map claim_seen claims.now) }
     ensures { IfOk result
