@@ -52,6 +52,22 @@ impl Draft {
         }
     }
 
+    /// A draft without a value, with memory for a payload of this many bytes.
+    ///
+    /// # Errors
+    ///
+    /// Out of memory.
+    pub fn with_capacity(alloc: Global, bytes: usize) -> Result<Draft, AllocError>
+        ensures { IfOk result (λ draft. draft ≡ empty_draft) }
+    {
+        let writer = Writer::with_capacity(alloc, bytes)?;
+        Ok(Draft {
+            writer,
+            words: Vec::new(alloc),
+            starts: Vec::new(alloc),
+        })
+    }
+
     /// Adds a Null.
     pub fn null(&mut self) -> Result<(), AllocError>
         ensures ok { OnOk result (self.new ≡ draft_with null self.old) }

@@ -12,6 +12,6 @@ mod draft;
 
 pub use adb_write::{
     WriteFault, a_canonical_payload_is_read_back, a_canonical_payload_is_visited_once,
-    a_value_overflows_exactly_past_a_limit, file_of,
+    a_value_overflows_exactly_past_a_limit, file_in_place, file_of,
 };
 pub use draft::Draft;

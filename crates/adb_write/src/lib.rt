@@ -31,4 +31,4 @@ pub use laws::{
     a_word_is_read_as_its_value, a_word_keeps_its_value, an_answer_denotes_its_value,
     values_are_written_depth_first,
 };
-pub use writer::{WriteFault, Writer, file_of};
+pub use writer::{WriteFault, Writer, file_in_place, file_of};

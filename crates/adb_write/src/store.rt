@@ -5,7 +5,7 @@
 //! their keys. `stored` says that each names an item of the payload, and `inside` that a slot is
 //! one of these pages.
 
-ghost use Rattle.std.specs.Prelude.{◌≡◌, ◌≤◌, ◌-◌, [], ◌∷◌, ◌++◌, length, replicate, OnOk, OnErr};
+ghost use Rattle.std.specs.Prelude.{◌≡◌, ◌≤◌, ◌-◌, [], ◌∷◌, ◌++◌, length, replicate, IfOk, OnOk, OnErr};
 ghost use Rattle.std.specs.List.{concat};
 ghost use Rattle.adb_write.specs.Items.{item_of};
 ghost use Rattle.adb_write.specs.Keys.{fingerprint_of, key_of, locator_of, HaveRisingKeys};
@@ -38,6 +38,19 @@ impl Store {
             payload: Vec::new(alloc),
             words: WordPages::new(alloc),
         }
+    }
+
+    /// A store without anything in it, with memory for a payload of this many bytes.
+    pub(crate) fn with_capacity(alloc: Global, bytes: usize) -> Result<Store, AllocError>
+        ensures payload { IfOk result (λ store. store.payload.items ≡ []) }
+        // There are no pages of locators.
+        ensures words { IfOk result (λ store. pages_of store.words ≡ []) }
+    {
+        let payload = Vec::with_capacity(alloc, bytes)?;
+        Ok(Store {
+            payload,
+            words: WordPages::new(alloc),
+        })
     }
 
     /// The locator of an item that equals this one, or the slot of the pages at which its own would

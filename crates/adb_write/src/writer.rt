@@ -129,6 +129,25 @@ impl Writer {
         }
     }
 
+    /// A writer that has written nothing, with memory for a payload of this many bytes. A payload
+    /// that outgrows its memory is copied into a larger one.
+    ///
+    /// # Errors
+    ///
+    /// Out of memory.
+    pub fn with_capacity(alloc: Global, bytes: usize) -> Result<Writer, AllocError>
+        ensures { IfOk result (λ writer. writer ≡ empty_writing) }
+    {
+        let store = Store::with_capacity(alloc, bytes)?;
+        Ok(Writer {
+            store,
+            counts: PayloadCounts {
+                bytes: HEAD,
+                values: 1,
+            },
+        })
+    }
+
     /// Whether a limit was passed, so that nothing more is written.
     pub fn passes_limit(&self) -> bool
         ensures { result ≡ is_past_limit self.now }
@@ -332,6 +351,28 @@ pub fn file_of(alloc: Global, schema: u32, payload: &[u8]) -> Result<Vec<u8>, Al
     file.extend_from_slice(&schema.to_le_bytes())?;
     file.extend_from_slice(head)?;
     file.extend_from_slice(payload)?;
+    file.resize(len, 0)?;
+    Ok(file)
+}
+
+/// The container that `file_of` makes of a payload, made in the memory of the payload.
+///
+/// # Errors
+///
+/// Out of memory.
+pub fn file_in_place(schema: u32, payload: Vec<u8>) -> Result<Vec<u8>, AllocError>
+    requires { length payload.items ≤ MOST_BYTES }
+    ensures { IfOk result (λ file. file.items ≡ file_of schema payload.items) }
+{
+    let head = block_head(BlockKind::Adb, payload.len() as u64);
+    let head = head.bytes();
+    let end = FILE_HEADER + head.len() + payload.len();
+    let len = end + padding_of(head.len() + payload.len());
+    let mut file = payload;
+    file.extend_from_slice(b"ADB.")?;
+    file.extend_from_slice(&schema.to_le_bytes())?;
+    file.extend_from_slice(head)?;
+    file.rotate_right(FILE_HEADER + head.len());
     file.resize(len, 0)?;
     Ok(file)
 }

@@ -18,7 +18,7 @@ use crate::laws::{a_database_of_sound_packages_may_be_the_root, a_written_databa
 use crate::packages::write_packages;
 use adb_copy::Draft;
 use adb_schema::IDB_WORD;
-use adb_write::{WriteFault, file_of};
+use adb_write::{WriteFault, file_in_place};
 use db_core::{Members, Owned};
 use std::alloc::{AllocError, Global};
 
@@ -48,7 +48,19 @@ pub fn write_db(alloc: Global, members: &Members<'_>, owned: &Owned) -> Result<V
         Ok(payload) => payload,
         Err(fault) => return Err(fault),
     };
-    Ok(file_of(alloc, IDB_WORD, &payload)?)
+    Ok(file_in_place(IDB_WORD, payload)?)
+}
+
+/// For how many bytes the payload of a new database gets memory at first: as many as the old
+/// database has, and a sixteenth more. A payload that outgrew its memory would leave smaller copies
+/// of itself in memory.
+fn first_capacity(members: &Members<'_>) -> usize {
+    let db = members.db();
+    if db.len() == 0 {
+        return 0;
+    }
+    let len = db.package(0).adb().payload().len();
+    len.saturating_add(len / 16)
 }
 
 /// The payload of the database that lists these members, and of their files those whose flag is
@@ -65,7 +77,7 @@ fn database_payload(
     // The payload is within the limit of bytes.
     ensures small { IfOk result (λ payload. length payload.items ≤ MOST_BYTES) }
 {
-    let mut draft = Draft::new(alloc);
+    let mut draft = Draft::with_capacity(alloc, first_capacity(members))?;
     write_database(alloc, &mut draft, members, flags)?;
     draft.finish()
 }

@@ -13,7 +13,7 @@ use Rattle.path_claim_lists.specs.path_claims.Claims.{PathClaim, is_claim_of_pat
 use Rattle.path_claim_lists.proofs.Firsts.{paths}
 use Rattle.path_claim_lists.proofs.PathOrder.{behind}
 use Rattle.change_files.specs.PlanLists.{sorted_distinct_names, prepend_unless_repeated, without_repeats}
-use Rattle.change_files.proofs.InOrder.{from_with, in_sorted, from_sorted, from_unless, from_once, in_order, from_order, order_rises, filter_rises}
+use Rattle.change_files.proofs.InOrder.{from_once, in_order, from_order, order_rises, filter_rises}
 
 -- ---- each once
 

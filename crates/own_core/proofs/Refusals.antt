@@ -12,7 +12,6 @@ use Rattle.base_core.specs.ByteOrder.{bytes_cmp, smallest_text}
 use Rattle.base_core.specs.Sorted.{sorted_by}
 use Rattle.base_core.proofs.Smallest.{smallest_first}
 use Rattle.base_core.proofs.Sorting.{Each, Rises, one_order, ranks, rises_in_order, stable_in_order}
-use Rattle.base_core.proofs.Orderings.{names_total}
 use Rattle.change_files.specs.adb_schema.Reserved.{is_reserved}
 use Rattle.change_files.specs.db_core.Members.{Listing, Member, is_added, member_listings}
 use Rattle.path_claim_lists.specs.path_claims.Claims.{ContestedPath, PathClaim, claim_cmp, claimants, contested_path_at, first_contested_path, first_path_without_owner, is_claim_of_path, owner_among}

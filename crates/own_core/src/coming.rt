@@ -78,5 +78,5 @@ pub fn added_claims<'n>(
         (map claim_seen coming.items)) }
 {
     let owned = owned_claims(alloc, members, claims, owners)?;
-    one_of_each_path(alloc, &owned)
+    one_of_each_path(alloc, owned)
 }

@@ -309,7 +309,7 @@ pub fn plan<'c, T: Tree>(
         return Err(PlanFault::Reserved { path });
     }
     let listed = claims_in_database(alloc, old)?;
-    let before = one_of_each_path(alloc, &listed)?;
+    let before = one_of_each_path(alloc, listed)?;
     let change = ClaimChange {
         db: old,
         members: after,

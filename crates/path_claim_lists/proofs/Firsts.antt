@@ -1,16 +1,16 @@
 -- The first claim of each path, one claim more.
-use Rattle.std.proofs.Common.{◌≡◌, ◌⊎◌, inl, inr, ℕ, suc, zero, ◌+◌, ◌<◌, ◌≤◌, Bool, true, false, cond, List, [], ◌∷◌, ◌++◌, length, map, drop, take, Option, Some, None, refl, ap, sym, ◌∙◌, subst, arith, true≢false, Less}
-use Rattle.std.specs.Prelude.{◌&&◌, slice_get, slice_index_or, bytes_eq}
+use Rattle.std.proofs.Common.{◌≡◌, ◌⊎◌, inl, inr, ℕ, suc, zero, ◌+◌, ◌<◌, ◌≤◌, Bool, true, false, cond, List, [], ◌∷◌, ◌++◌, length, map, take, Option, Some, None, refl, ap, sym, ◌∙◌, subst, arith, true≢false, Less}
+use Rattle.std.specs.Prelude.{slice_get, slice_index_or, bytes_eq}
 use Rattle.std.specs.Cmp.Lexicographic.{bytes_decides}
 use Rattle.std.specs.List.{find}
 use Rattle.std.specs.List.Sorted.{IsSorted, ties}
 use Rattle.std.specs.Ordering.{is_lt}
-use Rattle.std.proofs.lemmas.Cmp.{nat_list_cmp_total}
 use Rattle.std.proofs.lemmas.Bool.{not-true, not-false}
+use Rattle.std.proofs.lemmas.Option.{slice_get_cases}
 use Rattle.base_core.specs.Listed.{AreSortedDistinctNames}
 use Rattle.base_core.proofs.Rising as Names
 use Rattle.base_core.specs.ByteOrder.{bytes_cmp, precedes}
-use Rattle.base_core.proofs.Sorting.{Each, Rises, ranks, rises_sorted}
+use Rattle.base_core.proofs.Sorting.{Each, ranks, rises_sorted}
 use Rattle.base_core.proofs.Orderings.{is_less}
 use Rattle.path_claims.specs.Claims.{PathClaim, claim_cmp, is_claim_of_path}
 use Rattle.path_claims.specs.Runs.{differ_in_path, is_first_of_path}
@@ -18,7 +18,7 @@ use Rattle.path_claims.proofs.ClaimOrder.{claims_total}
 use Rattle.path_claims.proofs.Owned.{ties_path}
 use Rattle.path_claims.specs.Seen.{claim_seen}
 use Rattle.path_claims.specs.declared.claim.Claim.{Claim}
-use Rattle.path_claims.proofs.Places.{map_len, no_some, seen_at, value_or}
+use Rattle.path_claims.proofs.Places.{map_len, no_some, seen_at}
 use Rattle.path_claims.proofs.Runs.{front_below}
 use Rattle.path_claim_lists.specs.Once.{HasFirstClaimOfEachPath}
 use Rattle.path_claim_lists.proofs.Lists.{found_both, found_is, found_some, or_found, take_at, take_whole}
@@ -154,3 +154,16 @@ pub firsts_kept : (xs fs gs : List Claim) (i : ℕ) → i < length xs → is_fir
 firsts_kept xs fs gs i l s e h =
     let n : length (map claim_seen xs) ≡ length xs = map_len claim_seen xs in
     subst (λ l. HasFirstClaimOfEachPath (take (i + 1) (map claim_seen xs)) (map claim_seen l)) (sym e) (not_more (map claim_seen xs) (map claim_seen fs) i (omega (arith, n, l)) s h)
+
+-- claims of which each is the first one of its path are the first ones of each path
+pub own_first_more : (xs : List Claim) (i : ℕ) → IsSorted claim_cmp (map claim_seen xs) → i < length xs → is_first_of_path (map claim_seen xs) i ≡ true
+    → HasFirstClaimOfEachPath (take i (map claim_seen xs)) (take i (map claim_seen xs)) → HasFirstClaimOfEachPath (take (i + 1) (map claim_seen xs)) (take (i + 1) (map claim_seen xs))
+own_first_more xs i up l s h =
+    let n : length (map claim_seen xs) ≡ length xs = map_len claim_seen xs in
+    elim (slice_get_cases (map claim_seen xs) i).1 [ inl here ↦ more here.0 here.2 | inr past ↦ absurd (omega (arith, n, l, past.0)) ]
+  where
+    more : (c : PathClaim) → slice_get (map claim_seen xs) i ≡ Some c → HasFirstClaimOfEachPath (take (i + 1) (map claim_seen xs)) (take (i + 1) (map claim_seen xs))
+    more c g =
+        let n : i + 1 ≡ suc i = omega arith in
+        subst (HasFirstClaimOfEachPath (take (i + 1) (map claim_seen xs))) (sym (ap (λ k. take k (map claim_seen xs)) n ∙ take_at (map claim_seen xs) i c g))
+        (first_more (map claim_seen xs) (take i (map claim_seen xs)) i c up g s h)

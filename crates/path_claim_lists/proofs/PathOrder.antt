@@ -1,9 +1,9 @@
 -- Claims in the order of their paths, and the place of a path among them.
-use Rattle.std.proofs.Common.{◌≡◌, ℕ, suc, zero, ◌+◌, ◌-◌, ◌<◌, ◌≤◌, Bool, true, false, cond, List, [], ◌∷◌, ◌++◌, length, map, drop, take, Option, Some, None, refl, ap, sym, ◌∙◌, subst, arith, true≢false, Ordering, Less, Equal, Greater}
-use Rattle.std.specs.Prelude.{not, ◌&&◌, slice_get, slice_index_or, option_and_then, bytes_eq}
-use Rattle.std.specs.Cmp.Lexicographic.{slice_cmp, texts_ties, bytes_decides}
+use Rattle.std.proofs.Common.{◌≡◌, ℕ, suc, zero, ◌-◌, ◌<◌, ◌≤◌, Bool, true, false, cond, List, [], ◌∷◌, length, map, drop, take, Some, None, refl, ap, sym, ◌∙◌, subst, arith, true≢false, Ordering, Less, Equal, Greater}
+use Rattle.std.specs.Prelude.{slice_get, slice_index_or, bytes_eq}
+use Rattle.std.specs.Cmp.Lexicographic.{slice_cmp, texts_ties}
 use Rattle.std.specs.List.{find}
-use Rattle.std.specs.List.Sorted.{IsPartitionPoint, IsPartitionedBy, IsSorted, IsSortedBy, ties}
+use Rattle.std.specs.List.Sorted.{IsPartitionPoint, IsPartitionedBy, IsSorted}
 use Rattle.std.specs.Ordering.{is_eq, is_lt, nat_cmp, ordering_reverse}
 use Rattle.std.proofs.lemmas.Cmp.{nat_list_cmp_total}
 use Rattle.std.proofs.lemmas.List.Sorted.{sorted_far}
@@ -14,7 +14,7 @@ use Rattle.path_claims.specs.Claims.{PathClaim, claim_cmp, is_claim_of_path}
 use Rattle.path_claims.specs.Seen.{claim_seen}
 use Rattle.path_claims.specs.declared.claim.Claim.{Claim}
 use Rattle.path_claims.proofs.ClaimOrder.{claims_total}
-use Rattle.path_claims.proofs.Places.{map_len, no_some, seen_at, value_or}
+use Rattle.path_claims.proofs.Places.{map_len}
 use Rattle.path_claim_lists.proofs.Lists.{drop_at, drop_past, each_above, each_below, found_none, found_skip}
 
 less_apart_by : (o : Ordering) → is_lt o ≡ true → is_eq o ≡ false

@@ -116,15 +116,45 @@ fn place_of(claims: &[Claim<'_>], path: &FilePath<'_>) -> usize
     claims.partition_point(|claim| claim.path.compare(path).is_lt())
 }
 
-/// The first claim of each path, among claims in the order of their paths.
+/// The first claim of each path, among claims in the order of their paths. If each path has one
+/// claim, they are returned as they are, and no memory is needed.
 ///
 /// # Errors
 ///
 /// Out of memory.
 pub fn one_of_each_path<'a>(
     alloc: Global,
-    claims: &[Claim<'a>],
+    claims: Vec<Claim<'a>>,
 ) -> Result<Vec<Claim<'a>>, AllocError>
+    // The claims are in the order of their paths.
+    requires { IsSorted claim_cmp (map claim_seen claims.items) }
+    ensures { IfOk result
+        (λ firsts. HasFirstClaimOfEachPath (map claim_seen claims.entry.items)
+        (map claim_seen firsts.items)) }
+{
+    if has_one_claim_of_each_path(&claims) {
+        return Ok(claims);
+    }
+    first_claims(alloc, &claims)
+}
+
+/// Whether each claim, among claims in the order of their paths, is the first one of its path.
+fn has_one_claim_of_each_path(claims: &[Claim<'_>]) -> bool
+    // The claims are in the order of their paths.
+    requires { IsSorted claim_cmp (map claim_seen claims.now) }
+    ensures { result ≡ true
+        → HasFirstClaimOfEachPath (map claim_seen claims.now) (map claim_seen claims.now) }
+{
+    for i in 0..claims.len() {
+        if !begins_path(claims, i) {
+            return false;
+        }
+    }
+    true
+}
+
+/// The first claim of each path, among claims in the order of their paths.
+fn first_claims<'a>(alloc: Global, claims: &[Claim<'a>]) -> Result<Vec<Claim<'a>>, AllocError>
     // The claims are in the order of their paths.
     requires { IsSorted claim_cmp (map claim_seen claims.now) }
     ensures { IfOk result

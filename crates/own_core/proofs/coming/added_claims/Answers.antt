@@ -1,4 +1,4 @@
-use Rattle.std.proofs.Common.{ap, map, subst, sym, ◌∙◌}
+use Rattle.std.proofs.Common.{map, subst, sym}
 use Rattle.std.specs.List.Sorted.{IsSorted}
 use Rattle.std.specs.Ordering.{is_lt}
 use Rattle.std.proofs.lemmas.List.Kept.{IsSortedBy-filter}
@@ -12,5 +12,5 @@ use Rattle.own_core.proofs.coming.added_claims.Goals as goal
 
 pub one_of_each_path-requires : goal.one_of_each_path-requires
 one_of_each_path-requires c =
-    subst (IsSorted claim_cmp) (sym (ap (map claim_seen) c.deref.ensures.value ∙ c.in_ok-owned.ensures))
+    subst (IsSorted claim_cmp) (sym c.in_ok-owned.ensures)
     (IsSortedBy-filter (λ x y. is_lt (claim_cmp x y)) (ranks claim_cmp claims_total) (is_of_added_owner (members_of c.args.members.now)) (map claim_seen c.args.claims.now) c.requires.sorted)

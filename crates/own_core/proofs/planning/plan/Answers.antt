@@ -23,34 +23,34 @@ first_reserved_path-requires-clause-files g c =
 
 pub one_of_each_path-requires : goal.one_of_each_path-requires
 one_of_each_path-requires g c =
-    is_sorted (claims_in (members_of_kept (packages_of c.args.old.now))) (map claim_seen c.deref-2.result.now) (ap (map claim_seen) c.deref-2.ensures.value ∙ c.in_ok-listed.ensures)
+    is_sorted (claims_in (members_of_kept (packages_of c.args.old.now))) (map claim_seen c.in_ok-listed.listed.items) c.in_ok-listed.ensures
 
 pub added_claims-requires-clause-files : goal.added_claims-requires-clause-files
 added_claims-requires-clause-files g c =
-    are_claims (members_of c.args.after.now) (map claim_seen c.deref-5.result.now) c.listed_paths_are_names-2.ensures (ap (map claim_seen) c.deref-5.ensures.value ∙ c.in_ok-found.ensures.claims)
+    are_claims (members_of c.args.after.now) (map claim_seen c.deref-4.result.now) c.listed_paths_are_names-2.ensures (ap (map claim_seen) c.deref-4.ensures.value ∙ c.in_ok-found.ensures.claims)
 
 pub added_claims-requires-clause-sorted : goal.added_claims-requires-clause-sorted
 added_claims-requires-clause-sorted g c =
-    is_sorted (claims_in (members_of c.args.after.now)) (map claim_seen c.deref-5.result.now) (ap (map claim_seen) c.deref-5.ensures.value ∙ c.in_ok-found.ensures.claims)
+    is_sorted (claims_in (members_of c.args.after.now)) (map claim_seen c.deref-4.result.now) (ap (map claim_seen) c.deref-4.ensures.value ∙ c.in_ok-found.ensures.claims)
 
 pub plan_of_claims-requires-clause-claims : goal.plan_of_claims-requires-clause-claims
 plan_of_claims-requires-clause-claims g c =
     let change : ClaimChange = record {
       db = record { ref_ptr = c.args.old.ref_ptr; now = c.args.old.now };
       members = record { ref_ptr = c.args.after.ref_ptr; now = c.args.after.now };
-      before = record { ref_ptr = c.deref-3.result.ref_ptr; now = c.deref-3.result.now };
-      after = record { ref_ptr = c.deref-4.result.ref_ptr; now = c.deref-4.result.now };
+      before = record { ref_ptr = c.deref-2.result.ref_ptr; now = c.deref-2.result.now };
+      after = record { ref_ptr = c.deref-3.result.ref_ptr; now = c.deref-3.result.now };
       purge = c.args.purge;
     } in
-    let claims : HasClaimsOfPackages change = has_claims change c.listed_paths_are_names.ensures c.listed_paths_are_names-2.ensures (map claim_seen c.deref-2.result.now) (ap (map claim_seen) c.deref-2.ensures.value ∙ c.in_ok-listed.ensures)
-    (subst (λ (xs : List Claim). HasFirstClaimOfEachPath (map claim_seen c.deref-2.result.now) (map claim_seen xs)) (sym c.deref-3.ensures.value) c.in_ok-before.ensures)
-    (ap (map claim_seen) c.deref-4.ensures.value ∙ c.in_ok-found.ensures.claims) in
+    let claims : HasClaimsOfPackages change = has_claims change c.listed_paths_are_names.ensures c.listed_paths_are_names-2.ensures (map claim_seen c.in_ok-listed.listed.items) c.in_ok-listed.ensures
+    (subst (λ (xs : List Claim). HasFirstClaimOfEachPath (map claim_seen c.in_ok-listed.listed.items) (map claim_seen xs)) (sym c.deref-2.ensures.value) c.in_ok-before.ensures)
+    (ap (map claim_seen) c.deref-3.ensures.value ∙ c.in_ok-found.ensures.claims) in
     claims
 
 pub plan_of_claims-requires-clause-firsts : goal.plan_of_claims-requires-clause-firsts
 plan_of_claims-requires-clause-firsts g c =
-    let firsts : HasFirstClaimOfEachPath (filter (is_of_added_owner (members_of c.args.after.now)) (map claim_seen c.deref-4.result.now)) (map claim_seen c.deref-7.result.now) =
-    firsts_over (members_of c.args.after.now) c.deref-4.result.now c.deref-5.result.now c.in_ok-coming.coming.items c.deref-7.result.now (c.deref-5.ensures.value ∙ sym c.deref-4.ensures.value) c.deref-7.ensures.value c.in_ok-coming.ensures in
+    let firsts : HasFirstClaimOfEachPath (filter (is_of_added_owner (members_of c.args.after.now)) (map claim_seen c.deref-3.result.now)) (map claim_seen c.deref-6.result.now) =
+    firsts_over (members_of c.args.after.now) c.deref-3.result.now c.deref-4.result.now c.in_ok-coming.coming.items c.deref-6.result.now (c.deref-4.ensures.value ∙ sym c.deref-3.ensures.value) c.deref-6.ensures.value c.in_ok-coming.ensures in
     firsts
 
 pub returns-clause-names : goal.returns-clause-names

@@ -1,4 +1,4 @@
-use Rattle.std.proofs.Common.{◌≡◌, ◌<◌, ◌≤◌, ap, sym, subst, ◌∙◌, map, length, arith}
+use Rattle.std.proofs.Common.{◌≡◌, ap, ◌∙◌, map, length, arith}
 use Rattle.std.specs.Ordering.{is_eq}
 use Rattle.path_claims.specs.adb_fields.JoinedPath.{joined_path}
 use Rattle.path_claims.specs.Seen.{claim_seen}

@@ -1,9 +1,9 @@
-use Rattle.std.proofs.Common.{◌≡◌, ◌∙◌, ◌≤◌, ◌<◌, ap, sym, subst, map, length, arith}
+use Rattle.std.proofs.Common.{◌≡◌, ◌∙◌, ap, sym, map, length, arith}
 use Rattle.path_claims.specs.Seen.{claim_seen}
 use Rattle.path_claims.proofs.Places.{map_len}
 use Rattle.path_claim_lists.proofs.Firsts.{first_pushed, firsts_kept, firsts_whole}
-use Rattle.path_claim_lists.proofs.claims.one_of_each_path.Goals as goal
-use Rattle.path_claim_lists.proofs.claims.one_of_each_path.Goals.{then-begins_path+in_ok-push, else-begins_path}
+use Rattle.path_claim_lists.proofs.claims.first_claims.Goals as goal
+use Rattle.path_claim_lists.proofs.claims.first_claims.Goals.{then-begins_path+in_ok-push, else-begins_path}
 
 pub loop-i-preserved : goal.loop-i-preserved
 loop-i-preserved c = elim c.if-begins_path.branch [

@@ -2,7 +2,7 @@
 use Rattle.std.proofs.Common.{map, take}
 use Rattle.path_claims.specs.Seen.{claim_seen}
 use Rattle.path_claim_lists.specs.Once.{HasFirstClaimOfEachPath}
-use Rattle.path_claim_lists.proofs.claims.one_of_each_path.Given as goal
+use Rattle.path_claim_lists.proofs.claims.first_claims.Given as goal
 
 abbrev pub invariant-loop-i : goal.invariant-loop-i
 invariant-loop-i l = HasFirstClaimOfEachPath (take l.i (map claim_seen l.claims)) (map claim_seen l.firsts.items)
