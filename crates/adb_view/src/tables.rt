@@ -1,6 +1,7 @@
-//! The ten tables of the containers: fields, the constants, and the fields of each table. The
-//! tables are defined in `docs/formats.md`, "Schemas". A new table needs a constant here, its
-//! variant of `Which`, and its lines in `fields_of` and `number_of`.
+//! The ten tables of the containers, as constants: the number of each table, and the names and
+//! kinds of its fields. Readers and writers of containers use them. The tables are defined in
+//! `docs/formats.md`, "Schemas". A new table needs a constant here, a variant of `Which`, and lines
+//! in `fields_of` and `number_of`.
 
 ghost use Rattle.std.specs.Prelude.{◌≡◌, ◌≤◌};
 ghost use Rattle.adb_view.specs.Schema.{table, table_number, shape_of, shapes_of};
@@ -51,7 +52,7 @@ pub enum Kind {
     ObjArr(Which),
 }
 
-/// A field of a table. Its number is its place in the table, counted from 1.
+/// A field of a table. The number of a field is its position in the table, counted from 1.
 #[derive(Clone, Copy, Debug, PartialEq, Eq)]
 pub struct Field {
     /// The name of the field, as dumps print it.
@@ -63,8 +64,8 @@ pub struct Field {
 /// A table of N fields.
 #[derive(Clone, Copy)]
 pub struct Schema<const N: usize> {
-    /// The number of the table. Causes name a field by a number: 100 times that of its table plus
-    /// its own.
+    /// The number of the table. A cause names a field by 100 times the number of the field's table,
+    /// plus the field's own number.
     pub number: u16,
     /// The fields of the table, in the order of their numbers, which count from 1.
     pub fields: [Field; N],
