@@ -19,6 +19,7 @@ use std::marker::Model;
 
 /// Writes the line of a refusal. If the sink fails, a prefix of it was written.
 pub fn write_error<E: Sink>(refusal: &Refusal, err: &mut E) -> Result<(), SinkFault>
+    // The sink gets this text. If a write fails, it gets a prefix of the text.
     ensures { Writes (refusal_line refusal.now)
         (sink_before_and_after E.bytes E.counts err.old err.new) result }
 {
@@ -30,6 +31,7 @@ pub fn write_error<E: Sink>(refusal: &Refusal, err: &mut E) -> Result<(), SinkFa
 
 /// Writes a sentence: its pieces, and then its cause.
 fn write_sentence<E: Sink>(sentence: &Sentence<'_>, err: &mut E) -> Result<(), SinkFault>
+    // The sink gets this text. If a write fails, it gets a prefix of the text.
     ensures { Writes (sentence_text sentence.now)
         (sink_before_and_after E.bytes E.counts err.old err.new) result }
 {
@@ -39,6 +41,7 @@ fn write_sentence<E: Sink>(sentence: &Sentence<'_>, err: &mut E) -> Result<(), S
 
 /// Writes a cause, if there is one.
 fn write_cause<E: Sink>(cause: Option<Cause>, err: &mut E) -> Result<(), SinkFault>
+    // The sink gets this text. If a write fails, it gets a prefix of the text.
     ensures { Writes (cause_text_if_any cause)
         (sink_before_and_after E.bytes E.counts err.old err.new) result }
 {
@@ -72,6 +75,7 @@ pub(crate) type Pieces<'a> = [Piece<'a>; 7];
 
 /// Writes all the pieces, in order. If the sink fails, a prefix of their text was written.
 pub(crate) fn write_pieces<S: Sink>(pieces: &[Piece<'_>], sink: &mut S) -> Result<(), SinkFault>
+    // The sink gets this text. If a write fails, it gets a prefix of the text.
     ensures { Writes (pieces_text pieces.now)
         (sink_before_and_after S.bytes S.counts sink.old sink.new) result }
 {
@@ -83,6 +87,7 @@ pub(crate) fn write_pieces<S: Sink>(pieces: &[Piece<'_>], sink: &mut S) -> Resul
 
 /// Writes a piece.
 fn write_piece<S: Sink>(piece: &Piece<'_>, sink: &mut S) -> Result<(), SinkFault>
+    // The sink gets this text. If a write fails, it gets a prefix of the text.
     ensures { Writes (piece_text piece.now)
         (sink_before_and_after S.bytes S.counts sink.old sink.new) result }
 {
@@ -99,6 +104,7 @@ fn write_piece<S: Sink>(piece: &Piece<'_>, sink: &mut S) -> Result<(), SinkFault
 
 /// Writes the positions of a folder and of a file in it, with a dot between.
 fn write_position<S: Sink>(folder: u64, file: u64, sink: &mut S) -> Result<(), SinkFault>
+    // The sink gets this text. If a write fails, it gets a prefix of the text.
     ensures { Writes (folder_and_file_position_text folder file)
         (sink_before_and_after S.bytes S.counts sink.old sink.new) result }
 {
@@ -109,6 +115,7 @@ fn write_position<S: Sink>(folder: u64, file: u64, sink: &mut S) -> Result<(), S
 
 /// Writes a number in decimal.
 fn write_number<S: Sink>(number: u64, sink: &mut S) -> Result<(), SinkFault>
+    // The sink gets this text. If a write fails, it gets a prefix of the text.
     ensures { Writes (decimal number)
         (sink_before_and_after S.bytes S.counts sink.old sink.new) result }
 {
@@ -118,6 +125,7 @@ fn write_number<S: Sink>(number: u64, sink: &mut S) -> Result<(), SinkFault>
 
 /// Writes bytes as hexadecimal digits.
 fn write_hex<S: Sink>(bytes: &[u8], sink: &mut S) -> Result<(), SinkFault>
+    // The sink gets this text. If a write fails, it gets a prefix of the text.
     ensures { Writes (encode_lower bytes.now)
         (sink_before_and_after S.bytes S.counts sink.old sink.new) result }
 {
@@ -169,7 +177,9 @@ impl Report {
 
     /// Appends bytes. If memory runs out, nothing changes.
     pub fn push(&mut self, piece: &[u8]) -> Result<(), AllocError>
+        // On Ok, the bytes are appended.
         ensures ok { OnOk result (self.new ≡ self.old ++ piece.now) }
+        // After an error, the report is unchanged.
         ensures err { OnErr result (self.new ≡ self.old) }
     {
         self.bytes.extend_from_slice(piece)?;
@@ -178,7 +188,9 @@ impl Report {
 
     /// Appends a number in decimal digits. If memory runs out, nothing changes.
     pub fn number(&mut self, n: u128) -> Result<(), AllocError>
+        // On Ok, the digits are appended.
         ensures ok { OnOk result (self.new ≡ self.old ++ decimal n) }
+        // After an error, the report is unchanged.
         ensures err { OnErr result (self.new ≡ self.old) }
     {
         let mut digits = Buffer::new();
