@@ -1,5 +1,5 @@
 //! Arrays of a tested payload as lists of views, for example of packages or files. Reading an entry
-//! cannot fail. `pkg_core` and `db_core` define the views. The meaning of an entry is defined in
+//! cannot fail. `adb_schema` defines the views. The meaning of an entry is defined in
 //! `docs/formats.md`, "Values".
 
 ghost use Rattle.std.specs.Prelude.{◌≡◌, ◌<◌, ◌≤◌, ◌-◌, ◌^◌, ◌==◌, true};

@@ -1,6 +1,6 @@
-//! The search for repeated names in a container, after the shape of its payload was tested. Readers
-//! of packages, databases and journal entries call `repeated_names`. The rule is in
-//! `docs/formats.md`, "Names that stand twice".
+//! The search for repeated names in a container, after the shape of its payload was tested.
+//! `adb_schema` calls `repeated_names` when it reads a package, a database or a journal entry. The
+//! rule is in `docs/formats.md`, "Names that stand twice".
 
 ghost use Rattle.std.specs.Prelude.{◌↔◌, None, ◌≡◌, ◌+◌, ◌<◌, ◌^◌, [], ◌∷◌, true, Some, map, IfOk};
 ghost use Rattle.std.specs.Option.{option_or};

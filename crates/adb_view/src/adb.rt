@@ -200,6 +200,8 @@ impl<'a> Adb<'a> {
 
     /// The entries that `arr` returns; None if `arr` fails.
     pub fn arr_if_read(&self, v: Val) -> Option<Arr<'a>>
+        // The result has the words of the entries that the definition gives, or is None for an
+        // error.
         ensures { Finds array_entries result (result_ok (run_entries_of_word ARRAY
             (payload_of self.now) v)) }
     {
@@ -208,6 +210,8 @@ impl<'a> Adb<'a> {
 
     /// All entries of the object that `obj` returns; None if `obj` fails.
     pub fn find_entries(&self, v: Val) -> Option<Arr<'a>>
+        // The result has the words of the entries that the definition gives, or is None for an
+        // error.
         ensures { Finds array_entries result (result_ok (run_entries_of_word OBJECT
             (payload_of self.now) v)) }
     {

@@ -1,6 +1,6 @@
 //! The walk that tests the shape of a payload: it visits each word below the root, depth first,
-//! counts the visit, and tests whether the word can be read as its kind demands. `pkg_core` and
-//! other crates that open containers call `shape`. The rule is in `docs/formats.md`, "The shape".
+//! counts the visit, and tests whether the word can be read as its kind demands. `adb_schema`,
+//! `pkg_core` and `apk_front` call `shape`. The rule is in `docs/formats.md`, "The shape".
 
 ghost use Rattle.std.specs.Prelude.{min, drop, ◌<◌, slice_index, ◌≡◌, ◌≤◌, ◌+◌, IfOk, true, is_some, length, is_none, ◌↔◌, ℕ, List, Some, None};
 ghost use Rattle.std.specs.Result.{result_err};
@@ -278,6 +278,7 @@ fn walk_fields_from(
 #[inline(always)]
 #[tactic(auto, using(crate::proofs::LeafSteps::leaves_more, crate::proofs::LeafSteps::leaves_stop, crate::proofs::LeafSteps::leaves_end))]
 fn leading_leaves(adb: Adb<'_>, fields: &[Field], entries: Arr<'_>) -> usize
+    // The number is that of the definition with this name.
     ensures { result
         ≡ leading_leaves (payload_of adb.entry) fields.now (array_entries entries.entry) }
 {

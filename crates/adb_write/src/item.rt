@@ -360,6 +360,7 @@ fn list_fingerprint(words: &[Val]) -> u64
 /// which `word` points, from the last entry on.
 #[tactic(auto, using(crate::proofs::Compared::by_none))]
 fn compare_list(adb: &Adb<'_>, list: ListKind, words: &[Val], word: Val) -> Ordering
+    // The order is that of the two lists of words, both reversed.
     ensures { result ≡ slice_cmp nat_cmp (reverse (low_words words.now))
         (reverse (or_empty (run_entries_of_word (list_kind list) (payload_of adb.now) word))) }
 {
@@ -373,6 +374,7 @@ fn compare_list(adb: &Adb<'_>, list: ListKind, words: &[Val], word: Val) -> Orde
 /// The entries of the written list to which `word` points; `list` says whether it is an array or an
 /// object.
 fn entries<'a>(adb: &Adb<'a>, list: ListKind, word: Val) -> Result<Arr<'a>, Cause>
+    // The result has the words of the entries, or the cause, that the definition gives.
     ensures { Gives array_entries result (run_entries_of_word (list_kind list)
         (payload_of adb.now) word) }
 {
@@ -386,6 +388,7 @@ fn entries<'a>(adb: &Adb<'a>, list: ListKind, word: Val) -> Result<Arr<'a>, Caus
 /// Compares words with the entries of a written list, from the last entry on. The last entries that
 /// differ decide. If there are none, the numbers of entries decide.
 fn compare_words(words: &[Val], entries: &Arr<'_>) -> Ordering
+    // The order is that of the two lists of words, both reversed.
     ensures { result ≡ slice_cmp nat_cmp (reverse (low_words words.now))
         (reverse (array_entries entries.now)) }
 {

@@ -67,13 +67,16 @@ pub fn a_value_written_depth_first_is_canonical()
 /// A word that represents a value in a writer still represents this value after each further call,
 /// unless the writer passed a limit (*Denotes*).
 pub fn a_word_keeps_its_value()
-    // After a call `int`, the word still represents the value. The same holds for the other calls.
+    // After a call `int`, the word still represents the value.
     ensures int { (n : ℕ) (w : Writing) (v : Plain) (word : ℕ)
         → Denotes w v word → Denotes (int_call n w).1 v word }
+    // The same after a call `blob`.
     ensures blob { (bytes : List ℕ) (w : Writing) (v : Plain) (word : ℕ)
         → Denotes w v word → Denotes (blob_call bytes w).1 v word }
+    // The same after a call `arr`.
     ensures arr { (words : List ℕ) (w : Writing) (v : Plain) (word : ℕ)
         → Denotes w v word → Denotes (arr_call words w).1 v word }
+    // The same after a call `obj`.
     ensures obj { (words : List ℕ) (w : Writing) (v : Plain) (word : ℕ)
         → Denotes w v word → Denotes (obj_call words w).1 v word }
 {}

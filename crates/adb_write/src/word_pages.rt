@@ -271,6 +271,7 @@ fn is_before(adb: &Adb<'_>, parts: &Parts<'_>, fingerprint: u64, locator: u64) -
 /// Whether the first locator of a page has a higher key than the item `parts`, whose fingerprint is
 /// `fingerprint`; false for an empty page.
 fn begins_after(page: &[u64], adb: &Adb<'_>, parts: &Parts<'_>, fingerprint: u64) -> bool
+    // The result is that of the definition, for the key of the item.
     ensures { result ≡ page_begins_above_key (payload_of adb.now)
         (key_with_fingerprint fingerprint parts.now) page.now }
 {
