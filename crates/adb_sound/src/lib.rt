@@ -37,6 +37,7 @@ pub fn a_container_of_a_good_value_is_sound()
         → schema_word which ≡ Some schema → which ≢ Tables.Package → IsValidRootValueOfTable which v
         → container_fault (file_of schema (canonical v)) ≡ None }
 {
+    // The laws that the proof needs; they have no effect at run time.
     what_is_written_is_spelled();
     what_is_spelled_is_read();
     a_canonical_payload_is_read_back();
@@ -53,6 +54,7 @@ pub fn a_package_of_a_good_value_and_its_contents_is_sound()
         → length (container_of_value_and_contents PACKAGE_WORD v contents) < 2 ^ 64
         → container_fault (container_of_value_and_contents PACKAGE_WORD v contents) ≡ None }
 {
+    // The laws that the proof needs; they have no effect at run time.
     what_is_written_is_spelled();
     what_is_spelled_is_read();
     a_canonical_payload_is_read_back();
@@ -87,6 +89,7 @@ pub fn what_a_container_is_made_of_is_read_back()
         → package_with_contents (container_of_value_and_contents PACKAGE_WORD v contents)
         ≡ package_with_contents_from_parts v contents }
 {
+    // The laws that the proof needs; they have no effect at run time.
     what_is_written_is_spelled();
     what_is_spelled_is_read();
     a_canonical_payload_is_read_back();

@@ -184,7 +184,7 @@ impl FieldName {
     }
 }
 
-/// A field: its name, and the kind of its value.
+/// A field of a table: its name, and the kind of its value, which is a text if no kind is given.
 macro_rules! field {
     ($name:ident) => {
         field!($name: Kind::Text)
@@ -197,7 +197,7 @@ macro_rules! field {
     };
 }
 
-/// The fields of table 1, in their order.
+/// The fields of table 1, a dependency, in order. A field without a kind here is a text.
 const DEP_FIELDS: [Field; 3] = [field!(Name), field!(Version), field!(Match: Kind::Int)];
 
 /// Table 1: a dependency.
@@ -206,7 +206,7 @@ pub const DEP: Schema<3> = Schema {
     fields: DEP_FIELDS,
 };
 
-/// The fields of table 2.
+/// The fields of table 2, an access list, in order. A field without a kind here is a text.
 const ACL_FIELDS: [Field; 4] = [
     field!(Mode: Kind::Int),
     field!(User),
@@ -220,7 +220,8 @@ pub const ACL: Schema<4> = Schema {
     fields: ACL_FIELDS,
 };
 
-/// The fields of table 3.
+/// The fields of table 3, the information of a package, in order. A field without a kind here is a
+/// text.
 const PKGINFO_FIELDS: [Field; 22] = [
     field!(Name),
     field!(Version),
@@ -252,7 +253,7 @@ pub const PKGINFO: Schema<22> = Schema {
     fields: PKGINFO_FIELDS,
 };
 
-/// The fields of table 4.
+/// The fields of table 4, a file of a folder, in order. A field without a kind here is a text.
 const FILE_FIELDS: [Field; 7] = [
     field!(Name),
     field!(Acl: Kind::Obj(Which::Acl)),
@@ -269,7 +270,7 @@ pub const FILE: Schema<7> = Schema {
     fields: FILE_FIELDS,
 };
 
-/// The fields of table 5.
+/// The fields of table 5, a folder of a package, in order. A field without a kind here is a text.
 const DIR_FIELDS: [Field; 3] = [
     field!(Name),
     field!(Acl: Kind::Obj(Which::Acl)),
@@ -282,7 +283,7 @@ pub const DIR: Schema<3> = Schema {
     fields: DIR_FIELDS,
 };
 
-/// The fields of table 6.
+/// The fields of table 6, a package's scripts, in order. Each is a text.
 const SCRIPTS_FIELDS: [Field; 7] = [
     field!(Trigger),
     field!(PreInstall),
@@ -299,7 +300,7 @@ pub const SCRIPTS: Schema<7> = Schema {
     fields: SCRIPTS_FIELDS,
 };
 
-/// The fields of table 7.
+/// The fields of table 7, a package, in order.
 const PACKAGE_FIELDS: [Field; 5] = [
     field!(Info: Kind::Obj(Which::PkgInfo)),
     field!(Paths: Kind::ObjArr(Which::Dir)),
@@ -314,7 +315,7 @@ pub const PACKAGE: Schema<5> = Schema {
     fields: PACKAGE_FIELDS,
 };
 
-/// The fields of table 8.
+/// The fields of table 8, an index of packages, in order. A field without a kind here is a text.
 const INDEX_FIELDS: [Field; 3] = [
     field!(Description),
     field!(Packages: Kind::ObjArr(Which::PkgInfo)),
@@ -327,7 +328,7 @@ pub const INDEX: Schema<3> = Schema {
     fields: INDEX_FIELDS,
 };
 
-/// The fields of table 9.
+/// The field of table 9, an installed database.
 const IDB_FIELDS: [Field; 1] = [field!(Packages: Kind::ObjArr(Which::Package))];
 
 /// Table 9: an installed database.
@@ -336,7 +337,7 @@ pub const IDB: Schema<1> = Schema {
     fields: IDB_FIELDS,
 };
 
-/// The fields of table 10.
+/// The fields of table 10, a journal entry, in order.
 const INTENT_FIELDS: [Field; 2] = [
     field!(Removals: Kind::TextArr),
     field!(Writes: Kind::TextArr),
@@ -378,7 +379,7 @@ static IDB_ROWS: [Field; 1] = IDB_FIELDS;
 // The fields of table 10 as a static, so that `fields_of` can lend them.
 static INTENT_ROWS: [Field; 2] = INTENT_FIELDS;
 
-/// The fields of a table, in the order of their numbers.
+/// The fields of the table `which`, in the order of their numbers, which count from 1.
 pub fn fields_of(which: Which) -> &'static [Field]
     ensures { result.now ≡ table which }
 {

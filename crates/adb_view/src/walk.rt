@@ -335,6 +335,7 @@ pub fn a_walk_of_fields_reports_the_first_faulty_visit()
         → fields_walk payload fields before words ≡ Ok count
         → is_some (plains_of payload fields words) ≡ true }
 {
+    // A law that the proof needs; it has no effect at run time.
     value_is_found_where_visits_are_sound();
 }
 
@@ -353,5 +354,6 @@ pub fn values_of_few_visits_have_no_fault()
         → (shape_fault payload shape word ≡ None) ↔ ((is_some (plain_of payload shape word) ≡ true)
         × (length (visits payload shape word) ≤ MOST_VALUES)) }
 {
+    // A law that the proof needs; it has no effect at run time.
     value_is_found_where_visits_are_sound();
 }

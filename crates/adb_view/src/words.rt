@@ -99,9 +99,13 @@ impl Val {
 /// The width of a number in a payload: how many bytes it has.
 #[derive(Clone, Copy)]
 pub(crate) enum Width {
+    /// One byte.
     One,
+    /// Two bytes.
     Two,
+    /// Four bytes.
     Four,
+    /// Eight bytes.
     Eight,
 }
 
@@ -134,6 +138,7 @@ pub(crate) fn number(bytes: &[u8], at: usize, width: Width) -> Option<u64>
     // The number fits into the bytes of this width.
     ensures fits { IfSome result (λ n. n < 2 ^ (8 * byte_len (width_of width))) }
 {
+    // The bytes of the number, the lowest first.
     let x = range(bytes, at, width.bytes())?;
     Some(match width {
         Width::One => u64::from(x[0]),

@@ -114,7 +114,7 @@ IsWordOfEqualItem i w word =
     option_map word_of_written_item (find (is_equal_item w.body i) w.items) ≡ Some word
 
 -- the result of `finish` for the writer w is `answer`, the result of the definition: a payload, of which `view` is the
--- list of bytes, or the two counts if a limit was passed. Only if nothing was written, it may be out of memory instead
+-- list of bytes, or the two counts if a limit was passed. If nothing was written, it may be out of memory instead
 abbrev pub IsFinishResult : {A : Type 0} → (A → List ℕ) → Writing → Result A WriteFault
     → Result (List ℕ) PayloadCounts → Type 0
 IsFinishResult view w (Ok payload) answer = answer ≡ Ok (view payload)

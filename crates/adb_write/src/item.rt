@@ -55,9 +55,13 @@ mod kind {
 /// The width of the number with which an item begins (`Parts::number`): how many bytes it has.
 #[derive(Clone, Copy)]
 pub(crate) enum Width {
+    /// One byte.
     One,
+    /// Two bytes.
     Two,
+    /// Four bytes.
     Four,
+    /// Eight bytes.
     Eight,
 }
 
@@ -83,7 +87,9 @@ impl Width {
 /// The two kinds of lists. The words that point to an array and to an object have different kinds.
 #[derive(Clone, Copy)]
 pub(crate) enum ListKind {
+    /// An array.
     Array,
+    /// An object.
     Object,
 }
 

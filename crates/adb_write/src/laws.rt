@@ -166,5 +166,6 @@ pub fn a_file_is_spelled()
         → IsContainerWithBlocks (file_of schema payload) schema
         (adb_block_of_payload payload ∷ []) }
 {
+    // A law that the proof needs; it has no effect at run time.
     what_is_written_is_spelled();
 }

@@ -136,6 +136,7 @@ fn push_difference(
     ensures { OnOk result (report.new.items
         ≡ report.old.items ++ report_line (difference_text difference path.now)) }
 {
+    // The letter and the space before the path.
     let mark: &[u8] = match difference {
         Difference::Missing => b"X ",
         Difference::Changed => b"U ",

@@ -115,6 +115,7 @@ fn push_folder<'a>(
     if i >= folders.len() {
         unreachable!();
     }
+    // `get` counts from 1.
     let folder = folders.get(i + 1);
     push_files(alloc, report, folder.name(), &folder.files())
 }
@@ -155,6 +156,7 @@ fn push_file<'a>(
     if i >= files.len() {
         unreachable!();
     }
+    // `get` counts from 1.
     let file = files.get(i + 1);
     push_digest(alloc, report, file.hashes())?;
     report.extend_from_slice(b"  ")?;

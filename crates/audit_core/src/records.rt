@@ -142,6 +142,7 @@ fn add_folder<'a>(
     if i >= folders.len() {
         unreachable!();
     }
+    // `get` counts from 1.
     let folder = folders.get(i + 1);
     add_files(records, folder.name(), &folder.files())
 }
@@ -181,6 +182,7 @@ fn add_file<'a>(
     if i >= files.len() {
         unreachable!();
     }
+    // `get` counts from 1.
     let file = files.get(i + 1);
     let name = file.name();
     let path = FilePath { folder, name };

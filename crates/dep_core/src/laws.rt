@@ -28,6 +28,7 @@ pub fn spelled_texts_are_read()
     ensures { (text : List ℕ) (d : Dependency) → SpellsDependency text d
         → dependency_of text ≡ Some d }
 {
+    // A law that the proof needs; it has no effect at run time.
     versions_have_version_bytes();
 }
 
@@ -39,6 +40,7 @@ pub fn texts_are_read_back()
     // The written text is read as this dependency.
     ensures read { (d : Dependency) → IsDependency d → dependency_of (dep_text d) ≡ Some d }
 {
+    // A law that the proof needs; it has no effect at run time.
     versions_have_version_bytes();
 }
 
@@ -49,6 +51,7 @@ pub fn values_are_read_back()
         (let v = dep_value d in
         dependency_of_value v.name v.version (unwrap_or v.matching 0) ≡ Some d) }
 {
+    // A law that the proof needs; it has no effect at run time.
     versions_have_version_bytes();
 }
 
@@ -56,6 +59,7 @@ pub fn values_are_read_back()
 pub fn worlds_are_read_back()
     ensures { (world : List Dependency) → IsWorld world → world_of (world_text world) ≡ Ok world }
 {
+    // A law that the proof needs; it has no effect at run time.
     versions_have_version_bytes();
 }
 

@@ -42,6 +42,8 @@ impl<'a, R: Host> Subject for HostFolder<'a, R> {
         let Some(name) = Name::read(alloc, word_at(words, 1))? else {
             return answer.extend_from_slice(b"no name");
         };
+        // The second word is the name of a file, and the further words are arguments of the
+        // question.
         match question {
             b"create" => add_outcome(answer, self.tree.create(&name)),
             b"append" => add_outcome(answer, self.tree.append(&name, word_at(words, 2))),
