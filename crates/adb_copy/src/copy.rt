@@ -48,7 +48,7 @@ pub fn write_info(
     ensures known { OnOk result (AreRememberedBlobsOfDraft
         (payload_of adb.entry) draft.new known.new) }
 {
-    // A law for the proof: a value has the shape of its table. It does nothing at run time.
+    // A law for the proof: a value has the shape of its table. The call does nothing at run time.
     values_have_their_shape();
     draft.open_list()?;
     write_info_texts(draft, adb, known, info, id)?;
@@ -151,7 +151,7 @@ pub fn write_text_list<'a>(
     ensures known { OnOk result (AreRememberedBlobsOfDraft
         (payload_of adb.entry) draft.new known.new) }
 {
-    // A law for the proof: a value has the shape of its table. It does nothing at run time.
+    // A law for the proof: a value has the shape of its table. The call does nothing at run time.
     values_have_their_shape();
     draft.open_list()?;
     for i in 0..texts.len() {
@@ -206,7 +206,7 @@ fn write_dep_list<'a>(
     ensures known { OnOk result (AreRememberedBlobsOfDraft
         (payload_of adb.entry) draft.new known.new) }
 {
-    // A law for the proof: a value has the shape of its table. It does nothing at run time.
+    // A law for the proof: a value has the shape of its table. The call does nothing at run time.
     values_have_their_shape();
     draft.open_list()?;
     for i in 0..deps.len() {
@@ -233,7 +233,7 @@ fn write_dep(
     ensures known { OnOk result (AreRememberedBlobsOfDraft
         (payload_of adb.entry) draft.new known.new) }
 {
-    // A law for the proof: a value has the shape of its table. It does nothing at run time.
+    // A law for the proof: a value has the shape of its table. The call does nothing at run time.
     values_have_their_shape();
     draft.open_list()?;
     known.write_field(draft, adb, Which::Dep, dep, DEP_NAME)?;

@@ -42,7 +42,7 @@ pub fn write_acl(
     ensures known { OnOk result (AreRememberedBlobsOfDraft
         (payload_of adb.entry) draft.new known.new) }
 {
-    // A law for the proof: a value has the shape of its table. It does nothing at run time.
+    // A law for the proof: a value has the shape of its table. The call does nothing at run time.
     values_have_their_shape();
     draft.open_list()?;
     write_int(draft, int_field(adb, Which::Acl, acl, ACL_MODE))?;
@@ -76,7 +76,7 @@ pub fn write_file(
     ensures known { OnOk result (AreRememberedBlobsOfDraft
         (payload_of adb.entry) draft.new known.new) }
 {
-    // A law for the proof: a value has the shape of its table. It does nothing at run time.
+    // A law for the proof: a value has the shape of its table. The call does nothing at run time.
     values_have_their_shape();
     draft.open_list()?;
     known.write_field(draft, adb, Which::File, file, FILE_NAME)?;
@@ -113,7 +113,7 @@ pub fn write_scripts(
     ensures known { OnOk result (AreRememberedBlobsOfDraft
         (payload_of adb.entry) draft.new known.new) }
 {
-    // A law for the proof: a value has the shape of its table. It does nothing at run time.
+    // A law for the proof: a value has the shape of its table. The call does nothing at run time.
     values_have_their_shape();
     draft.open_list()?;
     known.write_field(draft, adb, Which::Scripts, scripts, SCRIPTS_TRIGGER)?;

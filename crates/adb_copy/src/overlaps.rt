@@ -65,8 +65,8 @@ impl PeriodicRange {
         (text.from - self.from).checked_rem(self.period)
     }
 
-    /// Whether the range proves that two texts are equal: both are in it, with one phase and one
-    /// length.
+    /// Whether the range proves that two texts are equal: both texts are in the range, and they
+    /// have the same phase and the same length.
     fn shows_equal(self, left: TextPlace, right: TextPlace) -> bool
         // On true, the texts are equal in each payload in which the range has its period.
         ensures { OnTrue result (AreEqualByPeriod self left right) }

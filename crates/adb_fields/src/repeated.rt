@@ -30,8 +30,8 @@ use adb_view::{Adb, Arr, Shaped, Val, Which, entry_word, values_of_few_visits_ha
 use base_core::Cause;
 use std::alloc::{AllocError, Global};
 
-/// The numbers by which causes name the fields whose texts must not repeat: 100 times the number of
-/// the table, plus the number of the field in this table, which counts from 1.
+/// The numbers by which causes name the fields whose texts must not repeat. Each is 100 times the
+/// number of the table, plus the number of the field in this table, counted from 1.
 mod field_numbers {
     // The name of a file (field 1 of table 4), also for a path that is in two packages.
     pub(super) const FILE_NAME: u16 = 401;

@@ -45,8 +45,9 @@ pub fn a_container_of_a_good_value_is_sound()
     values_of_few_visits_have_no_fault();
 }
 
-/// A law: a package is sound (passes all tests) if its value may be at the root, it has exactly the
-/// contents of the files that the value lists, in order, and it has fewer than 2^64 bytes.
+/// A law: a package is sound (passes all tests) if three conditions hold. Its value may be at the
+/// root. It has exactly the contents of the files that the value lists, in order. It has fewer than
+/// 2^64 bytes.
 pub fn a_package_of_a_good_value_and_its_contents_is_sound()
     ensures { (v : Plain) (contents : List Contents)
         → IsValidRootValueOfTable Tables.Package v

@@ -172,7 +172,7 @@ impl Draft {
     fn last_open_list_start(&self) -> usize
         // The number is that of the definition.
         ensures is { result ≡ last_open_list_start self.now }
-        // It is at most the number of words.
+        // The result is at most the number of words.
         ensures within { result ≤ length self.now.words }
     {
         let len = self.words.len();

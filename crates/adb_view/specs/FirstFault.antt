@@ -12,9 +12,9 @@ pub record IsFirstFaultOfVisits (p : List ℕ) (vs : List Visit) (c : Cause) : T
   pub i : ℕ
   -- the faulty visit
   pub v : Visit
-  -- it is the visit with the index i
+  -- `v` is the visit with the index i
   pub at : slice_get vs i ≡ Some v
-  -- this visit has the fault
+  -- the visit `v` has the fault `c`
   pub fault : visit_fault p (i + 1) v ≡ Some c
   -- no visit before it has a fault
   pub before : (j : ℕ) → (u : Visit) → j < i → slice_get vs j ≡ Some u → visit_fault p (j + 1) u

@@ -25,11 +25,11 @@ item_len_from_front kind front =
 
 -- the kind and the first bytes of the item give its length
 pub record HasLengthInFront (i : Item) : Type 0 where
-  -- it has bytes
+  -- the item has bytes
   pub some : 0 < length i.bytes
-  -- it has all bytes that give its length
+  -- the item has all bytes that give its length
   pub long : len_of_length_field i.kind ≤ length i.bytes
-  -- its length is the one that these bytes give
+  -- the length of the item is the one that these bytes give
   pub len : length i.bytes ≡ item_len_from_front i.kind (take (len_of_length_field i.kind) i.bytes)
 
 -- the bytes of a layout (`body`) have, at the offset of the written item x, an item of its kind whose first bytes give

@@ -16,8 +16,8 @@ ghost use Rattle.adb_write.specs.Denotes.{Denotes, AllDenote};
 
 use adb_block::what_is_written_is_spelled;
 
-/// The canonical payload of a value is read back as this value, if the value is normal, has the
-/// shape, and its payload is within the limit of bytes.
+/// The canonical payload of a value is read back as this value. The value must be normal and have
+/// the shape, and its payload must be within the limit of bytes.
 pub fn a_canonical_payload_is_read_back()
     ensures { (shape : Shape) (v : Plain)
         → IsNormal v → HasShape shape v → payload_size_of v ≤ MOST_BYTES

@@ -42,8 +42,8 @@ pub fn an_audit_reports_just_the_files_that_differ()
         (file_differences files (entries_at IDB_PACKAGES database))) }
 {}
 
-/// If each read finds the file as it is, the report of an audit is empty exactly if each file that
-/// a package lists is there, with bytes as its entry lists them.
+/// Each read finds the file as it is. Then the report of an audit is empty exactly if each file
+/// that a package lists is there, with bytes as its entry lists them.
 pub fn an_audit_reports_nothing_if_all_is_as_recorded()
     ensures { (files : Files) (read : Reads) (first : ℕ) (packages : List Plain)
         → ((n : ℕ) (name : List ℕ) → read n name ≡ files name)
