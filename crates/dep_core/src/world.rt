@@ -350,8 +350,8 @@ impl<'a> Found<'a> {
     /// Adds the entry that a word denotes, and returns whether the word is a dependency whose name
     /// no entry before it has.
     fn add_word(&mut self, word: &'a [u8]) -> Result<bool, AllocError>
-        // On `Ok(true)`, the entries are those of the definition. On `Ok(false)`, the definition gives
-        // None, which means that the word is bad.
+        // On `Ok(true)`, the entries are those of the definition. On `Ok(false)`, the definition
+        // gives None, which means that the word is bad.
         ensures { IfOk result (λ good.
             option_and_then (world_with_new_dependency self.old) (dependency_of word.entry.now)
             ≡ (if good then Some self.new else None)) }
