@@ -1,6 +1,6 @@
 -- Adjacent fields of an object. No rule of a document: serves the contracts of `write_ints` and
 -- `write_info_texts` in `src/copy.rt`. That 0 is Null is stated in `docs/formats.md`, "The database
--- after a change"; the fields of an information are in "Schemas", table 3.
+-- after a change". The fields of a package's information are in "Schemas", table 3.
 use Rattle.std.specs.Prelude.{ℕ, List, [], ◌∷◌}
 use Rattle.adb_view.specs.Plain.{Plain, Plains, none, more}
 use Rattle.adb_view.specs.FieldIndexes.{INFO_ARCH, INFO_DESCRIPTION, INFO_LICENSE, INFO_MAINTAINER, INFO_NAME, INFO_ORIGIN, INFO_REPO_COMMIT, INFO_URL, INFO_VERSION}
@@ -12,8 +12,8 @@ abbrev pub ints_or_nulls : List ℕ → Plains
 ints_or_nulls [] = none
 ints_or_nulls (n ∷ ns) = more (int_or_null n) (ints_or_nulls ns)
 
--- the texts and hashes with which an information begins: its first ten fields, with `id` as its
--- hash
+-- the texts and hashes with which a package's information begins: its first ten fields, with `id` in place of the
+-- field `hashes`
 abbrev pub info_texts : Plain → List ℕ → List (List ℕ)
 info_texts info id =
     text_in (entry_in info INFO_NAME) ∷ text_in (entry_in info INFO_VERSION) ∷ id

@@ -12,38 +12,40 @@ use Rattle.adb_copy.specs.declared.known_texts.KnownTexts.{KnownTexts}
 use Rattle.adb_copy.specs.declared.overlaps.PeriodicRange.{PeriodicRange}
 use Rattle.adb_copy.specs.declared.overlaps.TextPlace.{TextPlace}
 
--- the range has its period in the payload: its bytes except for the first period are those except for
--- the last one
+-- the range has its period in the payload: the bytes of the range without the first period are equal to its bytes
+-- without the last period
 abbrev pub HasPeriod : List ℕ → PeriodicRange → Type 0
 HasPeriod payload range =
     slice_range payload (range.from + range.period) range.end
     ≡ slice_range payload range.from (range.end - range.period)
 
--- the text is in the range, and `phase` is its distance from the beginning of a period
+-- the text is in the range, and `phase` is the distance of its first byte from the beginning of a period
 pub record IsPhaseOf (range : PeriodicRange) (text : TextPlace) (phase : ℕ) : Type 0 where
   -- the text begins in the range
   pub behind : range.from ≤ text.from
   -- the text ends in the range
   pub within : text.from + text.len ≤ range.end
-  -- its phase is the distance modulo the period
+  -- the phase is the distance of the text from the start of the range, modulo the period
   pub is : phase ≡ (text.from - range.from) % range.period
 
--- the range proves that two texts are equal: they are in each payload in which the range has its period
+-- the range proves that two texts are equal: in each payload in which the range has its period, the bytes at these
+-- two places are equal
 abbrev pub AreEqualByPeriod : PeriodicRange → TextPlace → TextPlace → Type 0
 AreEqualByPeriod range left right = (payload : List ℕ) → HasPeriod payload range
     → take left.len (drop left.from payload) ≡ take right.len (drop right.from payload)
 
--- `known` is remembered for a text of the payload that equals the text of the word
+-- `words` maps words of the payload to words of a draft. In it `known` is remembered for a text that equals the
+-- text of `word`
 pub record IsRememberedTextWord (payload : List ℕ) (words : BTreeMap ℕ ℕ) (word known : ℕ) : Type 0 where
-  -- the word of a text in the payload
+  -- a word of the payload, whose text is remembered
   pub kept : ℕ
-  -- `known` is remembered for it
+  -- `known` is the word of the draft that is remembered for this text
   pub has : get nat_cmp words kept ≡ Some known
-  -- its text equals that of the word
+  -- this text equals the text of `word`
   pub same : text_in (value_at payload Text kept) ≡ text_in (value_at payload Text word)
 
--- the remembered texts are blobs of the draft: each has there the word that is remembered for it; and
--- the remembered ranges have their periods
+-- the remembered texts are blobs of the draft: in the draft, each has the word that is remembered for it. The
+-- remembered ranges of the payload have their periods
 pub record AreRememberedBlobsOfDraft (payload : List ℕ) (draft : DraftState)
     (texts : KnownTexts) : Type 0 where
   -- each text has in the draft the word that is remembered for it

@@ -1,6 +1,6 @@
--- Values without an integer 0, and the information of a package with another id and length. The rules
--- are in `docs/formats.md`, "The database after a change": "An integer 0 is NULL, at every depth", and
--- the information of an added package.
+-- Values without an integer 0, and the information of a package with another id and file size. They define what
+-- `adb_copy` writes. The rules are in `docs/formats.md`, "The database after a change": "An integer 0 is NULL, at
+-- every depth", and the information of an added package.
 use Rattle.std.specs.Prelude.{ℕ, zero, suc, List}
 use Rattle.adb_view.specs.Plain.{Plain, null, int, blob, arr, obj, Plains, none, more, blob_or_null, array_or_null, trimmed_object_or_null}
 use Rattle.adb_view.specs.Values.{entries_in}
@@ -25,7 +25,8 @@ unfoldable mutual
   all_without_zeros none = none
   all_without_zeros (more v vs) = more (without_zeros v) (all_without_zeros vs)
 
--- values with another one at an index, which counts from 0; if there are too few, Nulls precede it
+-- the values, in which `v` replaces the value at the index, counted from 0. If there are too few values, Nulls are
+-- inserted before `v`
 abbrev pub with_value_at_index : ℕ → Plain → Plains → Plains
 with_value_at_index zero v none = more v none
 with_value_at_index zero v (more u us) = more v us

@@ -26,8 +26,9 @@ use adb_view::field_indexes::{
 use adb_view::{Adb, Arr, Val, Which, entry_word, values_have_their_shape};
 use std::alloc::AllocError;
 
-/// Copies the information of a package, which has this word in its payload. The copy has `id` as
-/// its hash and `len` as the size of the package's file. An integer 0 is NULL.
+/// Copies the information of a package to `draft`: the value of the word `info` in the payload
+/// `adb`. The copy has `id` as its field `hashes`, and `len` as its field `file-size`. An integer 0
+/// becomes NULL. `known` has the long texts that the draft already contains.
 pub fn write_info(
     draft: &mut Draft,
     adb: Adb<'_>,
@@ -36,17 +37,18 @@ pub fn write_info(
     id: &[u8],
     len: u64,
 ) -> Result<(), AllocError>
-    // The word has a plain value of its kind.
+    // The word `info` has a plain value: the information of a package.
     requires sound { is_sound (payload_of adb) (Kinds.Obj Tables.PkgInfo) info ≡ true }
-    // The remembered texts are blobs of the draft.
+    // Each text that `known` remembers is a blob of the draft, with the remembered word.
     requires known { AreRememberedBlobsOfDraft (payload_of adb) draft.old known.old }
-    // On Ok, the draft gets the information with this id and size.
+    // On Ok, the draft gets the information, with `id`, `len`, and NULL for each integer 0.
     ensures info { OnOk result (draft.new ≡ draft_with (info_with_id_and_size
         (value_at (payload_of adb.entry) (Kinds.Obj Tables.PkgInfo) info) id.now len) draft.old) }
-    // The remembered texts are blobs of the new draft.
+    // On Ok, each text that `known` remembers is a blob of the new draft, with that word.
     ensures known { OnOk result (AreRememberedBlobsOfDraft
         (payload_of adb.entry) draft.new known.new) }
 {
+    // A law for the proof: a value has the shape of its table. The call does nothing at run time.
     values_have_their_shape();
     draft.open_list()?;
     write_info_texts(draft, adb, known, info, id)?;
@@ -55,6 +57,7 @@ pub fn write_info(
         &[
             int_field(adb, Which::PkgInfo, info, INFO_BUILD_TIME),
             int_field(adb, Which::PkgInfo, info, INFO_INSTALLED_SIZE),
+            // The field `file-size`.
             len,
             int_field(adb, Which::PkgInfo, info, INFO_PROVIDER_PRIORITY),
         ],
@@ -75,7 +78,8 @@ pub fn write_info(
     draft.close_object()
 }
 
-/// Writes the first fields of an information, which are texts and hashes, with `id` as its hash.
+/// Writes the first ten fields of a package's information, which are texts and hashes. `id` is
+/// written as the field `hashes`.
 fn write_info_texts(
     draft: &mut Draft,
     adb: Adb<'_>,
@@ -83,14 +87,14 @@ fn write_info_texts(
     info: Val,
     id: &[u8],
 ) -> Result<(), AllocError>
-    // The word has a plain value of its kind.
+    // The word `info` has a plain value: the information of a package.
     requires sound { is_sound (payload_of adb) (Kinds.Obj Tables.PkgInfo) info ≡ true }
-    // The remembered texts are blobs of the draft.
+    // Each text that `known` remembers is a blob of the draft, with the remembered word.
     requires known { AreRememberedBlobsOfDraft (payload_of adb) draft.old known.old }
-    // On Ok, the draft gets these fields.
+    // On Ok, the draft gets these ten fields, in order.
     ensures texts { OnOk result (draft.new ≡ draft_with_all (plains_of_texts (info_texts
         (value_at (payload_of adb.entry) (Kinds.Obj Tables.PkgInfo) info) id.now)) draft.old) }
-    // The remembered texts are blobs of the new draft.
+    // On Ok, each text that `known` remembers is a blob of the new draft, with that word.
     ensures known { OnOk result (AreRememberedBlobsOfDraft
         (payload_of adb.entry) draft.new known.new) }
 {
@@ -108,6 +112,7 @@ fn write_info_texts(
 
 /// Writes integers one after another; 0 is NULL.
 fn write_ints(draft: &mut Draft, ints: &[u64]) -> Result<(), AllocError>
+    // On Ok, the draft gets each integer, or NULL for 0, in order.
     ensures { OnOk result (draft.new ≡ draft_with_all (ints_or_nulls ints.now) draft.old) }
 {
     for n in ints {
@@ -118,6 +123,7 @@ fn write_ints(draft: &mut Draft, ints: &[u64]) -> Result<(), AllocError>
 
 /// Writes an integer; 0 is NULL.
 pub fn write_int(draft: &mut Draft, n: u64) -> Result<(), AllocError>
+    // On Ok, the draft gets the integer, or NULL for 0.
     ensures { OnOk result (draft.new ≡ draft_with (int_or_null n) draft.old) }
 {
     if n == 0 {
@@ -126,25 +132,26 @@ pub fn write_int(draft: &mut Draft, n: u64) -> Result<(), AllocError>
     draft.int(n)
 }
 
-/// Writes an array of texts of a payload. `known` has the long ones that the draft already
-/// contains.
+/// Writes an array of texts to the draft. `texts` has the words of the texts in the payload `adb`.
+/// `known` has the long texts that the draft already contains.
 pub fn write_text_list<'a>(
     draft: &mut Draft,
     adb: Adb<'a>,
     known: &mut KnownTexts,
     texts: Arr<'a>,
 ) -> Result<(), AllocError>
-    // Each word has a plain value of its kind.
+    // Each entry has a plain value of the kind that the array demands.
     requires sound { are_all_sound (payload_of adb) Kinds.Text (array_entries texts) ≡ true }
-    // The remembered texts are blobs of the draft.
+    // Each text that `known` remembers is a blob of the draft, with the remembered word.
     requires known { AreRememberedBlobsOfDraft (payload_of adb) draft.old known.old }
-    // On Ok, the draft gets the array.
+    // On Ok, the draft gets the array of these texts, or NULL if there are none.
     ensures texts { OnOk result (draft.new ≡ draft_with (without_zeros
         (array_at (payload_of adb.entry) Kinds.Text (array_entries texts.entry))) draft.old) }
-    // The remembered texts are blobs of the new draft.
+    // On Ok, each text that `known` remembers is a blob of the new draft, with that word.
     ensures known { OnOk result (AreRememberedBlobsOfDraft
         (payload_of adb.entry) draft.new known.new) }
 {
+    // A law for the proof: a value has the shape of its table. The call does nothing at run time.
     values_have_their_shape();
     draft.open_list()?;
     for i in 0..texts.len() {
@@ -153,7 +160,8 @@ pub fn write_text_list<'a>(
     draft.close_array()
 }
 
-/// Writes the array of dependencies that is a field of a package's information.
+/// Writes the array of dependencies that is a field of a package's information. `field` is the
+/// index of this field, counted from 0.
 fn write_deps(
     draft: &mut Draft,
     adb: Adb<'_>,
@@ -161,16 +169,16 @@ fn write_deps(
     info: Val,
     field: usize,
 ) -> Result<(), AllocError>
-    // The word has a plain value of its kind.
+    // The word `info` has a plain value: the information of a package.
     requires sound { is_sound (payload_of adb) (Kinds.Obj Tables.PkgInfo) info ≡ true }
     // The field is an array of dependencies.
     requires kind { kind_at Tables.PkgInfo field ≡ Some (Kinds.ObjArr Tables.Dep) }
-    // The remembered texts are blobs of the draft.
+    // Each text that `known` remembers is a blob of the draft, with the remembered word.
     requires known { AreRememberedBlobsOfDraft (payload_of adb) draft.old known.old }
     // On Ok, the draft gets the array, in which each integer 0 is NULL.
     ensures deps { OnOk result (draft.new ≡ draft_with (without_zeros (entry_in
         (value_at (payload_of adb.entry) (Kinds.Obj Tables.PkgInfo) info) field)) draft.old) }
-    // The remembered texts are blobs of the new draft.
+    // On Ok, each text that `known` remembers is a blob of the new draft, with that word.
     ensures known { OnOk result (AreRememberedBlobsOfDraft
         (payload_of adb.entry) draft.new known.new) }
 {
@@ -178,25 +186,27 @@ fn write_deps(
     write_dep_list(draft, adb, known, deps)
 }
 
-/// Writes an array of dependencies of a payload.
+/// Writes an array of dependencies to the draft. `deps` has the words of the dependencies in the
+/// payload `adb`.
 fn write_dep_list<'a>(
     draft: &mut Draft,
     adb: Adb<'a>,
     known: &mut KnownTexts,
     deps: Arr<'a>,
 ) -> Result<(), AllocError>
-    // Each word has a plain value of its kind.
+    // Each entry has a plain value of the kind that the array demands.
     requires sound { are_all_sound (payload_of adb) (Kinds.Obj Tables.Dep) (array_entries deps)
         ≡ true }
-    // The remembered texts are blobs of the draft.
+    // Each text that `known` remembers is a blob of the draft, with the remembered word.
     requires known { AreRememberedBlobsOfDraft (payload_of adb) draft.old known.old }
     // On Ok, the draft gets the array, in which each integer 0 is NULL.
     ensures deps { OnOk result (draft.new ≡ draft_with (without_zeros (array_at
         (payload_of adb.entry) (Kinds.Obj Tables.Dep) (array_entries deps.entry))) draft.old) }
-    // The remembered texts are blobs of the new draft.
+    // On Ok, each text that `known` remembers is a blob of the new draft, with that word.
     ensures known { OnOk result (AreRememberedBlobsOfDraft
         (payload_of adb.entry) draft.new known.new) }
 {
+    // A law for the proof: a value has the shape of its table. The call does nothing at run time.
     values_have_their_shape();
     draft.open_list()?;
     for i in 0..deps.len() {
@@ -205,24 +215,25 @@ fn write_dep_list<'a>(
     draft.close_array()
 }
 
-/// Writes one dependency of a payload.
+/// Writes a dependency to the draft: the value of the word `dep` in the payload `adb`.
 fn write_dep(
     draft: &mut Draft,
     adb: Adb<'_>,
     known: &mut KnownTexts,
     dep: Val,
 ) -> Result<(), AllocError>
-    // The word has a plain value of its kind.
+    // The word `dep` has a plain value: a dependency.
     requires sound { is_sound (payload_of adb) (Kinds.Obj Tables.Dep) dep ≡ true }
-    // The remembered texts are blobs of the draft.
+    // Each text that `known` remembers is a blob of the draft, with the remembered word.
     requires known { AreRememberedBlobsOfDraft (payload_of adb) draft.old known.old }
     // On Ok, the draft gets the dependency, in which each integer 0 is NULL.
     ensures dep { OnOk result (draft.new ≡ draft_with (without_zeros
         (value_at (payload_of adb.entry) (Kinds.Obj Tables.Dep) dep)) draft.old) }
-    // The remembered texts are blobs of the new draft.
+    // On Ok, each text that `known` remembers is a blob of the new draft, with that word.
     ensures known { OnOk result (AreRememberedBlobsOfDraft
         (payload_of adb.entry) draft.new known.new) }
 {
+    // A law for the proof: a value has the shape of its table. The call does nothing at run time.
     values_have_their_shape();
     draft.open_list()?;
     known.write_field(draft, adb, Which::Dep, dep, DEP_NAME)?;

@@ -23,24 +23,26 @@ use adb_view::field_indexes::{
 use adb_view::{Adb, Val, Which, values_have_their_shape};
 use std::alloc::AllocError;
 
-/// Copies the access list that has this word in its payload.
+/// Copies an access list to the draft: the value of the word `acl` in the payload `adb`. `known`
+/// has the long texts that the draft already contains.
 pub fn write_acl(
     draft: &mut Draft,
     adb: Adb<'_>,
     known: &mut KnownTexts,
     acl: Val,
 ) -> Result<(), AllocError>
-    // The word has a plain value of its kind.
+    // The word `acl` has a plain value: an access list.
     requires sound { is_sound (payload_of adb) (Kinds.Obj Tables.Acl) acl ≡ true }
-    // The remembered texts are blobs of the draft.
+    // Each text that `known` remembers is a blob of the draft, with the remembered word.
     requires known { AreRememberedBlobsOfDraft (payload_of adb) draft.old known.old }
     // On Ok, the draft gets the access list, in which each integer 0 is NULL.
     ensures acl { OnOk result (draft.new ≡ draft_with (without_zeros
         (value_at (payload_of adb.entry) (Kinds.Obj Tables.Acl) acl)) draft.old) }
-    // The remembered texts are blobs of the new draft.
+    // On Ok, each text that `known` remembers is a blob of the new draft, with that word.
     ensures known { OnOk result (AreRememberedBlobsOfDraft
         (payload_of adb.entry) draft.new known.new) }
 {
+    // A law for the proof: a value has the shape of its table. The call does nothing at run time.
     values_have_their_shape();
     draft.open_list()?;
     write_int(draft, int_field(adb, Which::Acl, acl, ACL_MODE))?;
@@ -55,25 +57,26 @@ pub fn write_acl(
     draft.close_object()
 }
 
-/// Copies the file that has this word in its payload: its name, access list, size, time, hash and
-/// target, without its contents.
+/// Copies the entry of a file to the draft: the value of the word `file` in the payload `adb`. The
+/// entry has a name, access list, size, time, hash and target, but not the file's contents.
 pub fn write_file(
     draft: &mut Draft,
     adb: Adb<'_>,
     known: &mut KnownTexts,
     file: Val,
 ) -> Result<(), AllocError>
-    // The word has a plain value of its kind.
+    // The word `file` has a plain value: the entry of a file.
     requires sound { is_sound (payload_of adb) (Kinds.Obj Tables.File) file ≡ true }
-    // The remembered texts are blobs of the draft.
+    // Each text that `known` remembers is a blob of the draft, with the remembered word.
     requires known { AreRememberedBlobsOfDraft (payload_of adb) draft.old known.old }
-    // On Ok, the draft gets the file, in which each integer 0 is NULL.
+    // On Ok, the draft gets the entry of the file, in which each integer 0 is NULL.
     ensures file { OnOk result (draft.new ≡ draft_with (without_zeros
         (value_at (payload_of adb.entry) (Kinds.Obj Tables.File) file)) draft.old) }
-    // The remembered texts are blobs of the new draft.
+    // On Ok, each text that `known` remembers is a blob of the new draft, with that word.
     ensures known { OnOk result (AreRememberedBlobsOfDraft
         (payload_of adb.entry) draft.new known.new) }
 {
+    // A law for the proof: a value has the shape of its table. The call does nothing at run time.
     values_have_their_shape();
     draft.open_list()?;
     known.write_field(draft, adb, Which::File, file, FILE_NAME)?;
@@ -91,24 +94,26 @@ pub fn write_file(
     draft.close_object()
 }
 
-/// Copies the scripts that have this word in their payload, in the order of table 6.
+/// Copies the scripts of a package to the draft, in the order of table 6: the value of the word
+/// `scripts` in the payload `adb`.
 pub fn write_scripts(
     draft: &mut Draft,
     adb: Adb<'_>,
     known: &mut KnownTexts,
     scripts: Val,
 ) -> Result<(), AllocError>
-    // The word has a plain value of its kind.
+    // The word `scripts` has a plain value: the scripts of a package.
     requires sound { is_sound (payload_of adb) (Kinds.Obj Tables.Scripts) scripts ≡ true }
-    // The remembered texts are blobs of the draft.
+    // Each text that `known` remembers is a blob of the draft, with the remembered word.
     requires known { AreRememberedBlobsOfDraft (payload_of adb) draft.old known.old }
     // On Ok, the draft gets the scripts.
     ensures scripts { OnOk result (draft.new ≡ draft_with (without_zeros
         (value_at (payload_of adb.entry) (Kinds.Obj Tables.Scripts) scripts)) draft.old) }
-    // The remembered texts are blobs of the new draft.
+    // On Ok, each text that `known` remembers is a blob of the new draft, with that word.
     ensures known { OnOk result (AreRememberedBlobsOfDraft
         (payload_of adb.entry) draft.new known.new) }
 {
+    // A law for the proof: a value has the shape of its table. The call does nothing at run time.
     values_have_their_shape();
     draft.open_list()?;
     known.write_field(draft, adb, Which::Scripts, scripts, SCRIPTS_TRIGGER)?;

@@ -19,26 +19,28 @@ use adb_view::{Adb, Val, Which};
 use std::alloc::{AllocError, Global};
 use std::collections::BTreeMap;
 
-/// The most bytes of a text that is compared wherever it occurs, and takes no memory. Any number is
-/// correct. With a greater one short texts are slow; with a smaller one more texts take memory.
+/// The most bytes of a short text. A short text is not remembered: it is compared with the draft
+/// wherever it occurs. Any number is correct. A greater one takes more time, a smaller one more
+/// memory.
 const SHORT: usize = 64;
 
-/// The long texts of one payload that one draft contains.
+/// The long texts (more than `SHORT` bytes) of one payload that one draft contains.
 #[derive(Drop)]
 pub struct KnownTexts {
-    /// By the word of a long text in the payload: the word of that text in the draft.
+    /// Maps the word of a long text in the payload to the word of this text in the draft.
     words: BTreeMap<u32, u32>,
-    /// Which of the texts overlap, and the periods of their bytes.
+    /// The ranges of the payload that have a period, by which equal texts that overlap are found.
     overlaps: Overlaps,
-    /// Which of the texts are likely to be equal to a further one.
+    /// The fingerprints of remembered texts, by which other equal texts are found.
     fingerprints: Fingerprints,
 }
 
 impl KnownTexts {
     ghost use Rattle.adb_copy.specs.Known.{AreRememberedBlobsOfDraft, HasPeriod, IsRememberedTextWord};
 
-    /// No text is known.
+    /// The object at the beginning, when no text is remembered.
     pub fn new(alloc: Global) -> KnownTexts
+        // Each remembered text, of which there are none, is a blob of any draft.
         ensures { (payload : List ℕ) (draft : DraftState)
             → AreRememberedBlobsOfDraft payload draft result }
     {
@@ -49,21 +51,22 @@ impl KnownTexts {
         }
     }
 
-    /// Writes the text of a word in the payload. Only long texts need memory, each once.
+    /// Writes the text of the word `word` in the payload `adb` to the draft. Only long texts take
+    /// memory, each once.
     pub(crate) fn write(
         &mut self,
         draft: &mut Draft,
         adb: Adb<'_>,
         word: Val,
     ) -> Result<(), AllocError>
-        // The word has a plain value of its kind.
+        // The word `word` has a plain value: a text.
         requires sound { is_sound (payload_of adb) Kinds.Text word ≡ true }
-        // The remembered texts are blobs of the draft.
+        // Each text that `self` remembers is a blob of the draft, with the remembered word.
         requires known { AreRememberedBlobsOfDraft (payload_of adb) draft.old self.old }
         // On Ok, the draft gets the text, or NULL if it is empty.
         ensures text { OnOk result (draft.new ≡ draft_with
             (blob_or_null (text_in (value_at (payload_of adb.entry) Kinds.Text word))) draft.old) }
-        // The remembered texts are blobs of the new draft.
+        // On Ok, each text that `self` remembers is a blob of the new draft, with that word.
         ensures known { OnOk result (AreRememberedBlobsOfDraft
             (payload_of adb.entry) draft.new self.new) }
     {
@@ -77,7 +80,8 @@ impl KnownTexts {
         }
     }
 
-    /// Writes the text of a field of an object of the payload.
+    /// Writes the text of a field to the draft. The field has the index `field`, counted from 0, in
+    /// the object with the word `object`, which is read by the table `which`.
     pub fn write_field(
         &mut self,
         draft: &mut Draft,
@@ -86,27 +90,28 @@ impl KnownTexts {
         object: Val,
         field: usize,
     ) -> Result<(), AllocError>
-        // The word has a plain value of its kind.
+        // The word `object` has a plain value: an object of the table `which`.
         requires sound { is_sound (payload_of adb) (Kinds.Obj which) object ≡ true }
-        // The field is a text.
+        // By its table, the field is a text.
         requires kind { kind_at which field ≡ Some Kinds.Text }
-        // The remembered texts are blobs of the draft.
+        // Each text that `self` remembers is a blob of the draft, with the remembered word.
         requires known { AreRememberedBlobsOfDraft (payload_of adb) draft.old self.old }
         // On Ok, the draft gets the text of the field, or NULL if it is empty.
         ensures text { OnOk result (draft.new ≡ draft_with (blob_or_null (text_in (entry_in
             (value_at (payload_of adb.entry) (Kinds.Obj which) object) field))) draft.old) }
-        // The remembered texts are blobs of the new draft.
+        // On Ok, each text that `self` remembers is a blob of the new draft, with that word.
         ensures known { OnOk result (AreRememberedBlobsOfDraft
             (payload_of adb.entry) draft.new self.new) }
     {
         self.write(draft, adb, field_word(adb, which, object, field))
     }
 
-    /// The word in the draft of the text of a word, if it is known: by this word, or by another one
-    /// with an equal text.
+    /// The word that the text of `word` has in the draft, if it is known. It is known if `word` is
+    /// remembered, or if another word is whose text is proved equal by a remembered range.
     fn known_word(&self, adb: Adb<'_>, word: Val) -> Option<u32>
         // Each remembered range of the payload has its period.
         requires { All (HasPeriod (payload_of adb)) self.now.overlaps.ranges.items }
+        // The result, if any, is remembered for a text that equals the text of `word`.
         ensures { IfSome result (IsRememberedTextWord (payload_of adb.entry) self.now.words word) }
     {
         match self.words.get(&word.word()) {
@@ -118,15 +123,18 @@ impl KnownTexts {
         }
     }
 
-    /// The word in the draft of an equal text, if its fingerprint finds one.
+    /// The word in the draft of a remembered text that equals the text of `word`, if a text with
+    /// the same fingerprint is remembered and equal.
     fn word_of_equal(&mut self, adb: Adb<'_>, word: Val) -> Result<Option<u32>, AllocError>
         // Each remembered range of the payload has its period.
         requires { All (HasPeriod (payload_of adb)) self.old.overlaps.ranges.items }
+        // The remembered words of texts are the same as before.
         ensures words { self.new.words ≡ self.old.words }
         // Each remembered range of the payload has its period.
         ensures ranges { OnOk result
             (All (HasPeriod (payload_of adb.entry)) self.new.overlaps.ranges.items) }
-        // A known word is that of an equal text in the draft.
+        // The word that is returned, if any, is remembered for a text that equals the text of
+        // `word`.
         ensures known { IfOk result (λ known. IfSome known
             (IsRememberedTextWord (payload_of adb.entry) self.old.words word)) }
     {
@@ -142,21 +150,22 @@ impl KnownTexts {
         Ok(if same { Some(known) } else { None })
     }
 
-    /// Writes a text whose word is not known, and remembers the word.
+    /// Writes the text of `word`, which `known_word` does not find. The word that the text has in
+    /// the draft is remembered.
     fn write_unknown(
         &mut self,
         draft: &mut Draft,
         adb: Adb<'_>,
         word: Val,
     ) -> Result<(), AllocError>
-        // The word has a plain value of its kind.
+        // The word `word` has a plain value: a text.
         requires sound { is_sound (payload_of adb) Kinds.Text word ≡ true }
-        // The remembered texts are blobs of the draft.
+        // Each text that `self` remembers is a blob of the draft, with the remembered word.
         requires known { AreRememberedBlobsOfDraft (payload_of adb) draft.old self.old }
         // On Ok, the draft gets the text, or NULL if it is empty.
         ensures text { OnOk result (draft.new ≡ draft_with
             (blob_or_null (text_in (value_at (payload_of adb.entry) Kinds.Text word))) draft.old) }
-        // The remembered texts are blobs of the new draft.
+        // On Ok, each text that `self` remembers is a blob of the new draft, with that word.
         ensures known { OnOk result (AreRememberedBlobsOfDraft
             (payload_of adb.entry) draft.new self.new) }
     {
@@ -169,16 +178,17 @@ impl KnownTexts {
         }
     }
 
-    /// Writes a text that is not known, and remembers its word in the draft.
+    /// Writes the text of `word`, for which no equal remembered text was found. The word that the
+    /// text has in the draft is remembered.
     fn write_new(&mut self, draft: &mut Draft, adb: Adb<'_>, word: Val) -> Result<(), AllocError>
-        // The word has a plain value of its kind.
+        // The word `word` has a plain value: a text.
         requires sound { is_sound (payload_of adb) Kinds.Text word ≡ true }
-        // The remembered texts are blobs of the draft.
+        // Each text that `self` remembers is a blob of the draft, with the remembered word.
         requires known { AreRememberedBlobsOfDraft (payload_of adb) draft.old self.old }
         // On Ok, the draft gets the text, or NULL if it is empty.
         ensures text { OnOk result (draft.new ≡ draft_with
             (blob_or_null (text_in (value_at (payload_of adb.entry) Kinds.Text word))) draft.old) }
-        // The remembered texts are blobs of the new draft.
+        // On Ok, each text that `self` remembers is a blob of the new draft, with that word.
         ensures known { OnOk result (AreRememberedBlobsOfDraft
             (payload_of adb.entry) draft.new self.new) }
     {

@@ -15,13 +15,13 @@ use adb_view::{Adb, Val};
 use std::alloc::{AllocError, Global};
 use std::collections::BTreeMap;
 
-/// A stretch is the length of a text divided by this, and one byte. Two equal texts that begin in
-/// one stretch are less than that apart, so they overlap and have a period. With a greater number
-/// fewer periods are found; with a smaller one more bytes around a text are tested.
+/// The payload is divided into stretches. For a text of `len` bytes, a stretch has `len / PART + 1`
+/// bytes. Two equal texts that begin in the same stretch overlap, so their bytes have a period.
+/// With a greater `PART` fewer periods are found; with a smaller one more bytes are tested.
 const PART: usize = 4;
 
-/// How many bytes around a text are compared at once; the last ones one by one. Any number is
-/// correct.
+/// How many bytes next to a text are compared at once. The bytes that remain are compared one by
+/// one. Any number is correct.
 const STEP: usize = 64;
 
 /// Where a text is in its payload.
@@ -34,22 +34,21 @@ pub(crate) struct TextPlace {
 }
 
 impl TextPlace {
-    /// The number of the stretch of the payload in which the text begins. Equal texts of one
-    /// stretch have a period.
+    /// The number of the stretch of the payload in which the text begins (`PART`), counted from 0.
     fn stretch(self) -> usize {
         self.from / (self.len / PART + 1)
     }
 }
 
-/// Bytes of a payload each of which, except in the first period, equals the byte one period before
-/// it.
+/// A range of a payload's bytes that has a period: each of its bytes, except in the first period,
+/// equals the byte one period before.
 #[derive(Clone, Copy)]
 pub(crate) struct PeriodicRange {
-    /// The offset of the first of the bytes.
+    /// The offset in the payload of the first byte of the range.
     pub from: usize,
-    /// The offset after the last one.
+    /// The offset in the payload after the last byte of the range.
     pub end: usize,
-    /// How many bytes the period has.
+    /// How many bytes one period has.
     pub period: usize,
 }
 
@@ -57,6 +56,7 @@ impl PeriodicRange {
     /// The phase of a text: its distance from the beginning of a period. None if the text is not in
     /// the range.
     fn phase_of(self, text: TextPlace) -> Option<usize>
+        // The phase of a text in the range is right.
         ensures { IfSome result (IsPhaseOf self text) }
     {
         if text.from < self.from || text.len > self.end || text.from > self.end - text.len {
@@ -65,38 +65,41 @@ impl PeriodicRange {
         (text.from - self.from).checked_rem(self.period)
     }
 
-    /// Whether the range proves that two texts are equal: both are in it, with one phase and one
-    /// length.
+    /// Whether the range proves that two texts are equal: both texts are in the range, and they
+    /// have the same phase and the same length.
     fn shows_equal(self, left: TextPlace, right: TextPlace) -> bool
+        // On true, the texts are equal in each payload in which the range has its period.
         ensures { OnTrue result (AreEqualByPeriod self left right) }
     {
         match (self.phase_of(left), self.phase_of(right)) {
+            // Both texts are in the range: `phase` is that of `left`, `other` that of `right`.
             (Some(phase), Some(other)) => phase == other && left.len == right.len,
             _ => false,
         }
     }
 }
 
-/// Ranges of a payload that have a period, and the texts by which they were found. Everything but
-/// the ranges is a guess, which is tested if it is used.
+/// Ranges of a payload that have a period, and the texts by which the ranges were found. Only
+/// `ranges` is trusted. What the four maps return is tested when it is used.
 #[derive(Drop)]
 pub struct Overlaps {
     /// The ranges that were found.
     ranges: Vec<PeriodicRange>,
-    /// The index in `ranges` of the last range that was found around a text, by the text's length
-    /// and stretch.
+    /// Maps the length and the stretch of a text to the index in `ranges` of the last range that
+    /// was found around such a text.
     latest: BTreeMap<(usize, usize), usize>,
-    /// The word of a remembered text, by the index of its range and its phase there.
+    /// Maps the index of a range and a phase in this range to the word of a remembered text.
     words: BTreeMap<(usize, usize), u32>,
-    /// The offset of a remembered text, by its word in the draft and by its stretch.
+    /// Maps the word of a text in the draft and a stretch of the payload to the offset of the last
+    /// remembered text with this word there.
     places: BTreeMap<(u32, usize), usize>,
-    /// The index in `ranges` of the last range that was found with two equal texts, by their
-    /// relative places.
+    /// Maps the relative places of two equal texts (`repeat_place`) to the index in `ranges` of the
+    /// last range that was found with such texts.
     repeats: BTreeMap<(usize, usize, usize), usize>,
 }
 
 impl Overlaps {
-    /// No text is remembered yet.
+    /// The object at the beginning, when no text and no range is remembered.
     pub(crate) fn new(alloc: Global) -> Overlaps
         ensures { result.ranges.items ≡ [] }
     {
@@ -114,6 +117,7 @@ impl Overlaps {
     pub(crate) fn equal_word(&self, adb: Adb<'_>, word: Val) -> Option<u32>
         // Each remembered range of the payload has its period.
         requires { All (HasPeriod (payload_of adb)) self.now.ranges.items }
+        // The text of the returned word equals the text of `word`.
         ensures { IfSome result (λ kept. text_in (value_at (payload_of adb.entry) Kinds.Text kept)
             ≡ text_in (value_at (payload_of adb.entry) Kinds.Text word)) }
     {
@@ -121,12 +125,13 @@ impl Overlaps {
         let index = self.index_around(text)?;
         let range = *self.ranges.get(index)?;
         let kept = *self.words.get(&(index, range.phase_of(text)?))?;
+        // The word `kept` is a guess: only if the range proves it are the texts equal.
         let same = range.shows_equal(text_place(adb, Val::of(kept))?, text);
         if same { Some(kept) } else { None }
     }
 
-    /// Whether the text of a word equals a remembered one, which has this word in a draft. If a
-    /// range proves it, no byte is read.
+    /// Whether the text of `word` equals a remembered text, that of `kept`. The remembered text has
+    /// the word `known` in the draft. If a range proves that the texts are equal, no byte is read.
     pub(crate) fn find_equal(
         &mut self,
         adb: Adb<'_>,
@@ -139,6 +144,7 @@ impl Overlaps {
         // Each remembered range of the payload has its period.
         ensures ranges { OnOk result
             (All (HasPeriod (payload_of adb.entry)) self.new.ranges.items) }
+        // On `Ok(true)`, the texts of `kept` and of `word` are equal.
         ensures equal { IfOk result (λ same. OnTrue same
             (text_in (value_at (payload_of adb.entry) Kinds.Text kept)
             ≡ text_in (value_at (payload_of adb.entry) Kinds.Text word))) }
@@ -149,6 +155,7 @@ impl Overlaps {
         if self.shows_equal(first, second) {
             return Ok(true);
         }
+        // Otherwise read the bytes of both texts, and remember their range if they are equal.
         let Some(range) = self.keep_repeat(adb, first, second)? else {
             return Ok(false);
         };
@@ -156,9 +163,11 @@ impl Overlaps {
         Ok(range.shows_equal(first, second))
     }
 
-    /// Whether the last range that was found with two texts of these relative places proves that
-    /// these are equal.
+    /// Whether a remembered range proves that two texts are equal: the last range that was found
+    /// with two texts of the same relative places.
     fn shows_equal(&self, first: TextPlace, second: TextPlace) -> bool
+        // On true, the texts are equal in each payload in which the remembered ranges have their
+        // periods.
         ensures { (payload : List ℕ) → All (HasPeriod payload) self.now.ranges.items
             → OnTrue result (take first.len (drop first.from payload)
             ≡ take second.len (drop second.from payload)) }
@@ -169,8 +178,9 @@ impl Overlaps {
         }
     }
 
-    /// The last range that was found with two texts of these relative places.
+    /// The last range that was found with two texts of the same relative places, if there is one.
     fn repeat_of(&self, first: TextPlace, second: TextPlace) -> Option<PeriodicRange>
+        // The result is one of the remembered ranges, so it has its period if all of them do.
         ensures { (payload : List ℕ) → All (HasPeriod payload) self.now.ranges.items
             → IfSome result (HasPeriod payload) }
     {
@@ -178,17 +188,17 @@ impl Overlaps {
         self.ranges.get(*self.repeats.get(&place)?).copied()
     }
 
-    /// Keeps the range with two texts, if they are equal: it has the distance between them for its
-    /// period.
+    /// Remembers the range that contains two texts, if its bytes have the distance between the
+    /// texts as a period. Then the texts are equal if they have one length.
     fn keep_repeat(
         &mut self,
         adb: Adb<'_>,
         first: TextPlace,
         second: TextPlace,
     ) -> Result<Option<PeriodicRange>, AllocError>
-        // The first text is within the payload,
+        // The first text is within the payload.
         requires first { first.from + first.len ≤ length (payload_of adb) }
-        // and so is the second.
+        // The second text is within the payload.
         requires second { second.from + second.len ≤ length (payload_of adb) }
         // Each remembered range of the payload has its period.
         requires ranges { All (HasPeriod (payload_of adb)) self.old.ranges.items }
@@ -201,6 +211,8 @@ impl Overlaps {
     {
         let distance = first.from.abs_diff(second.from);
         let len = first.len.min(second.len);
+        // The bytes from the beginning of the earlier text to the end of the later one, if both
+        // have the shorter length.
         let both = TextPlace {
             from: first.from.min(second.from),
             len: distance + len,
@@ -214,8 +226,8 @@ impl Overlaps {
         Ok(Some(range))
     }
 
-    /// Remembers a text that was not known, by its word in the payload and its word in a draft. The
-    /// latter is NULL if the draft passed a limit; then nothing is remembered.
+    /// Remembers a text that was not known: `word` is its word in the payload, and `known` its word
+    /// in the draft. `known` is NULL if the draft passed a limit; then nothing is remembered.
     pub(crate) fn keep(&mut self, adb: Adb<'_>, word: Val, known: Val) -> Result<(), AllocError>
         // Each remembered range of the payload has its period.
         requires { All (HasPeriod (payload_of adb)) self.old.ranges.items }
@@ -228,17 +240,18 @@ impl Overlaps {
         if known.is_null() {
             return Ok(());
         }
-        // The bytes of both have the distance to an equal text of this stretch as a period.
+        // Two equal texts of one stretch have the distance between them as a period.
         let place = (known.word(), text.stretch());
-        // The last text in this stretch with this word is equal to this one.
+        // The last text in this stretch with the same word in the draft is equal to this text.
         if let Some(from) = self.places.insert(place, text.from)? {
             self.keep_range(adb, text, text.from.abs_diff(from))?;
         }
         self.keep_word(text, word)
     }
 
-    /// Remembers the range around a text that has a period, if an equal text begins at this
-    /// distance from it. A distance of some whole periods of the known range gives nothing new.
+    /// Remembers the range around `text` that has a period. An equal text begins at the distance
+    /// `distance` from `text`. If the distance is a multiple of the period of the range that is
+    /// already known around `text`, nothing is remembered.
     fn keep_range(
         &mut self,
         adb: Adb<'_>,
@@ -255,8 +268,8 @@ impl Overlaps {
         if self.is_some_periods(text, distance) {
             return Ok(());
         }
-        // Bytes with two periods mostly have the greatest common divisor of these as one, and it is
-        // tested below.
+        // Bytes with two periods mostly have the greatest common divisor of these as a period too.
+        // Whether they have it is tested below.
         let period = match self.range_around(text) {
             Some(range) => common_divisor(range.period, distance),
             None => distance,
@@ -270,7 +283,7 @@ impl Overlaps {
         Ok(())
     }
 
-    /// Whether a distance is a multiple of the period of the range that is known around a text.
+    /// Whether `distance` is a multiple of the period of the range that is known around `text`.
     fn is_some_periods(&self, text: TextPlace, distance: usize) -> bool {
         match self.range_around(text) {
             Some(range) => {
@@ -280,8 +293,9 @@ impl Overlaps {
         }
     }
 
-    /// Remembers the word of a text by its phase, if a range around the text is known.
+    /// Remembers the word of a text under its phase, if a range around the text is known.
     fn keep_word(&mut self, text: TextPlace, word: Val) -> Result<(), AllocError>
+        // No range is added or removed.
         ensures { self.new.ranges.items ≡ self.old.ranges.items }
     {
         let (Some(index), Some(range)) = (self.index_around(text), self.range_around(text)) else {
@@ -293,21 +307,22 @@ impl Overlaps {
         Ok(())
     }
 
-    /// The range that was found last around a text of this length in this stretch, if there is one.
+    /// The range that was found last around a text with the length and the stretch of `text`, if
+    /// there is one.
     fn range_around(&self, text: TextPlace) -> Option<PeriodicRange> {
         self.ranges.get(self.index_around(text)?).copied()
     }
 
-    /// The index in `ranges` of the range that was found last around a text of this length in this
-    /// stretch.
+    /// The index in `ranges` of the range that `range_around` returns.
     fn index_around(&self, text: TextPlace) -> Option<usize> {
         self.latest.get(&(text.len, text.stretch())).copied()
     }
 }
 
-/// The relative places of two texts: their distance, and the length and the stretch of the first
-/// one.
+/// The relative places of two texts: the distance between them, the length of the shorter one, and
+/// the stretch in which the earlier one begins.
 fn repeat_place(first: TextPlace, second: TextPlace) -> (usize, usize, usize) {
+    // The offset of the earlier text, with the length of the shorter one.
     let front = TextPlace {
         from: first.from.min(second.from),
         len: first.len.min(second.len),
@@ -316,9 +331,9 @@ fn repeat_place(first: TextPlace, second: TextPlace) -> (usize, usize, usize) {
     (distance, front.len, front.stretch())
 }
 
-/// The place of a word's text in the payload; None if it has no bytes at an offset.
+/// The place in the payload of the text of `word`; None if the word has no bytes at an offset.
 pub(crate) fn text_place(adb: Adb<'_>, word: Val) -> Option<TextPlace>
-    // The place of the text has the text of the word.
+    // The bytes at this place are the text of the word.
     ensures text { IfSome result (λ text. text_in (value_at (payload_of adb.entry) Kinds.Text word)
         ≡ take text.len (drop text.from (payload_of adb.entry))) }
     // This place is within the payload.
@@ -333,9 +348,9 @@ pub(crate) fn text_place(adb: Adb<'_>, word: Val) -> Option<TextPlace>
     }
 }
 
-/// The bytes around a text that continue its period, up to a limit on either side. None if the
-/// period is 0, since two words then point to one place. None too if it is longer than the text,
-/// whose bytes then prove nothing.
+/// The range around `text` whose bytes have the period `period`. The range begins at most `reach`
+/// bytes before the text, and ends at most `reach` bytes after the text. None if the bytes of the
+/// text do not have this period, or if the period is 0 or longer than the text.
 fn periodic_range(
     bytes: &[u8],
     text: TextPlace,
@@ -344,6 +359,7 @@ fn periodic_range(
 ) -> Option<PeriodicRange>
     // The text is within the payload.
     requires { text.from + text.len ≤ length bytes.now }
+    // The range that is returned, if any, has its period.
     ensures { IfSome result (HasPeriod bytes.now) }
 {
     if period == 0 || period > text.len {
@@ -357,12 +373,14 @@ fn periodic_range(
     Some(PeriodicRange { from, end, period })
 }
 
-/// The offset of the first byte before a text that continues its period, up to a limit.
+/// The offset of the first of the bytes before `text` that continue its period, at most `reach`
+/// bytes before the text.
 fn first_in_period(bytes: &[u8], text: TextPlace, period: usize, reach: usize) -> usize
     // The text is within the payload.
     requires within { text.from + text.len ≤ length bytes.now }
     // The period is not longer than the text.
     requires period { period ≤ text.len }
+    // The offset is at most that of the text.
     ensures { result ≤ text.from }
 {
     let least = text.from.saturating_sub(reach);
@@ -370,12 +388,14 @@ fn first_in_period(bytes: &[u8], text: TextPlace, period: usize, reach: usize) -
     first_by_steps(bytes, from, least, period, 1)
 }
 
-/// The offset of the first byte before `start`, and not before `least`, that continues the period.
-/// This many bytes are compared at a time (`step`).
+/// The offset of the first of the bytes before `start` that continue the period, but not before
+/// the offset `least`. `step` bytes are compared at a time.
 fn first_by_steps(bytes: &[u8], start: usize, least: usize, period: usize, step: usize) -> usize
+    // The bytes from `start` on have a whole period.
     requires within { start + period ≤ length bytes.now }
     // A step of 0 bytes would never end.
     requires some { 0 < step }
+    // The offset is at most `start`.
     ensures { result ≤ start }
 {
     let mut from = start;
@@ -388,14 +408,16 @@ fn first_by_steps(bytes: &[u8], start: usize, least: usize, period: usize, step:
     from
 }
 
-/// The end of the bytes after a text that continue its period, up to a limit.
+/// The end of the bytes after `text` that continue its period, at most `reach` bytes after the
+/// text.
 fn end_of_period(bytes: &[u8], text: TextPlace, period: usize, reach: usize) -> usize
     // The text is within the payload.
     requires within { text.from + text.len ≤ length bytes.now }
     // The period is not longer than the text.
     requires period { period ≤ text.len }
+    // The end is not before the end of the text.
     ensures behind { text.from + text.len ≤ result }
-    // The result is at most the length.
+    // The end is within the bytes.
     ensures within { result ≤ length bytes.now }
 {
     let start = text.from + text.len;
@@ -404,16 +426,20 @@ fn end_of_period(bytes: &[u8], text: TextPlace, period: usize, reach: usize) -> 
     end_by_steps(bytes, end, most, period, 1)
 }
 
-/// The end of the bytes from `start` on, up to `most`, that continue the period. This many bytes
-/// are compared at a time (`step`).
+/// The end of the bytes from `start` on that continue the period, but not after the offset `most`.
+/// `step` bytes are compared at a time.
 fn end_by_steps(bytes: &[u8], start: usize, most: usize, period: usize, step: usize) -> usize
+    // A whole period precedes `start`.
     requires period { period ≤ start }
+    // The offset `start` is within the bytes.
     requires start { start ≤ length bytes.now }
+    // The offset `most` is within the bytes.
     requires most { most ≤ length bytes.now }
     // A step of 0 bytes would never end.
     requires some { 0 < step }
+    // The end is not before `start`.
     ensures behind { start ≤ result }
-    // The result is at most the length.
+    // The end is within the bytes.
     ensures within { result ≤ length bytes.now }
 {
     let mut end = start;

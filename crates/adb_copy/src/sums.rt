@@ -1,8 +1,9 @@
-//! Sums of a payload's bytes, from which the fingerprint of any text in it takes a few steps. In a
-//! sum each byte counts by a power of a factor. The factors come from the payload's digest, so the
-//! maker of a payload cannot choose its bytes for them. The README of this crate describes the
-//! method, in the paragraph on fingerprints; no document has a rule for it. Whether two texts of
-//! one fingerprint are equal is tested if it is used.
+//! Sums of a payload's bytes (a polynomial hash), from which the fingerprint of any text in the
+//! payload is computed in a few steps. In a sum, each byte is multiplied by a power of a factor.
+//! The factors come from the payload's digest, so the maker of a payload cannot choose bytes with
+//! equal fingerprints. `fingerprints` uses the sums, and tests whether texts with one fingerprint
+//! are equal. The README of this crate describes the method, in the paragraph on fingerprints; no
+//! document has a rule for it.
 
 ghost use Rattle.std.specs.Prelude.{◌≤◌, ◌+◌, length};
 
@@ -10,15 +11,15 @@ use crate::overlaps::TextPlace;
 use sha2::{Digest, Sha256};
 use std::alloc::{AllocError, Global};
 
-/// The modulus of all sums, a prime. The product of two numbers below it has 62 bits, so no step
-/// exceeds 64.
+/// The modulus of all sums, a prime. The product of two numbers below the modulus has 62 bits, so
+/// no computation exceeds 64 bits.
 const PRIME: u64 = (1 << 31) - 1;
 
-/// How many bytes separate two stored sums. Any number is correct: with a greater one less memory
-/// is used, and a fingerprint takes more steps.
+/// How many bytes of the payload are between two stored sums. Any number is correct: a greater one
+/// takes less memory, and more time for a fingerprint.
 const BLOCK: usize = 32;
 
-/// Two numbers below the prime, with the same operations on each.
+/// Two numbers below `PRIME`. Each operation is applied to both numbers.
 #[derive(Clone, Copy)]
 struct Pair {
     /// The number that is computed with the first factor.
@@ -28,7 +29,7 @@ struct Pair {
 }
 
 impl Pair {
-    /// The same number twice.
+    /// The pair that has this number, modulo the prime, twice.
     fn of(number: u64) -> Pair {
         Pair {
             left: number % PRIME,
@@ -36,7 +37,7 @@ impl Pair {
         }
     }
 
-    /// The sums of the numbers of two pairs.
+    /// The pair of the sums of the left numbers and of the right numbers of two pairs.
     fn plus(self, other: Pair) -> Pair {
         Pair {
             left: self.left.wrapping_add(other.left) % PRIME,
@@ -44,7 +45,7 @@ impl Pair {
         }
     }
 
-    /// The products of the numbers of two pairs.
+    /// The pair of the products of the left numbers and of the right numbers of two pairs.
     fn times(self, other: Pair) -> Pair {
         Pair {
             left: self.left.wrapping_mul(other.left) % PRIME,
@@ -52,8 +53,8 @@ impl Pair {
         }
     }
 
-    /// The sums with one byte more: each is multiplied by its factor, and the byte plus one is
-    /// added. So zeros in front count too.
+    /// The two sums (`self`) after one more byte: each sum is multiplied by its factor, and the
+    /// byte plus one is added. One is added so that leading zero bytes change the sum too.
     fn times_with(self, factor: Pair, byte: u8) -> Pair {
         let more = byte as u64 + 1;
         Pair {
@@ -62,7 +63,7 @@ impl Pair {
         }
     }
 
-    /// The pair to the power of a number, by squaring.
+    /// The pair of the powers of both numbers with this exponent, by repeated squaring.
     fn to_power(self, exponent: usize) -> Pair {
         let mut power = Pair::of(1);
         let mut square = self;
@@ -77,23 +78,24 @@ impl Pair {
         power
     }
 
-    /// Both numbers of the pair in one number of 64 bits.
+    /// Both numbers of the pair as one number: the left one in the high 32 bits.
     fn number(self) -> u64 {
         self.left.wrapping_mul(1 << 32).wrapping_add(self.right)
     }
 }
 
-/// The sums of one payload.
+/// The stored sums of one payload, from which fingerprints are computed.
 #[derive(Drop)]
 pub struct Sums {
-    /// The two factors; each byte counts by a power of them.
+    /// The two factors by whose powers bytes are multiplied; 0 before the payload is summed.
     factor: Pair,
-    /// The sum of the bytes in front of each block, once the payload is summed.
+    /// For each block of `BLOCK` bytes, the sums of all bytes before this block. Empty before the
+    /// payload is summed.
     before: Vec<Pair>,
 }
 
 impl Sums {
-    /// No payload is summed.
+    /// The object at the beginning, when no payload is summed.
     pub(crate) fn new(alloc: Global) -> Sums {
         Sums {
             factor: Pair::of(0),
@@ -101,7 +103,7 @@ impl Sums {
         }
     }
 
-    /// Sums a payload, unless that was done.
+    /// Sums the payload and stores the sums, unless that was done before.
     pub(crate) fn sum_once(&mut self, payload: &[u8]) -> Result<(), AllocError> {
         if !self.before.is_empty() {
             return Ok(());
@@ -114,32 +116,35 @@ impl Sums {
             }
             sum = sum.times_with(self.factor, payload[at]);
         }
+        // If the last block is full, the sums of all bytes are stored too.
         if payload.len() % BLOCK == 0 {
             self.before.push(sum)?;
         }
         Ok(())
     }
 
-    /// The fingerprint of a text, if the payload is summed.
+    /// The fingerprint of a text: the sums of its bytes alone, as one number. None if the payload
+    /// is not summed.
     pub(crate) fn fingerprint_of(&self, payload: &[u8], text: TextPlace) -> Option<u64>
         // The text is within the payload.
         requires { text.from + text.len ≤ length payload.now }
     {
         let front = self.sum_before(payload, text.from)?;
         let whole = self.sum_before(payload, text.from + text.len)?;
-        // Subtract the share of the bytes in front. Modulo the prime, the prime less one is minus
-        // one.
+        // Subtract the share of the bytes before the text, which is multiplied by `PRIME - 1`: this
+        // is -1 modulo the prime.
         let opposite = Pair::of(PRIME - 1).times(front);
         let power = self.factor.to_power(text.len);
         Some(whole.plus(opposite.times(power)).number())
     }
 
-    /// The sum of the bytes in front of an offset, if the payload is summed.
+    /// The sums of all bytes before an offset. None if the payload is not summed.
     fn sum_before(&self, payload: &[u8], offset: usize) -> Option<Pair>
         // The offset is within the payload.
         requires { offset ≤ length payload.now }
     {
         let block = offset / BLOCK;
+        // From the stored sums of the block of the offset, add the bytes up to the offset.
         let mut sum = *self.before.get(block)?;
         for at in block * BLOCK..offset {
             sum = sum.times_with(self.factor, payload[at]);
@@ -148,7 +153,8 @@ impl Sums {
     }
 }
 
-/// Two factors, from the digest of a payload: its bytes in turn, modulo the prime.
+/// Two factors that depend on the whole payload: they are computed from the bytes of its SHA-256
+/// digest, which are appended to the two numbers by turns, modulo the prime.
 fn factor_of(payload: &[u8]) -> Pair {
     let digest = Sha256::digest(payload);
     let mut factor = Pair::of(0);

@@ -1,4 +1,4 @@
--- The remembered results for lists that many places may share. Serves the contract of
+-- The remembered results for lists of objects to which many words may refer. Serves the contract of
 -- `KnownLists::least_pair_of_repeated_name`; the rule is in `docs/formats.md`, "Names that stand twice".
 use Rattle.std.specs.Prelude.{◌≡◌, ℕ, List, map, Option, Some}
 use Rattle.std.specs.BTreeMap.{BTreeMap, get}
@@ -9,13 +9,14 @@ use Rattle.adb_view.specs.declared.tables.Kind.TheVariants.{ObjArr}
 use Rattle.adb_fields.specs.Repeated.{least_pair_of_repeated_name, list_of, name_of}
 use Rattle.adb_fields.specs.declared.pairs.Pair.{Pair}
 
--- the first pair of positions of one name in the list of objects of a word
+-- the first pair of positions at which the list of objects with this word has the same name; None if there is none.
+-- The objects are of the table `which`
 abbrev pub repeated_name_pair_at : List ℕ → Which → ℕ → Option Pair
 repeated_name_pair_at payload which word = least_pair_of_repeated_name (map name_of
     (list_of (entries_in (value_at payload (ObjArr which) word))))
 
--- the pair that is remembered for a word is the first pair of equal names in the word's list; None if no
--- name occurs twice there
+-- `pairs` maps words of lists to results: the result of each word is the first pair of positions with the same name in
+-- the list of this word, or None if no name occurs twice there
 abbrev pub AreFirstRepeatsOfWords : List ℕ → Which → BTreeMap ℕ (Option Pair) → Type 0
 AreFirstRepeatsOfWords payload which pairs = (word : ℕ) → (pair : Option Pair)
     → get nat_cmp pairs word ≡ Some pair → pair ≡ repeated_name_pair_at payload which word

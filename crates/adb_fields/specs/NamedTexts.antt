@@ -14,22 +14,23 @@ use Rattle.adb_fields.specs.Fields.{array_at}
 use Rattle.adb_view.specs.declared.tables.Kind.{Kind}
 use Rattle.adb_fields.specs.declared.pairs.PathWithPosition.{PathWithPosition}
 
--- the name that an entry of the program's list represents, with its position: if there is a folder, a
--- path
+-- the name with its position that an entry of the program's list represents; if the entry has a folder, the name is the
+-- joined path
 abbrev pub joined_name_with_position : PathWithPosition → NameWithPosition
 joined_name_with_position e = record { name = joined_path e.path; position = e.position }
 
--- the order in which names are sorted: by name, and equal names by position
+-- the order in which names are sorted: in byte order, and equal names by position
 abbrev pub name_with_position_cmp : NameWithPosition → NameWithPosition → Ordering
 name_with_position_cmp x y = ordering_then (slice_cmp nat_cmp x.name y.name) (nat_cmp x.position y.position)
 
--- the pairs of positions of a name and the next one, and so on while the names are equal; None between
--- two names that differ. *least_pair* returns the pair that is reported
+-- for the name x and each of the names after it: the pair of positions of this name and the next one, if the two names
+-- are equal, otherwise None
 abbrev pub neighbours_from : NameWithPosition → List NameWithPosition → List (Option Pair)
 neighbours_from x [] = []
 neighbours_from x (y ∷ ys) = pair_if_same_name x y ∷ neighbours_from y ys
 
--- the pairs of positions that each name of a list makes with the next one; None if the two names differ
+-- for each name of a list but the last: the pair of positions of this name and the next one, if the two names are
+-- equal, otherwise None
 abbrev pub neighbours : List NameWithPosition → List (Option Pair)
 neighbours [] = []
 neighbours (x ∷ xs) = neighbours_from x xs
@@ -38,6 +39,7 @@ neighbours (x ∷ xs) = neighbours_from x xs
 abbrev pub name_with_position : List ℕ → ℕ → NameWithPosition
 name_with_position name position = record { name = name; position = position }
 
--- the plain values of an array's words under the kind, as a list
+-- the plain values of the entries of an array in the payload `p`: `words` are its words, and `k` is the kind of each
+-- entry
 abbrev pub plains_at : List ℕ → Kind → List ℕ → List Plain
 plains_at p k words = list_of (entries_in (array_at p k words))

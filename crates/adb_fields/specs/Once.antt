@@ -1,5 +1,5 @@
--- When no name occurs twice in a container. The names are in the table of `docs/formats.md`, "Names
--- that stand twice".
+-- When no name occurs twice in a container, stated independently of the search for repeated names. The kinds of names
+-- are in the table of `docs/formats.md`, "Names that stand twice".
 use Rattle.std.specs.Prelude.{◌⊎◌, ℕ, List, [], ◌∷◌, ◌++◌, map}
 use Rattle.std.specs.List.{flat_map}
 use Rattle.adb_view.specs.Plain.{Plain}
@@ -15,7 +15,7 @@ abbrev pub AreDistinctNames : List (List ℕ) → Type 0
 AreDistinctNames [] = Unit {0}
 AreDistinctNames (name ∷ names) = (¬ IsIn name names) × AreDistinctNames names
 
--- no name occurs twice in one of these lists
+-- in each of these lists no name occurs twice; two lists may have the same name
 abbrev pub EachHasDistinctNames : List (List (List ℕ)) → Type 0
 EachHasDistinctNames [] = Unit {0}
 EachHasDistinctNames (names ∷ lists) = AreDistinctNames names × EachHasDistinctNames lists
@@ -25,7 +25,7 @@ abbrev pub IsInOneOf : List ℕ → List (List (List ℕ)) → Type 0
 IsInOneOf name [] = ⊥
 IsInOneOf name (names ∷ lists) = IsIn name names ⊎ IsInOneOf name lists
 
--- no name is in two of the lists
+-- no name is in two of these lists; one list may have a name twice
 abbrev pub ShareNoName : List (List (List ℕ)) → Type 0
 ShareNoName [] = Unit {0}
 ShareNoName (names ∷ lists) = ((name : List ℕ) → IsIn name names → ¬ IsInOneOf name lists)
@@ -33,21 +33,21 @@ ShareNoName (names ∷ lists) = ((name : List ℕ) → IsIn name names → ¬ Is
 
 -- no package lists a folder twice, and no folder lists a file twice
 pub record HaveNoRepeatInside (packages : List Plain) : Type 0 where
-  -- each package lists a folder once
+  -- no package lists a folder twice
   pub folders : EachHasDistinctNames (map (λ pkg. map name_of (folders_in pkg)) packages)
-  -- each folder lists a file once
+  -- no folder of a package lists a file twice
   pub files : EachHasDistinctNames
       (flat_map (λ pkg. map (λ folder. map name_of (files_in folder)) (folders_in pkg)) packages)
 
--- no two packages have one name, and no two list one path
+-- no two packages have the same name, and no two packages list the same path
 pub record HaveNoRepeatBetween (packages : List Plain) : Type 0 where
-  -- each package occurs once
+  -- no two packages have the same name
   pub packages_once : AreDistinctNames (map package_name packages)
-  -- no path is in two packages
+  -- no two packages list the same path
   pub paths_once : ShareNoName (map paths_of_package_files packages)
 
--- no name that must not repeat occurs twice in a container, by the table of its root; other tables
--- demand nothing
+-- no name that must not repeat occurs twice in the value of a container, whose root has the table `which`. For tables
+-- other than those of packages, databases and intents nothing is demanded
 abbrev pub HasNoRepeatedName : Which → Plain → Type 0
 HasNoRepeatedName Package v = HaveNoRepeatInside (v ∷ [])
 HasNoRepeatedName Idb v = HaveNoRepeatInside (entries_at IDB_PACKAGES v)

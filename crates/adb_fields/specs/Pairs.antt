@@ -1,5 +1,5 @@
--- Which two positions of the repeated names in a list are reported. The rule is in `docs/formats.md`,
--- "Names that stand twice", below the table.
+-- If names repeat in a list, which two positions are reported. The rule is in `docs/formats.md`, "Names that stand
+-- twice", below the table.
 use Rattle.std.specs.Prelude.{ℕ, Bool, ◌&&◌, ◌||◌, List, [], ◌∷◌, map, Option, Some, None, bytes_eq, ◌==◌, nat_lt, if◌then◌else◌}
 use Rattle.std.specs.List.{flat_map}
 use Rattle.adb_fields.specs.declared.pairs.Pair.{Pair}
@@ -8,31 +8,30 @@ use Rattle.adb_fields.specs.declared.pairs.Pair.{Pair}
 pub record NameWithPosition : Type 0 where
   -- a name, or a path
   pub name : List ℕ
-  -- its position, counted from 1
+  -- the position of the name, counted from 1
   pub position : ℕ
 
--- whether a pair has priority over another: by the smaller second position, then the smaller first one
+-- whether the pair p is reported rather than q: its second position is smaller; or the second positions are equal, and
+-- its first position is smaller
 abbrev pub is_lesser_pair : Pair → Pair → Bool
 is_lesser_pair p q = nat_lt p.second q.second || (p.second == q.second && nat_lt p.first q.first)
 
--- of two pairs the one that is reported; None if neither exists
+-- of two pairs the one that is reported (*is_lesser_pair*); None if there is neither
 abbrev pub lesser_pair : Option Pair → Option Pair → Option Pair
 lesser_pair None q = q
 lesser_pair (Some p) None = Some p
 lesser_pair (Some p) (Some q) = if is_lesser_pair q p then Some q else Some p
 
--- of several pairs the one that is reported; None if none exists
+-- of several pairs the one that is reported (*is_lesser_pair*); None if there is none
 abbrev pub least_pair : List (Option Pair) → Option Pair
 least_pair [] = None
 least_pair (p ∷ ps) = lesser_pair p (least_pair ps)
 
--- the pair of the positions of two entries, if they have the same name and the first precedes the
--- second
+-- the pair of the positions of x and y, if they have the same name and the position of x is smaller
 abbrev pub pair_if_same_name : NameWithPosition → NameWithPosition → Option Pair
 pair_if_same_name x y = if bytes_eq x.name y.name && nat_lt x.position y.position
     then Some (record { first = x.position; second = y.position }) else None
 
--- of all pairs of positions at which a name occurs twice the one that is reported; None if no name
--- does
+-- of all pairs of positions with the same name the one that is reported; None if there is no such pair
 unfoldable pub least_pair_of_equal_names : List NameWithPosition → Option Pair
 least_pair_of_equal_names names = least_pair (flat_map (λ x. map (pair_if_same_name x) names) names)

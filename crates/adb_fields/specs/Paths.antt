@@ -1,7 +1,8 @@
 -- Paths of files. The rule is in `docs/formats.md`, "Schemas" ("The path of a file").
 use Rattle.std.specs.Prelude.{ℕ, List, [], ◌∷◌, ◌++◌}
 
--- a file's path: its name after its folder's and a slash (47); the root folder has the empty name
+-- the path of a file, given the names of its folder and of the file: the folder's name, a slash (47), and the file's
+-- name; in the root folder, whose name is empty, the file's name alone
 abbrev pub path_of : List ℕ → List ℕ → List ℕ
 path_of [] name = name
 path_of (b ∷ folder) name = (b ∷ folder) ++ (47 ∷ name)

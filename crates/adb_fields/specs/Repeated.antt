@@ -1,5 +1,5 @@
--- Repeated names in a container, kind by kind. The rule is in the table of `docs/formats.md`, "Names
--- that stand twice".
+-- The cause that reports a repeated name in a container, for each kind of names. The rule is in the table of
+-- `docs/formats.md`, "Names that stand twice".
 use Rattle.std.specs.Prelude.{ℕ, ◌+◌, ◌*◌, List, [], ◌∷◌, ◌++◌, map, Option, None, option_map}
 use Rattle.std.specs.Option.{option_or}
 use Rattle.std.specs.List.{flat_map}
@@ -22,13 +22,12 @@ abbrev pub numbered_from : ℕ → List (List ℕ) → List NameWithPosition
 numbered_from n [] = []
 numbered_from n (name ∷ names) = record { name = name; position = n } ∷ numbered_from (n + 1) names
 
--- the pair of positions at which a list has one name twice: of all such pairs the one that is
--- reported. None if each name occurs once
+-- of all pairs of positions at which a list has the same name, the one that is reported; None if each name occurs once
 abbrev pub least_pair_of_repeated_name : List (List ℕ) → Option Pair
 least_pair_of_repeated_name names = least_pair_of_equal_names (numbered_from 1 names)
 
--- the pair of positions at which one of several lists has one name twice: of the pairs of all lists
--- the one that is reported
+-- of all pairs of positions at which one of several lists has the same name, the one that is reported; None if in each
+-- list each name occurs once
 abbrev pub repeated_pair_in_one_list : List (List (List ℕ)) → Option Pair
 repeated_pair_in_one_list lists = least_pair (map least_pair_of_repeated_name lists)
 
@@ -36,14 +35,13 @@ repeated_pair_in_one_list lists = least_pair (map least_pair_of_repeated_name li
 abbrev pub names_all_at_position : ℕ → List (List ℕ) → List NameWithPosition
 names_all_at_position n names = map (λ name. record { name = name; position = n }) names
 
--- the names of several lists, each at the position of its list; the first list has position n
+-- the names of several lists, each with the position of its list; the first list has position n
 abbrev pub names_with_list_positions : ℕ → List (List (List ℕ)) → List NameWithPosition
 names_with_list_positions n [] = []
 names_with_list_positions n (names ∷ lists) =
     names_all_at_position n names ++ names_with_list_positions (n + 1) lists
 
--- the positions of two lists with a common name, of all such pairs the one that is reported; None if there
--- is none
+-- of all pairs of positions of two lists that share a name, the one that is reported; None if no two lists share one
 abbrev pub repeated_pair_in_two_lists : List (List (List ℕ)) → Option Pair
 repeated_pair_in_two_lists lists = least_pair_of_equal_names (names_with_list_positions 1 lists)
 
@@ -88,38 +86,42 @@ paths_of_package_files pkg = flat_map paths_of_folder_files (folders_in pkg)
 
 -- ---- the pairs of each kind of names
 
--- the pair of positions in `paths` at which one of these packages lists a folder twice
+-- the pair of positions in the field *paths* of one of these packages, at which the package lists the same folder; of
+-- all such pairs the one that is reported
 abbrev pub repeated_folder_name_in_package : List Plain → Option Pair
 repeated_folder_name_in_package packages =
     repeated_pair_in_one_list (map (λ pkg. map name_of (folders_in pkg)) packages)
 
--- the pair of positions in `files` at which a folder of one of these packages lists a file twice
+-- the pair of positions in the field *files* of a folder of one of these packages, at which the folder lists the same
+-- file; of all such pairs the one that is reported
 abbrev pub repeated_file_name_in_folder : List Plain → Option Pair
 repeated_file_name_in_folder packages = repeated_pair_in_one_list
     (flat_map (λ pkg. map (λ folder. map name_of (files_in folder)) (folders_in pkg)) packages)
 
--- the pair of positions at which two packages of a database have the same name
+-- the pair of positions of two packages of a database that have the same name; of all such pairs the one that is
+-- reported
 abbrev pub repeated_package_name : List Plain → Option Pair
 repeated_package_name packages = least_pair_of_repeated_name (map package_name packages)
 
--- the pair of positions of two packages that list the same path
+-- the pair of positions of two packages that list the same path; of all such pairs the one that is reported
 abbrev pub pair_of_packages_listing_one_path : List Plain → Option Pair
 pair_of_packages_listing_one_path packages =
     repeated_pair_in_two_lists (map paths_of_package_files packages)
 
--- the pair of positions at which a journal entry has one name twice, in its removals followed by its
--- writes
+-- the pair of positions at which the list of a journal entry's removals, followed by its writes, has the same name; of
+-- all such pairs the one that is reported
 abbrev pub repeated_intent_name : Plain → Option Pair
 repeated_intent_name intent = least_pair_of_repeated_name
     (map text_in (entries_at INTENT_REMOVALS intent) ++ map text_in (entries_at INTENT_WRITES intent))
 
 -- ---- the fault of a container
 
--- the number of a field in causes: 100 times the table's number, plus the field's index, plus 1
+-- the number by which causes name the field of the table `which` with this index, which counts from 0
 abbrev pub field_number : Which → ℕ → ℕ
 field_number which index = 100 * table_number which + (index + 1)
 
--- the cause of a pair, if there is one, with the number of the field whose texts must not repeat
+-- the cause that reports a pair of positions, if there is one; `number` is the number in causes of the field whose
+-- texts must not repeat
 abbrev pub repeated_cause : ℕ → Option Pair → Option Cause
 repeated_cause number pair = option_map (λ p. Repeated number p.first p.second) pair
 
@@ -136,8 +138,8 @@ repeated_between_packages_fault packages =
     option_or (repeated_cause (field_number Idb IDB_PACKAGES) (repeated_package_name packages))
     (repeated_cause (field_number File FILE_NAME) (pair_of_packages_listing_one_path packages))
 
--- the cause of a repeated name in a container with this table at its root. The kinds of names are
--- searched in this order, and the first kind with a repeated name is reported
+-- the cause that reports a repeated name in the value of a container, whose root has the table `which`. The kinds of
+-- names are searched in this order, and the first kind with a repeated name is reported
 unfoldable pub repeated_fault : Which → Plain → Option Cause
 repeated_fault Package v = repeated_within_package_fault (v ∷ [])
 repeated_fault Idb v = option_or (repeated_within_package_fault (entries_at IDB_PACKAGES v))

@@ -1,6 +1,7 @@
-//! Paths of files whose two parts are not joined, and their order. The path of a file is defined in
-//! `docs/formats.md`, "Schemas" ("The path of a file"). Serves the search for a path that two
-//! packages have ("Names that stand twice"), as `FilePath::compare` in the README of this crate.
+//! Paths of files as two separate texts, folder and name, and the order of such paths. Serves the
+//! search for a path that two packages have (`docs/formats.md`, "Names that stand twice"), and the
+//! sorting of files by path. The path of a file is defined in `docs/formats.md`, "Schemas" ("The
+//! path of a file").
 
 ghost use Rattle.std.specs.Prelude.{◌≡◌, ◌<◌, ◌≤◌, ◌+◌, ◌^◌, length, take, drop, slice_get, IfSome};
 ghost use Rattle.std.specs.Cmp.Lexicographic.{slice_cmp};
@@ -9,8 +10,9 @@ ghost use Rattle.adb_fields.specs.JoinedPath.{joined_path};
 
 use std::cmp::Ordering;
 
-/// The path of a file: its folder's name, a slash, and its own name. The root folder has the empty
-/// name. The two parts stay separate, so a path allocates no memory.
+/// The path of a file: the name of its folder, a slash, and the name of the file. In the root
+/// folder, whose name is empty, it is the name of the file. The two texts are not joined, so no
+/// memory is allocated.
 #[derive(Clone, Copy)]
 pub struct FilePath<'a> {
     /// The path of the folder; empty for the root folder.
@@ -20,17 +22,18 @@ pub struct FilePath<'a> {
 }
 
 impl FilePath<'_> {
-    /// The order of two paths, byte by byte.
+    /// The byte order of this path and the path `other`.
     #[tactic(auto, using(crate::proofs::Compared::apart_in_front, crate::proofs::Compared::same_in_front, crate::proofs::Compared::equal_folders))]
     pub fn compare(&self, other: &FilePath<'_>) -> Ordering
         ensures { result ≡ slice_cmp nat_cmp (joined_path self.now) (joined_path other.now) }
     {
-        // Whether two texts are equal is tested in longer steps than their order. Paths that are
-        // compared mostly have the same folder.
+        // Most paths that are compared have the same folder. Testing whether two texts are equal is
+        // faster than comparing their order.
         if self.folder == other.folder {
             return self.name.cmp(&other.name);
         }
         let len = self.folder.len().min(other.folder.len());
+        // The order of the folders, up to the length of the shorter one.
         let front = compared_fronts(self.folder, other.folder, len);
         if !front.is_eq() {
             return front;
@@ -38,10 +41,12 @@ impl FilePath<'_> {
         compared_from(self, other, len)
     }
 
-    /// The byte of the path with this index, if there is one. A slash separates folder and name,
-    /// unless the folder is the root.
+    /// The byte of the path at the index `i`, if there is one. A slash is between folder and name,
+    /// unless the folder is the root folder.
     fn byte(&self, i: usize) -> Option<u8>
+        // The result is the byte at the index, or None past the end.
         ensures byte { result ≡ slice_get (joined_path self.now) i }
+        // The index is so small that one can be added to it.
         ensures small { IfSome result (λ _. i + 1 < 2 ^ 64) }
     {
         let len = self.folder.len();
@@ -60,9 +65,9 @@ impl FilePath<'_> {
 
 /// The order of the first `len` bytes of two texts.
 fn compared_fronts(one: &[u8], other: &[u8], len: usize) -> Ordering
-    // The length is within the first text,
+    // The length is within the first text.
     requires one { len ≤ length one.now }
-    // and within the second.
+    // The length is within the second text.
     requires other { len ≤ length other.now }
     ensures { result ≡ slice_cmp nat_cmp (take len one.now) (take len other.now) }
 {
@@ -70,8 +75,9 @@ fn compared_fronts(one: &[u8], other: &[u8], len: usize) -> Ordering
     front.cmp(&&other[..len])
 }
 
-/// The order of the rests of two paths from this index on.
+/// The byte order of two paths, of which only the bytes from the index `from` on are compared.
 fn compared_from(one: &FilePath<'_>, other: &FilePath<'_>, from: usize) -> Ordering
+    // The order is that of the bytes from the index on.
     ensures { result
         ≡ slice_cmp nat_cmp (drop from (joined_path one.now)) (drop from (joined_path other.now)) }
 {
@@ -91,9 +97,11 @@ fn compared_from(one: &FilePath<'_>, other: &FilePath<'_>, from: usize) -> Order
     }
 }
 
-/// The byte at this index, if there is one.
+/// The byte at the index `i`, if there is one.
 fn byte_at(bytes: &[u8], i: usize) -> Option<u8>
+    // The result is the byte at the index, or None past the end.
     ensures byte { result ≡ slice_get bytes.now i }
+    // The index is below 2^63.
     ensures small { IfSome result (λ _. i < 2 ^ 63) }
 {
     if i < bytes.len() {

@@ -1,7 +1,7 @@
-//! The lists of a payload that were already searched for a repeated name. Many places may share a
-//! list, so the result for a long one is remembered, and each list is searched once (README of this
-//! crate, first paragraph). Serves `repeated_names`; the rule is in `docs/formats.md`, "Names that
-//! stand twice".
+//! The results for the lists of a payload that were already searched for a repeated name. Many
+//! words may refer to the same list. So the result for a long list is remembered, and the list is
+//! searched only once (README of this crate, first paragraph). Serves `repeated_names`; the rule is
+//! in `docs/formats.md`, "Names that stand twice".
 
 ghost use Rattle.std.specs.Prelude.{◌≡◌, true, Some, map, IfOk, IfSome};
 ghost use Rattle.adb_view.specs.Adb.{payload_of};
@@ -20,29 +20,32 @@ use adb_view::{Adb, Arr, Val, Which};
 use std::alloc::{AllocError, Global};
 use std::collections::BTreeMap;
 
-/// The most entries of a list whose result is not remembered. Such a list is searched again
-/// wherever it occurs, which keeps no memory. The number does not change the results.
+/// The most entries of a short list. The result for a short list is not remembered: the list is
+/// searched again wherever it occurs, which takes no memory. The number does not change the
+/// results.
 const LONGEST_SHORT_LIST: usize = 16;
 
-/// A payload, a table whose objects have names, and for each long list of such objects that was
-/// searched, by the list's word, the first pair of its names.
+/// A payload, a table whose objects have names, and the results for the long lists of such objects
+/// that were searched.
 #[derive(Drop)]
 pub(crate) struct KnownLists<'a> {
     /// The payload that contains the lists.
     adb: Adb<'a>,
     /// The table of the objects in these lists.
     which: Which,
-    /// By the word of a list: its first pair, or None if no name occurs twice in it.
+    /// Maps the word of a list to the first pair of positions with the same name in this list; None
+    /// if no name occurs twice in the list.
     pairs: BTreeMap<u32, Option<Pair>>,
+    // The first field of the table is a text, the name.
     ghost named: { kind_at which NAME_INDEX ≡ Some Kinds.Text },
+    // Each remembered pair is the first one of its list.
     ghost exact: { AreFirstRepeatsOfWords (payload_of adb) which pairs },
 }
 
 impl<'a> KnownLists<'a> {
     ghost use Rattle.adb_fields.specs.ListsOf.{AreRememberedListsOf};
 
-    /// The lists of a payload before any was searched. The first field of the table must be a text,
-    /// which is the name.
+    /// The object at the beginning, when no list of the payload was searched.
     pub(crate) fn new(alloc: Global, adb: Adb<'a>, which: Which) -> KnownLists<'a>
         // The first field of the table is a text, the name.
         requires { kind_at which NAME_INDEX ≡ Some Kinds.Text }
@@ -55,20 +58,20 @@ impl<'a> KnownLists<'a> {
         }
     }
 
-    /// The pair of positions at which two objects of a list have one name. Only a long list
-    /// allocates memory, once.
+    /// The first pair of positions at which two objects of the list with the word `list` have the
+    /// same name; None if there is none. Only a long list allocates memory, once.
     pub(crate) fn least_pair_of_repeated_name(
         &mut self,
         alloc: Global,
         list: Val,
     ) -> Result<Option<Pair>, AllocError>
-        // The word has a plain value of its kind.
+        // The word `list` has a plain value: an array of objects of the table.
         requires { is_sound (payload_of self.old.adb) (Kinds.ObjArr self.old.which) list ≡ true }
         // On Ok, the result is the first pair of positions with one name in the list, if there is
         // one.
         ensures value { IfOk result (λ pair. pair
             ≡ repeated_name_pair_at (payload_of self.old.adb) self.old.which list) }
-        // The remembered lists are still those of objects of this table in this payload.
+        // The object still remembers lists of objects of its table, in its payload.
         ensures lists { AreRememberedListsOf self.old.adb self.old.which self.new }
     {
         let objects = objects_word(self.adb, self.which, list);
@@ -83,9 +86,10 @@ impl<'a> KnownLists<'a> {
         Ok(pair)
     }
 
-    /// The remembered result of a list, if it was searched before; the inner None says that it has
-    /// no pair.
+    /// The remembered result of the list with the word `list`: None if there is no result, and
+    /// `Some(None)` if no name occurs twice in the list.
     fn kept_pair(&self, list: Val) -> Option<Option<Pair>>
+        // A remembered result is the first pair of the list, or None if no name repeats.
         ensures { IfSome result (λ pair. pair
             ≡ repeated_name_pair_at (payload_of self.now.adb) self.now.which list) }
     {
@@ -93,18 +97,20 @@ impl<'a> KnownLists<'a> {
     }
 }
 
-/// The pair of positions at which two of the objects have one name, which is their first field.
+/// The first pair of positions at which two of the objects have the same name, which is their first
+/// field; None if there is none. `objects` has the words of the objects.
 fn name_twice_in_list(
     alloc: Global,
     adb: Adb<'_>,
     which: Which,
     objects: Arr<'_>,
 ) -> Result<Option<Pair>, AllocError>
-    // Each word has a plain value of its kind.
+    // The words in `objects` have plain values: objects of the table `which`.
     requires sound { are_all_sound (payload_of adb) (Kinds.Obj which) (array_entries objects)
         ≡ true }
     // The first field of the table is a text, the name.
     requires kind { kind_at which NAME_INDEX ≡ Some Kinds.Text }
+    // On Ok, the pair, or None, is that of the definition.
     ensures { IfOk result (λ pair. pair
         ≡ least_pair_of_repeated_name (map name_of (plains_at (payload_of adb.entry)
         (Kinds.Obj which)

@@ -1,6 +1,6 @@
-//! The lists of names that must not repeat, each name with its position: names of folders, of files
-//! and of packages, paths, and the texts of a journal entry. The lists are in the table of
-//! `docs/formats.md`, "Names that stand twice".
+//! Makes the lists of names that must not repeat, each name with its position: names of folders, of
+//! files and of packages, paths of files, and the texts of a journal entry. `repeated` searches
+//! these lists. They are in the table of `docs/formats.md`, "Names that stand twice".
 
 ghost use Rattle.std.specs.Prelude.{◌≡◌, ◌+◌, ◌<◌, ◌^◌, ◌++◌, ◌∷◌, [], true, Some, map, length, IfOk};
 ghost use Rattle.std.specs.Vec.{vec_len};
@@ -26,7 +26,7 @@ use std::alloc::{AllocError, Global};
 /// The index of the name in a folder and in a file: in both it is the first field.
 const NAME_INDEX: usize = DIR_NAME;
 
-/// Adds a name after the others, at the next position.
+/// Adds `name` to the end of `names`, with the next position.
 fn add<'a>(names: &mut Vec<PathWithPosition<'a>>, name: &'a [u8]) -> Result<(), AllocError>
     // The next position fits into 32 bits.
     requires { vec_len names.old + 1 < 2 ^ 32 }
@@ -43,7 +43,8 @@ fn add<'a>(names: &mut Vec<PathWithPosition<'a>>, name: &'a [u8]) -> Result<(), 
     Ok(())
 }
 
-/// The names of folders or files: the first fields of these objects, which are texts.
+/// The names of folders or files, with positions from 1 on. `objects` has the words of these
+/// objects, whose first field is the name.
 #[tactic(auto, using(crate::proofs::FieldReads::entry_sound))]
 pub(crate) fn object_names<'a>(
     alloc: Global,
@@ -51,11 +52,12 @@ pub(crate) fn object_names<'a>(
     which: Which,
     objects: Arr<'a>,
 ) -> Result<Vec<PathWithPosition<'a>>, AllocError>
-    // Each word has a plain value of its kind.
+    // The words in `objects` have plain values: objects of the table `which`.
     requires sound { are_all_sound (payload_of adb) (Kinds.Obj which) (array_entries objects)
         ≡ true }
     // The first field of the table is a text, the name.
     requires kind { kind_at which NAME_INDEX ≡ Some Kinds.Text }
+    // On Ok, these are the names, with positions from 1 on.
     ensures { IfOk result (λ names. map joined_name_with_position names.items
         ≡ numbered_from 1
         (map name_of (plains_at (payload_of adb.entry) (Kinds.Obj which)
@@ -71,16 +73,17 @@ pub(crate) fn object_names<'a>(
     Ok(names)
 }
 
-/// The names of packages, each at the position of its package.
+/// The names of packages, each with the position of its package.
 #[tactic(auto, using(crate::proofs::FieldReads::entry_sound))]
 pub(crate) fn package_names<'a>(
     alloc: Global,
     adb: Adb<'a>,
     packages: Arr<'a>,
 ) -> Result<Vec<PathWithPosition<'a>>, AllocError>
-    // Each word has a plain value of its kind.
+    // The words in `packages` have plain values: packages.
     requires { are_all_sound (payload_of adb) (Kinds.Obj Tables.Package) (array_entries packages)
         ≡ true }
+    // On Ok, these are the names, with positions from 1 on.
     ensures { IfOk result (λ names. map joined_name_with_position names.items
         ≡ numbered_from 1
         (map package_name (plains_at (payload_of adb.entry) (Kinds.Obj Tables.Package)
@@ -93,10 +96,11 @@ pub(crate) fn package_names<'a>(
     Ok(names)
 }
 
-/// The name in a package's information.
+/// The name of a package, which is in the package's information.
 fn package_name<'a>(adb: Adb<'a>, pkg: Val) -> &'a [u8]
-    // The word has a plain value of its kind.
+    // The word `pkg` has a plain value: a package.
     requires { is_sound (payload_of adb) (Kinds.Obj Tables.Package) pkg ≡ true }
+    // The result is the name of this package.
     ensures { result.now
         ≡ package_name (value_at (payload_of adb.entry) (Kinds.Obj Tables.Package) pkg) }
 {
@@ -104,14 +108,15 @@ fn package_name<'a>(adb: Adb<'a>, pkg: Val) -> &'a [u8]
     text_field(adb, Which::PkgInfo, info, INFO_NAME)
 }
 
-/// Adds the texts of an array after the names, at the positions that follow.
+/// Adds the texts of an array to the end of `names`, with the positions that follow. `texts` has
+/// the words of the texts.
 #[tactic(auto, using(crate::proofs::FieldReads::entry_sound))]
 pub(crate) fn add_texts<'a>(
     names: &mut Vec<PathWithPosition<'a>>,
     adb: Adb<'a>,
     texts: Arr<'a>,
 ) -> Result<(), AllocError>
-    // Each word has a plain value of its kind.
+    // The words in `texts` have plain values: texts.
     requires sound { are_all_sound (payload_of adb) Kinds.Text (array_entries texts) ≡ true }
     // The positions of all these texts fit into 32 bits.
     requires few { vec_len names.old + length (array_entries texts) < 2 ^ 32 }
@@ -120,7 +125,7 @@ pub(crate) fn add_texts<'a>(
         ≡ map joined_name_with_position names.old.items
         ++ numbered_from (vec_len names.old + 1)
         (map text_in (plains_at (payload_of adb.entry) Kinds.Text (array_entries texts.entry)))) }
-    // On Ok, there are so many more names.
+    // On Ok, there are as many more names as there are texts.
     ensures len { IfOk result (λ _. vec_len names.new
         ≡ vec_len names.old + length (array_entries texts.entry)) }
 {
@@ -130,13 +135,14 @@ pub(crate) fn add_texts<'a>(
     Ok(())
 }
 
-/// Adds the path of a file in a folder.
+/// Adds the path of the file `name` in the folder `folder`, with the given position.
 fn add_path<'a>(
     paths: &mut Vec<PathWithPosition<'a>>,
     folder: &'a [u8],
     name: &'a [u8],
     position: u32,
 ) -> Result<(), AllocError>
+    // On Ok, the paths are added with this position.
     ensures { IfOk result (λ _. map joined_name_with_position paths.new.items
         ≡ map joined_name_with_position paths.old.items
         ++ (name_with_position (path_of folder.now name.now) position ∷ [])) }
@@ -146,7 +152,7 @@ fn add_path<'a>(
     Ok(())
 }
 
-/// Adds the paths of a folder's files, all at one position.
+/// Adds the paths of all files of a folder, all with the given position.
 #[tactic(auto, using(crate::proofs::FieldReads::entry_sound))]
 fn add_paths_under<'a>(
     paths: &mut Vec<PathWithPosition<'a>>,
@@ -154,8 +160,9 @@ fn add_paths_under<'a>(
     folder: Val,
     position: u32,
 ) -> Result<(), AllocError>
-    // The word has a plain value of its kind.
+    // The word `folder` has a plain value: a folder.
     requires { is_sound (payload_of adb) (Kinds.Obj Tables.Dir) folder ≡ true }
+    // On Ok, the paths are added with this position.
     ensures { IfOk result (λ _. map joined_name_with_position paths.new.items
         ≡ map joined_name_with_position paths.old.items
         ++ names_all_at_position position
@@ -170,7 +177,7 @@ fn add_paths_under<'a>(
     Ok(())
 }
 
-/// Adds the paths of a package, all at one position.
+/// Adds the paths of all files of a package, all with the given position.
 #[tactic(auto, using(crate::proofs::FieldReads::entry_sound))]
 fn add_paths<'a>(
     paths: &mut Vec<PathWithPosition<'a>>,
@@ -178,8 +185,9 @@ fn add_paths<'a>(
     pkg: Val,
     position: u32,
 ) -> Result<(), AllocError>
-    // The word has a plain value of its kind.
+    // The word `pkg` has a plain value: a package.
     requires { is_sound (payload_of adb) (Kinds.Obj Tables.Package) pkg ≡ true }
+    // On Ok, the paths are added with this position.
     ensures { IfOk result (λ _. map joined_name_with_position paths.new.items
         ≡ map joined_name_with_position paths.old.items
         ++ names_all_at_position position
@@ -192,16 +200,17 @@ fn add_paths<'a>(
     Ok(())
 }
 
-/// The paths of packages, each at the position of its package.
+/// The paths of all files of packages, each with the position of its package.
 #[tactic(auto, using(crate::proofs::FieldReads::entry_sound))]
 pub(crate) fn all_paths<'a>(
     alloc: Global,
     adb: Adb<'a>,
     packages: Arr<'a>,
 ) -> Result<Vec<PathWithPosition<'a>>, AllocError>
-    // Each word has a plain value of its kind.
+    // The words in `packages` have plain values: packages.
     requires { are_all_sound (payload_of adb) (Kinds.Obj Tables.Package) (array_entries packages)
         ≡ true }
+    // On Ok, these are the paths, each with the position of its package.
     ensures { IfOk result (λ paths. map joined_name_with_position paths.items
         ≡ names_with_list_positions 1
         (map paths_of_package_files (plains_at (payload_of adb.entry) (Kinds.Obj Tables.Package)

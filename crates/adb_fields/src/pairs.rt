@@ -1,6 +1,6 @@
-//! Which two positions of the repeated names in a list are reported. The rule is in
-//! `docs/formats.md`, "Names that stand twice", below the table ("the pair with the smallest second
-//! position").
+//! If names repeat in a list, which two positions are reported. `repeated` uses this. The rule is
+//! in `docs/formats.md`, "Names that stand twice", below the table ("the pair with the smallest
+//! second position").
 
 ghost use Rattle.std.specs.Prelude.{◌≡◌, ◌<◌, ◌^◌, ◌+◌, ◌≤◌, length, map, take, drop, slice_get, IfSome, ℕ, List};
 ghost use Rattle.std.specs.Cmp.Lexicographic.{slice_cmp};
@@ -15,7 +15,7 @@ ghost use Rattle.adb_fields.specs.FirstPair.{IsRepeatedPairInOneList};
 use crate::file_path::FilePath;
 use std::cmp::Ordering;
 
-/// Two positions of one name. They count from 1.
+/// Two positions at which a list has the same name. Positions count from 1.
 #[derive(Clone, Copy)]
 pub(crate) struct Pair {
     /// The smaller position.
@@ -24,18 +24,18 @@ pub(crate) struct Pair {
     pub second: u32,
 }
 
-/// A name and its position, which counts from 1. With a folder, the name is a path.
+/// A name, or the path of a file, with its position.
 #[derive(Clone, Copy)]
 pub(crate) struct PathWithPosition<'a> {
-    /// The name, in the root folder, or the path.
+    /// The path of a file; of a name, the folder is empty.
     pub path: FilePath<'a>,
-    /// Its position, counted from 1.
+    /// The position of the name, counted from 1. Of a path it is the position of its package.
     pub position: u32,
 }
 
 impl Pair {
-    /// Whether this pair is reported rather than another: its second position is smaller, or equal
-    /// and its first position is smaller.
+    /// Whether this pair is reported rather than the pair `other`: its second position is smaller;
+    /// or the second positions are equal, and its first position is smaller.
     fn is_lesser_pair(&self, other: &Pair) -> bool
         ensures { result ≡ is_lesser_pair self.now other.now }
     {
@@ -46,7 +46,7 @@ impl Pair {
     }
 }
 
-/// Of two pairs the one that is reported; None if neither exists.
+/// Of two pairs the one that is reported; None if there is neither.
 pub(crate) fn lesser_pair(one: Option<Pair>, other: Option<Pair>) -> Option<Pair>
     ensures { result ≡ lesser_pair one other }
 {
@@ -61,8 +61,9 @@ pub(crate) fn lesser_pair(one: Option<Pair>, other: Option<Pair>) -> Option<Pair
     }
 }
 
-/// The first pair of positions of one name: the pair with the smallest second position, and among
-/// those the one with the smallest first position. It leaves the names sorted.
+/// Of all pairs of positions at which `entries` have the same name, the one that is reported: the
+/// one with the smallest second position, and of those the one with the smallest first position.
+/// None if no name repeats. Afterwards the entries are sorted by name.
 pub(crate) fn least_pair_of_equal_names(entries: &mut [PathWithPosition<'_>]) -> Option<Pair>
     ensures { result ≡ least_pair_of_equal_names (map joined_name_with_position entries.old) }
 {
@@ -70,7 +71,8 @@ pub(crate) fn least_pair_of_equal_names(entries: &mut [PathWithPosition<'_>]) ->
     first_of_neighbours(entries)
 }
 
-/// The first pair that a name and the next one make; of sorted names it is the first of all.
+/// Of the pairs of positions that each entry and the next one have, if their names are equal, the
+/// one that is reported. If the entries are sorted, it is the one of all pairs.
 fn first_of_neighbours(entries: &[PathWithPosition<'_>]) -> Option<Pair>
     ensures { result ≡ least_pair (neighbours (map joined_name_with_position entries.now)) }
 {
@@ -81,9 +83,10 @@ fn first_of_neighbours(entries: &[PathWithPosition<'_>]) -> Option<Pair>
     first
 }
 
-/// The pair that an entry and a later one are, if they have one name.
+/// The positions of two entries, if their names are equal and the position of `one` is smaller.
 #[tactic(auto, using(crate::proofs::Compared::same_names))]
 fn pair_if_same_name(one: &PathWithPosition<'_>, other: &PathWithPosition<'_>) -> Option<Pair>
+    // The pair, or None, is that of the definition.
     ensures { result ≡ pair_if_same_name (joined_name_with_position one.now)
         (joined_name_with_position other.now) }
 {
@@ -101,6 +104,7 @@ fn pair_if_same_name(one: &PathWithPosition<'_>, other: &PathWithPosition<'_>) -
 
 /// The order in which names are sorted: by name, and equal names by position.
 fn compared(one: &PathWithPosition<'_>, other: &PathWithPosition<'_>) -> Ordering
+    // The order is that of the definition.
     ensures { result ≡ name_with_position_cmp (joined_name_with_position one.now)
         (joined_name_with_position other.now) }
 {
@@ -108,21 +112,25 @@ fn compared(one: &PathWithPosition<'_>, other: &PathWithPosition<'_>) -> Orderin
     names.then(one.position.cmp(&other.position))
 }
 
-/// A law: of the repeated names of one list the first pair is reported.
+/// A law: if names repeat in a list, the first pair of positions with the same name is reported:
+/// the one with the smallest second position, and of those the one with the smallest first
+/// position.
 pub fn the_first_pair_of_a_list_is_reported()
     ensures { (names : List (List ℕ))
         → IsLeastPairIfAny (IsPairOfEqualNames (numbered_from 1 names))
         (least_pair_of_repeated_name names) }
 {}
 
-/// A law: of the names of several lists, each for itself, the first pair is reported.
+/// A law: if names repeat within one of several lists, the first pair of positions in one list with
+/// the same name is reported. A name that two lists have does not count.
 pub fn the_first_pair_in_one_of_several_lists_is_reported()
     ensures { (lists : List (List (List ℕ)))
         → IsLeastPairIfAny (IsRepeatedPairInOneList lists) (repeated_pair_in_one_list lists) }
 {}
 
-/// A law: of the names that two of several lists have, the first pair of the lists' positions is
-/// reported.
+/// A law: if several lists share names, the positions of two lists that share one are reported: of
+/// all such pairs of lists, the one with the smallest second position, and then the smallest first
+/// one. A name that one list has twice does not count.
 pub fn the_first_pair_of_two_lists_is_reported()
     ensures { (lists : List (List (List ℕ)))
         → IsLeastPairIfAny (IsPairOfEqualNames (names_with_list_positions 1 lists))

@@ -1,5 +1,6 @@
-//! Repeated names in a walked container. The rule is in `docs/formats.md`, "Names that stand
-//! twice".
+//! The search for repeated names in a container, after the shape of its payload was tested.
+//! `adb_schema` calls `repeated_names` when it reads a package, a database or a journal entry. The
+//! rule is in `docs/formats.md`, "Names that stand twice".
 
 ghost use Rattle.std.specs.Prelude.{◌↔◌, None, ◌≡◌, ◌+◌, ◌<◌, ◌^◌, [], ◌∷◌, true, Some, map, IfOk};
 ghost use Rattle.std.specs.Option.{option_or};
@@ -29,24 +30,25 @@ use adb_view::{Adb, Arr, Shaped, Val, Which, entry_word, values_of_few_visits_ha
 use base_core::Cause;
 use std::alloc::{AllocError, Global};
 
-/// The numbers of the fields whose texts must not repeat: 100 times the number of the table, plus
-/// that of the field in it, which counts from 1.
+/// The numbers by which causes name the fields whose texts must not repeat. Each is 100 times the
+/// number of the table, plus the number of the field in this table, counted from 1.
 mod field_numbers {
-    // Field 1 of table 4, also for a path that is in two packages.
+    // The name of a file (field 1 of table 4), also for a path that is in two packages.
     pub(super) const FILE_NAME: u16 = 401;
 
-    // Field 1 of table 5.
+    // The name of a folder (field 1 of table 5).
     pub(super) const DIR_NAME: u16 = 501;
 
-    // Field 1 of table 9: the packages, by their names.
+    // The packages of a database, by their names (field 1 of table 9).
     pub(super) const IDB_PACKAGES: u16 = 901;
 
-    // Field 2 of table 10, for the removals too.
+    // The writes of a journal entry (field 2 of table 10), and its removals too.
     pub(super) const INTENT_WRITES: u16 = 1002;
 }
 
-/// Searches a walked container for a repeated name. It returns the cause `Repeated`, or None if and
-/// only if no name repeats. The kinds are searched in this order:
+/// Searches a container, whose shape was tested, for a repeated name. It returns the cause
+/// `Repeated`, or None if and only if no name repeats. The kinds of names are searched in this
+/// order:
 ///
 /// - in a package and in a database, a folder that a package lists twice, over all packages;
 /// - then a file that a folder lists twice;
@@ -54,10 +56,12 @@ mod field_numbers {
 /// - then a path in two packages, at the positions of the packages;
 /// - in a journal entry a name that occurs twice in its removals followed by its writes.
 ///
-/// The first kind with a repeated name is reported, by the pair with the smallest second position,
-/// and among those the one with the smallest first position.
+/// The first kind with a repeated name is reported, by the two positions of the name. Of all such
+/// pairs of positions, the one with the smallest second position is reported, and of those the one
+/// with the smallest first position.
 #[tactic(auto, unfolding(crate::specs::Repeated::repeated_fault))]
 pub fn repeated_names(alloc: Global, shaped: &Shaped<'_>) -> Result<Option<Cause>, AllocError>
+    // On Ok, the cause, or None, is that of the definition.
     ensures { IfOk result (λ cause. cause
         ≡ repeated_fault (table_of shaped.now) (shaped_value shaped.now)) }
 {
@@ -76,7 +80,8 @@ pub fn repeated_names(alloc: Global, shaped: &Shaped<'_>) -> Result<Option<Cause
     }
 }
 
-/// The cause for a pair, with the number of the field whose texts must not repeat.
+/// The cause that reports a pair of positions, if there is one. `number` is the number in causes of
+/// the field whose texts must not repeat.
 fn repeated_cause(number: u16, pair: Option<Pair>) -> Option<Cause>
     ensures { result ≡ repeated_cause number pair }
 {
@@ -90,10 +95,12 @@ fn repeated_cause(number: u16, pair: Option<Pair>) -> Option<Cause>
     }
 }
 
-/// The cause for repeated names in a package.
+/// The cause if a package has a repeated name: the first repeated folder, else the first repeated
+/// file in a folder.
 fn in_package(alloc: Global, adb: Adb<'_>, pkg: Val) -> Result<Option<Cause>, AllocError>
-    // The word has a plain value of its kind.
+    // The word `pkg` has a plain value: a package.
     requires { is_sound (payload_of adb) (Kinds.Obj Tables.Package) pkg ≡ true }
+    // On Ok, the cause, or None, is that of the definition.
     ensures { IfOk result (λ cause. cause
         ≡ repeated_within_package_fault (value_at (payload_of adb.entry)
         (Kinds.Obj Tables.Package) pkg ∷ [])) }
@@ -112,11 +119,12 @@ fn in_package(alloc: Global, adb: Adb<'_>, pkg: Val) -> Result<Option<Cause>, Al
     }
 }
 
-/// The cause for repeated names in one of a database's packages, or in two of them.
+/// The cause if a database has a repeated name: in one of its packages, else in two of them.
 fn in_database(alloc: Global, adb: Adb<'_>, packages: Arr<'_>) -> Result<Option<Cause>, AllocError>
-    // Each word has a plain value of its kind.
+    // The words in `packages` have plain values: packages.
     requires { are_all_sound (payload_of adb) (Kinds.Obj Tables.Package) (array_entries packages)
         ≡ true }
+    // On Ok, the cause, or None, is that of the definition.
     ensures { IfOk result (λ cause. cause
         ≡ option_or
         (repeated_within_package_fault (plains_at (payload_of adb.entry) (Kinds.Obj Tables.Package)
@@ -131,15 +139,17 @@ fn in_database(alloc: Global, adb: Adb<'_>, packages: Arr<'_>) -> Result<Option<
     }
 }
 
-/// The cause for repeated names within one of the packages.
+/// The cause if one of the packages has a repeated name: the first repeated folder, else the first
+/// repeated file in a folder.
 fn inside_packages(
     alloc: Global,
     adb: Adb<'_>,
     packages: Arr<'_>,
 ) -> Result<Option<Cause>, AllocError>
-    // Each word has a plain value of its kind.
+    // The words in `packages` have plain values: packages.
     requires { are_all_sound (payload_of adb) (Kinds.Obj Tables.Package) (array_entries packages)
         ≡ true }
+    // On Ok, the cause, or None, is that of the definition.
     ensures { IfOk result (λ cause. cause
         ≡ repeated_within_package_fault (plains_at (payload_of adb.entry) (Kinds.Obj Tables.Package)
         (array_entries packages.entry))) }
@@ -156,15 +166,16 @@ fn inside_packages(
     }
 }
 
-/// The cause for two packages of one name, or for one path in two packages.
+/// The cause if two packages have the same name, or else if two list the same path.
 fn between_packages(
     alloc: Global,
     adb: Adb<'_>,
     packages: Arr<'_>,
 ) -> Result<Option<Cause>, AllocError>
-    // Each word has a plain value of its kind.
+    // The words in `packages` have plain values: packages.
     requires { are_all_sound (payload_of adb) (Kinds.Obj Tables.Package) (array_entries packages)
         ≡ true }
+    // On Ok, the cause, or None, is that of the definition.
     ensures { IfOk result (λ cause. cause
         ≡ repeated_between_packages_fault (plains_at (payload_of adb.entry)
         (Kinds.Obj Tables.Package)
@@ -186,10 +197,10 @@ fn between_packages(
     }
 }
 
-/// The cause for repeated names in a journal entry: its removals followed by its writes, of which
-/// the tests of the shape allow fewer than 2^32.
+/// The cause if a journal entry has a name twice in its removals followed by its writes. The tests
+/// of the shape ensure that these are fewer than 2^32.
 fn in_intent(alloc: Global, adb: Adb<'_>, intent: Val) -> Result<Option<Cause>, AllocError>
-    // The word has a plain value of its kind.
+    // The word `intent` has a plain value: an intent (journal entry).
     requires sound { is_sound (payload_of adb) (Kinds.Obj Tables.Intent) intent ≡ true }
     // The intent has fewer than 2^32 removals and writes together.
     requires few { count_of (entries_in
@@ -197,6 +208,7 @@ fn in_intent(alloc: Global, adb: Adb<'_>, intent: Val) -> Result<Option<Cause>, 
         count_of (entries_in
         (entry_in (value_at (payload_of adb) (Kinds.Obj Tables.Intent) intent) INTENT_WRITES))
         < 2 ^ 32 }
+    // On Ok, the cause, or None, is that of the definition.
     ensures { IfOk result (λ cause. cause
         ≡ repeated_cause (field_number Tables.Intent INTENT_WRITES)
         (repeated_intent_name (value_at (payload_of adb.entry) (Kinds.Obj Tables.Intent) intent))) }
@@ -212,28 +224,30 @@ fn in_intent(alloc: Global, adb: Adb<'_>, intent: Val) -> Result<Option<Cause>, 
     ))
 }
 
-/// The pair of positions at which a package lists one folder twice.
+/// The first pair of positions at which the package lists the same folder twice; None if there is
+/// none. `lists` has the results of the lists that were searched before.
 fn folder_twice_in_package(
     alloc: Global,
     adb: Adb<'_>,
     lists: &mut KnownLists<'_>,
     pkg: Val,
 ) -> Result<Option<Pair>, AllocError>
-    // The word has a plain value of its kind.
+    // The word `pkg` has a plain value: a package.
     requires sound { is_sound (payload_of adb) (Kinds.Obj Tables.Package) pkg ≡ true }
-    // The remembered lists are those of objects of this table in this payload.
+    // `lists` remembers lists of objects of this table, in this payload.
     requires lists { AreRememberedListsOf adb Tables.Dir lists.old }
     // On Ok, the result is the first pair of positions of folders with one name, if there is one.
     ensures pair { IfOk result (λ pair. pair
         ≡ least_pair_of_repeated_name (map name_of (folders_in
         (value_at (payload_of adb.entry) (Kinds.Obj Tables.Package) pkg)))) }
-    // The remembered lists are still those of objects of this table in this payload.
+    // `lists` still remembers lists of objects of this table, in this payload.
     ensures lists { AreRememberedListsOf adb.entry Tables.Dir lists.new }
 {
     lists.least_pair_of_repeated_name(alloc, field_word(adb, Which::Package, pkg, PACKAGE_PATHS))
 }
 
-/// The first pair of positions at which one of a package's folders lists one file twice.
+/// The first pair of positions at which a folder of the package lists the same file twice; None if
+/// there is none.
 #[tactic(auto, using(crate::proofs::FieldReads::entry_sound))]
 fn file_twice_in_package(
     alloc: Global,
@@ -241,58 +255,62 @@ fn file_twice_in_package(
     lists: &mut KnownLists<'_>,
     pkg: Val,
 ) -> Result<Option<Pair>, AllocError>
-    // The word has a plain value of its kind.
+    // The word `pkg` has a plain value: a package.
     requires sound { is_sound (payload_of adb) (Kinds.Obj Tables.Package) pkg ≡ true }
-    // The remembered lists are those of objects of this table in this payload.
+    // `lists` remembers lists of objects of this table, in this payload.
     requires lists { AreRememberedListsOf adb Tables.File lists.old }
     // On Ok, the result is the first pair of positions of files with one name in one folder, if
     // there is one.
     ensures pair { IfOk result (λ pair. pair
         ≡ repeated_pair_in_one_list (map (λ folder. map name_of (files_in folder))
         (folders_in (value_at (payload_of adb.entry) (Kinds.Obj Tables.Package) pkg)))) }
-    // The remembered lists are still those of objects of this table in this payload.
+    // `lists` still remembers lists of objects of this table, in this payload.
     ensures lists { AreRememberedListsOf adb.entry Tables.File lists.new }
 {
     let folders = objects_field(adb, Which::Package, pkg, PACKAGE_PATHS, Which::Dir);
     let mut first = None;
     for i in 0..folders.len() {
         let folder = entry_word(folders, i);
+        // `first` is the first pair of those found so far.
         first = lesser_pair(first, file_twice_in_folder(alloc, adb, lists, folder)?);
     }
     Ok(first)
 }
 
-/// The pair of positions at which a folder lists one file twice.
+/// The first pair of positions at which the folder lists the same file twice; None if there is
+/// none.
 fn file_twice_in_folder(
     alloc: Global,
     adb: Adb<'_>,
     lists: &mut KnownLists<'_>,
     folder: Val,
 ) -> Result<Option<Pair>, AllocError>
-    // The word has a plain value of its kind.
+    // The word `folder` has a plain value: a folder.
     requires sound { is_sound (payload_of adb) (Kinds.Obj Tables.Dir) folder ≡ true }
-    // The remembered lists are those of objects of this table in this payload.
+    // `lists` remembers lists of objects of this table, in this payload.
     requires lists { AreRememberedListsOf adb Tables.File lists.old }
     // On Ok, the result is the first pair of positions of files with one name, if there is one.
     ensures pair { IfOk result (λ pair. pair
         ≡ least_pair_of_repeated_name (map name_of (files_in
         (value_at (payload_of adb.entry) (Kinds.Obj Tables.Dir) folder)))) }
-    // The remembered lists are still those of objects of this table in this payload.
+    // `lists` still remembers lists of objects of this table, in this payload.
     ensures lists { AreRememberedListsOf adb.entry Tables.File lists.new }
 {
     lists.least_pair_of_repeated_name(alloc, field_word(adb, Which::Dir, folder, DIR_FILES))
 }
 
-/// The first pair of positions at which one of the packages lists one folder twice.
+/// The first pair of positions at which one of the packages lists the same folder twice; None if
+/// there is none.
 #[tactic(auto, using(crate::proofs::FieldReads::entry_sound))]
 fn repeated_folder_name_in_package(
     alloc: Global,
     adb: Adb<'_>,
     packages: Arr<'_>,
 ) -> Result<Option<Pair>, AllocError>
-    // Each word has a plain value of its kind.
+    // The words in `packages` have plain values: packages.
     requires { are_all_sound (payload_of adb) (Kinds.Obj Tables.Package) (array_entries packages)
         ≡ true }
+    // On Ok, the pair, or None, is that of the definition.
     ensures { IfOk result (λ pair. pair
         ≡ repeated_folder_name_in_package (plains_at (payload_of adb.entry)
         (Kinds.Obj Tables.Package)
@@ -302,21 +320,24 @@ fn repeated_folder_name_in_package(
     let mut first = None;
     for i in 0..packages.len() {
         let pkg = entry_word(packages, i);
+        // `first` is the first pair of those found so far.
         first = lesser_pair(first, folder_twice_in_package(alloc, adb, &mut lists, pkg)?);
     }
     Ok(first)
 }
 
-/// The first pair of positions at which a folder of one of the packages lists one file twice.
+/// The first pair of positions at which a folder of one of the packages lists the same file twice;
+/// None if there is none.
 #[tactic(auto, using(crate::proofs::FieldReads::entry_sound))]
 fn repeated_file_name_in_folder(
     alloc: Global,
     adb: Adb<'_>,
     packages: Arr<'_>,
 ) -> Result<Option<Pair>, AllocError>
-    // Each word has a plain value of its kind.
+    // The words in `packages` have plain values: packages.
     requires { are_all_sound (payload_of adb) (Kinds.Obj Tables.Package) (array_entries packages)
         ≡ true }
+    // On Ok, the pair, or None, is that of the definition.
     ensures { IfOk result (λ pair. pair
         ≡ repeated_file_name_in_folder (plains_at (payload_of adb.entry) (Kinds.Obj Tables.Package)
         (array_entries packages.entry))) }
@@ -325,12 +346,14 @@ fn repeated_file_name_in_folder(
     let mut first = None;
     for i in 0..packages.len() {
         let pkg = entry_word(packages, i);
+        // `first` is the first pair of those found so far.
         first = lesser_pair(first, file_twice_in_package(alloc, adb, &mut lists, pkg)?);
     }
     Ok(first)
 }
 
-/// A law: no repeated name is reported if and only if each name occurs once.
+/// A law: no repeated name of a container is reported if and only if no name occurs twice that must
+/// not (*HasNoRepeatedName*).
 pub fn no_repeated_name_is_reported_if_there_is_none()
     ensures { (which : Which) (value : Plain) → (repeated_fault which value ≡ None)
         ↔ HasNoRepeatedName which value }

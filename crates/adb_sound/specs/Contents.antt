@@ -1,4 +1,4 @@
--- The number of bytes of the contents of files. Serves the law `contents_are_in_their_container`;
+-- The number of bytes of the contents of all files of a package. Serves the law `contents_are_in_their_container`;
 -- contents are defined in `docs/formats.md`, "The other blocks".
 use Rattle.std.specs.Prelude.{ℕ, ◌+◌, List, [], ◌∷◌, length}
 use Rattle.pkg_core.specs.Contents.{Contents}

@@ -11,18 +11,17 @@ use Rattle.adb_view.specs.declared.tables.Kind.TheVariants.{Obj}
 use Rattle.adb_write.specs.Size.{payload_size_of, value_count}
 use Rattle.adb_write.specs.Canonical.{MOST_BYTES, MOST_VALUES}
 
--- a value that may be at the root of a container with this table: it has the table's shape and is
--- within the limits, each text and number obeys the rule of its field, and no name repeats
+-- the value v may be at the root of a container with the table `which`: it passes all tests of values
 pub record IsValidRootValueOfTable (which : Which) (v : Plain) : Type 0 where
-  -- integers below 2^64, no empty blob or list, no Null at an object's end
+  -- the integers in v are below 2^64, no blob or list in v is empty, and no object in v ends in Null
   pub normal : IsNormal v
-  -- it has the shape of the table
+  -- v has the shape of the table
   pub shaped : HasShape (shape_of (Obj which)) v
-  -- its payload is within the limit of bytes
+  -- the canonical payload of v is within the limit of bytes
   pub fits : payload_size_of v ≤ MOST_BYTES
-  -- its values are within their limit
+  -- the number of values in v, the root included, is within the limit of values
   pub few : value_count v ≤ MOST_VALUES
-  -- each text and number obeys its rule
+  -- each text and number in v obeys the rule of its field
   pub texts : text_or_number_fault which v ≡ None
-  -- no name repeats
+  -- no name that must not repeat occurs twice in v
   pub once : repeated_fault which v ≡ None

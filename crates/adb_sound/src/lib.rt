@@ -1,8 +1,8 @@
 //! What a container may contain so that no test of it fails (apk-v3(5)): laws for all makers of
 //! containers.
 //!
-//! They cite `Root` (a value that may be at the root of a container) and `Container` (a container
-//! made from a value and from contents) of `specs/`.
+//! The laws cite `Root` (a value that may be at the root of a container) and `Container` (a
+//! container made from a value and from contents of files) of `specs/`.
 //!
 //! The rules are in `docs/formats.md`, "Tests of a container", and for contents in "The other
 //! blocks"; how a container is written, in "Canonical layout". The body of a law calls the laws
@@ -30,13 +30,14 @@ use adb_block::{what_is_spelled_is_read, what_is_written_is_spelled};
 use adb_view::values_of_few_visits_have_no_fault;
 use adb_write::{a_canonical_payload_is_read_back, a_canonical_payload_is_visited_once};
 
-/// A law: the container of a value that may be at its root is sound, if it needs no contents: an
-/// index, a database or a journal entry.
+/// A law: a container of an index, a database or a journal entry is sound (passes all tests), if
+/// its value may be at the root. Such a container has no contents of files.
 pub fn a_container_of_a_good_value_is_sound()
     ensures { (which : Which) (schema : ℕ) (v : Plain)
         → schema_word which ≡ Some schema → which ≢ Tables.Package → IsValidRootValueOfTable which v
         → container_fault (file_of schema (canonical v)) ≡ None }
 {
+    // The laws that the proof needs; they have no effect at run time.
     what_is_written_is_spelled();
     what_is_spelled_is_read();
     a_canonical_payload_is_read_back();
@@ -44,8 +45,9 @@ pub fn a_container_of_a_good_value_is_sound()
     values_of_few_visits_have_no_fault();
 }
 
-/// A law: a package of a value that may be at its root, with the contents of each of its files in
-/// order and no others, is sound if it has fewer than 2^64 bytes.
+/// A law: a package is sound (passes all tests) if three conditions hold. Its value may be at the
+/// root. It has exactly the contents of the files that the value lists, in order. It has fewer than
+/// 2^64 bytes.
 pub fn a_package_of_a_good_value_and_its_contents_is_sound()
     ensures { (v : Plain) (contents : List Contents)
         → IsValidRootValueOfTable Tables.Package v
@@ -53,6 +55,7 @@ pub fn a_package_of_a_good_value_and_its_contents_is_sound()
         → length (container_of_value_and_contents PACKAGE_WORD v contents) < 2 ^ 64
         → container_fault (container_of_value_and_contents PACKAGE_WORD v contents) ≡ None }
 {
+    // The laws that the proof needs; they have no effect at run time.
     what_is_written_is_spelled();
     what_is_spelled_is_read();
     a_canonical_payload_is_read_back();
@@ -60,22 +63,26 @@ pub fn a_package_of_a_good_value_and_its_contents_is_sound()
     values_of_few_visits_have_no_fault();
 }
 
-/// A law: the contents of files are complete in their blocks, and these in the container. So
-/// contents are no longer than the container.
+/// A law: the contents of files have together at most as many bytes as their blocks, and so fewer
+/// than 2^64 if the container has fewer.
 pub fn contents_are_in_their_container()
+    // The contents have at most as many bytes as their blocks.
     ensures blocks { (contents : List Contents)
         → contents_size contents ≤ length (flat_map block_bytes (map contents_piece contents)) }
+    // In a container of fewer than 2^64 bytes, the contents have fewer than 2^64 bytes.
     ensures container { (schema : ℕ) (v : Plain) (contents : List Contents)
         → length (container_of_value_and_contents schema v contents) < 2 ^ 64
         → contents_size contents < 2 ^ 64 }
 {}
 
-/// A law: a container is read back as what it was made from: its value, and for a package the
+/// A law: what a container was made from is read back: its value, and for a package also the
 /// contents of its files in order.
 pub fn what_a_container_is_made_of_is_read_back()
+    // The value of a container without contents is read back.
     ensures value { (which : Which) (schema : ℕ) (v : Plain)
         → schema_word which ≡ Some schema → IsValidRootValueOfTable which v
         → root_value which (payload_in (file_of schema (canonical v))) ≡ v }
+    // The value and the contents of a package are read back.
     ensures contents { (v : Plain) (contents : List Contents)
         → IsValidRootValueOfTable Tables.Package v
         → AreContentsOf (expected_files_of_package v) contents
@@ -83,6 +90,7 @@ pub fn what_a_container_is_made_of_is_read_back()
         → package_with_contents (container_of_value_and_contents PACKAGE_WORD v contents)
         ≡ package_with_contents_from_parts v contents }
 {
+    // The laws that the proof needs; they have no effect at run time.
     what_is_written_is_spelled();
     what_is_spelled_is_read();
     a_canonical_payload_is_read_back();

@@ -1,4 +1,5 @@
--- The last values of a draft. Serves the inner contracts of `src/draft.rt`.
+-- The start of the list that was opened last in a draft, and the last word of a draft. Serves the inner contracts of
+-- `src/draft.rt`.
 use Rattle.std.specs.Prelude.{ℕ, ◌-◌, List, length, min, Option, Some, None, slice_get}
 use Rattle.adb_values.specs.Drafts.{DraftState}
 
@@ -6,8 +7,8 @@ use Rattle.adb_values.specs.Drafts.{DraftState}
 abbrev pub last_of : List ℕ → Option ℕ
 last_of xs = slice_get xs (length xs - 1)
 
--- where the list that was opened last begins among `len` words, at most at their end; at 0 if no list
--- is open
+-- how many of the `len` words of a draft precede the list that was opened last: `start`, but at most `len`; 0 if no
+-- list is open (None)
 abbrev pub open_list_start_within : Option ℕ → ℕ → ℕ
 open_list_start_within None len = 0
 open_list_start_within (Some start) len = min start len

@@ -5,8 +5,8 @@ use Rattle.adb_write.specs.Canonical.{PayloadCounts}
 use Rattle.adb_write.specs.declared.writer.WriteFault.{WriteFault}
 use Rattle.adb_write.specs.declared.writer.WriteFault.TheVariants.{TooLarge, Memory}
 
--- a writer of values ends as the definition says: with the payload, or with the counts at which it
--- overflows; running out of memory is always allowed
+-- a function that writes a value ends as the definition says (`wanted`): with the payload, of which `view` is the list
+-- of bytes, or with the counts at which the value overflows. Running out of memory is always allowed
 abbrev pub IsWrittenAs :
     {A : Type 0} → (A → List ℕ) → Result A WriteFault → Result (List ℕ) PayloadCounts → Type 0
 IsWrittenAs view (Ok x) wanted = wanted ≡ Ok (view x)

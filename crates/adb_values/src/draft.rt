@@ -1,7 +1,7 @@
-//! A payload under construction. The layout is in `docs/formats.md`, "Canonical layout" ("Values
-//! are written depth first"); the limits below "A payload has at most". How calls chain is
-//! described in the README of this crate. In the clauses `ok` says what the draft contains after a
-//! call, and `err` that a call that fails leaves it unchanged.
+//! A payload under construction (a builder), to which values are added one after another. Makers of
+//! packages, indexes, databases and journal entries use it. The layout is in `docs/formats.md`,
+//! "Canonical layout" ("Values are written depth first"); the limits below "A payload has at most".
+//! In which order calls are made is described in the README of this crate.
 
 ghost use Rattle.std.specs.Prelude.{◌≡◌, ℕ, ◌<◌, ◌≤◌, List, ◌∷◌, ◌++◌, [], length, take, true, false, IfOk, OnErr, OnOk, vec_capacity, vec_len};
 ghost use Rattle.adb_view.specs.Plain.{Plain, Plains, array_or_null, blob_or_null, int, null, trimmed_object_or_null};
@@ -17,15 +17,15 @@ use adb_write::{WriteFault, Writer};
 use std::alloc::{AllocError, Global};
 use std::marker::Model;
 
-/// Plain values under construction: those that were added, and lists of them that are still open. A
-/// call that runs out of memory leaves the draft unchanged.
+/// A draft: the plain values that were added, and the lists that are open, which means that more
+/// entries may be added to them. A call that runs out of memory leaves the draft unchanged.
 #[derive(Drop)]
 pub struct Draft {
     /// The writer of the values.
     writer: Writer,
     /// The words of the values that are in no closed list.
     words: Vec<Val>,
-    /// How many of them precede each open list.
+    /// For each open list, in the order of opening, how many of `words` were added before it.
     starts: Vec<usize>,
 }
 
@@ -35,8 +35,10 @@ impl Model for Draft {
 
     ghost Value = { DraftState };
 
+    // In contracts a draft is the state of its writer, the words, and the starts of open lists.
     ghost view = { λ d. draft_from_parts d.writer d.words.items d.starts.items };
 
+    // The payload contains all of each written item, unless a limit was passed.
     ghost invariant = { λ d. HasAllItemsUnlessPastLimit d.writer };
 }
 
@@ -70,7 +72,9 @@ impl Draft {
 
     /// Adds a Null.
     pub fn null(&mut self) -> Result<(), AllocError>
+        // On Ok, the draft has one more value, Null.
         ensures ok { OnOk result (self.new ≡ draft_with null self.old) }
+        // After an error, nothing has changed.
         ensures err { OnErr result (self.new ≡ self.old) }
     {
         self.words.push(Val::of(0))?;
@@ -79,7 +83,9 @@ impl Draft {
 
     /// Adds an integer.
     pub fn int(&mut self, n: u64) -> Result<(), AllocError>
+        // On Ok, the draft has one more value, the integer.
         ensures ok { OnOk result (self.new ≡ draft_with (int n) self.old) }
+        // After an error, nothing has changed.
         ensures err { OnErr result (self.new ≡ self.old) }
     {
         self.words.reserve(1)?;
@@ -90,17 +96,23 @@ impl Draft {
 
     /// Adds a blob; an empty one is Null.
     pub fn blob(&mut self, bytes: &[u8]) -> Result<(), AllocError>
+        // On Ok, the draft has one more value, the blob.
         ensures ok { OnOk result (self.new ≡ draft_with (blob_or_null bytes.now) self.old) }
+        // After an error, nothing has changed.
         ensures err { OnErr result (self.new ≡ self.old) }
     {
         self.blob_word(bytes)?;
         Ok(())
     }
 
-    /// Adds a blob, as `blob` does, and returns its word, by which it can be added again.
+    /// Adds a blob, as `blob` does, and returns the blob's word, by which `blob_again` adds it
+    /// again.
     pub fn blob_word(&mut self, bytes: &[u8]) -> Result<Val, AllocError>
+        // On Ok, the draft has one more value, the blob.
         ensures ok { OnOk result (self.new ≡ draft_with (blob_or_null bytes.now) self.old) }
+        // After an error, nothing has changed.
         ensures err { OnErr result (self.new ≡ self.old) }
+        // On Ok, the returned word is that of the blob in the draft.
         ensures word { IfOk result (λ word. HasBlob self.new bytes.now word) }
     {
         self.words.reserve(1)?;
@@ -109,10 +121,12 @@ impl Draft {
         Ok(word)
     }
 
-    /// Adds a blob again by its word, without reading its bytes.
+    /// Adds the blob that has the word `word` in this draft once more, without reading its bytes.
     pub fn blob_again(&mut self, word: Val) -> Result<(), AllocError>
+        // On Ok, if the word is that of a blob, the draft has this blob as one more value.
         ensures ok { OnOk result ((bytes : List ℕ) → HasBlob self.old bytes word
             → self.new ≡ draft_with (blob_or_null bytes) self.old) }
+        // After an error, nothing has changed.
         ensures err { OnErr result (self.new ≡ self.old) }
     {
         let word = word_unless_over(&self.writer, word);
@@ -122,22 +136,27 @@ impl Draft {
 
     /// Opens a list, to which the following values are added until it is closed.
     pub fn open_list(&mut self) -> Result<(), AllocError>
+        // On Ok, the draft has one more open list.
         ensures ok { OnOk result (self.new ≡ draft_with_open_list self.old) }
+        // After an error, nothing has changed.
         ensures err { OnErr result (self.new ≡ self.old) }
     {
         self.starts.push(self.words.len())?;
         Ok(())
     }
 
-    /// Closes the list that was opened last: an array of the values that came since. An empty one
-    /// is Null.
+    /// Closes the list that was opened last: it becomes an array of the values that were added
+    /// since. An empty array is Null.
     pub fn close_array(&mut self) -> Result<(), AllocError>
+        // On Ok, the list of all values `vs` since it was opened is one value of the draft.
         ensures ok { OnOk result ((vs : Plains) (before : DraftState)
             → self.old ≡ draft_with_all vs (draft_with_open_list before)
             → self.new ≡ draft_with (array_or_null vs) before) }
+        // After an error, nothing has changed.
         ensures err { OnErr result (self.new ≡ self.old) }
     {
         self.words.reserve(1)?;
+        // The words from `start` on are those of the list's values.
         let start = self.last_open_list_start();
         let word = self.writer.arr(&self.words[start..])?;
         replace_from(&mut self.words, start, word);
@@ -145,16 +164,19 @@ impl Draft {
         Ok(())
     }
 
-    /// Closes the list that was opened last: an object of the values that were added since, one for
-    /// each field from the first on. Nulls at the end are dropped, and an object without a value is
-    /// Null.
+    /// Closes the list that was opened last: it becomes an object of the values that were added
+    /// since, one for each field from the first on. Nulls at the end are dropped, and an object
+    /// without a value is Null.
     pub fn close_object(&mut self) -> Result<(), AllocError>
+        // On Ok, the list of all values `vs` since it was opened is one value of the draft.
         ensures ok { OnOk result ((vs : Plains) (before : DraftState)
             → self.old ≡ draft_with_all vs (draft_with_open_list before)
             → self.new ≡ draft_with (trimmed_object_or_null vs) before) }
+        // After an error, nothing has changed.
         ensures err { OnErr result (self.new ≡ self.old) }
     {
         self.words.reserve(1)?;
+        // The words from `start` on are those of the list's values.
         let start = self.last_open_list_start();
         let word = self.writer.obj(&self.words[start..])?;
         replace_from(&mut self.words, start, word);
@@ -164,7 +186,9 @@ impl Draft {
 
     /// How many words precede the list that was opened last; 0 if no list is open.
     fn last_open_list_start(&self) -> usize
+        // The number is that of the definition.
         ensures is { result ≡ last_open_list_start self.now }
+        // The result is at most the number of words.
         ensures within { result ≤ length self.now.words }
     {
         let len = self.words.len();
@@ -174,11 +198,13 @@ impl Draft {
         }
     }
 
-    /// The payload whose root is the only value of the draft, or the counts just after the first
-    /// value that passes a limit.
+    /// Ends the draft. The result is the payload whose root is the only value of the draft, or the
+    /// counts just after the first value that exceeded a limit.
     pub fn finish(self) -> Result<Vec<u8>, WriteFault>
+        // If `v` is the only value of the draft, the result is its payload, or the overflow.
         ensures written { (v : Plain) → self ≡ draft_with v empty_draft
             → IsWrittenAs (λ payload. payload.items) result (payload_or_overflow v) }
+        // If `v` is the only value of the draft, the payload is within the limit of bytes.
         ensures short { (v : Plain) → self ≡ draft_with v empty_draft
             → IfOk result (λ payload. length payload.items ≤ MOST_BYTES) }
     {
@@ -188,9 +214,11 @@ impl Draft {
     }
 }
 
-/// This word, or NULL if the writer passed a limit, as its calls return then.
+/// The word `word`, or NULL if the writer passed a limit, as the calls of a writer return it.
 fn word_unless_over(writer: &Writer, word: Val) -> Val
+    // Below the limits the word is returned.
     ensures within { is_past_limit writer.now ≡ false → result ≡ word }
+    // After a limit was passed, NULL is returned.
     ensures over { is_past_limit writer.now ≡ true → result ≡ 0 }
 {
     if writer.passes_limit() {
@@ -199,18 +227,21 @@ fn word_unless_over(writer: &Writer, word: Val) -> Val
     word
 }
 
-/// Replaces the words from `start` on, those of a list's values, by the word of the closed list.
+/// Replaces the words from `start` on, which are those of a list's values, by `word`, the word of
+/// the closed list.
 fn replace_from(words: &mut Vec<Val>, start: usize, word: Val)
+    // There is room for one more word.
     requires room { vec_len words.old < vec_capacity words.old }
     ensures { words.new.items ≡ take start words.old.items ++ word ∷ [] }
 {
     words.truncate(start);
+    // Room was reserved before, so the push cannot fail.
     if words.push(word).is_err() {
         unreachable!();
     }
 }
 
-/// The last of some words, that of the root, or NULL if there is none.
+/// The last of some words, which is that of the root if the draft is finished; NULL without words.
 fn last_word(words: &[Val]) -> Val
     ensures { result ≡ last_word words.now }
 {

@@ -3,6 +3,6 @@
 use Rattle.std.specs.Prelude.{ℕ, List}
 use Rattle.adb_view.specs.declared.adb.Adb.{Adb}
 
--- the bytes of the payload that was opened, its head with them
+-- the bytes of the payload that was opened, including its head
 abbrev pub payload_of : Adb → List ℕ
 payload_of adb = adb.payload.now

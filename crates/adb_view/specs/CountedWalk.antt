@@ -1,5 +1,5 @@
--- The walk that counts its visits and makes no list of them. Serves the contracts of `src/walk.rt`, as
--- `walk_fields` in the README of this crate; the rule is in `docs/formats.md`, "The shape".
+-- The walk over a payload's values that counts its visits, as the program does; *visits* lists them instead. Serves
+-- the contracts of `src/walk.rt`. The rule is in `docs/formats.md`, "The shape".
 use Rattle.std.specs.Prelude.{ℕ, ◌+◌, List, [], ◌∷◌, Option, Some, None, Result, Ok, Err}
 use Rattle.base_core.specs.Lists.{and_then}
 use Rattle.adb_view.specs.Plain.{Shape, number, text, hash, array, object, Fields, no_fields, field}
@@ -8,23 +8,23 @@ use Rattle.adb_view.specs.Visits.{or_empty}
 use Rattle.adb_view.specs.Walk.{visit_fault}
 use Rattle.base_core.specs.declared.cause.Cause.{Cause}
 
--- The result of a walk is the number of visits so far, or the first fault.
+-- The result of each walk below is the number of visits, including the `n` visits before it, or the first fault.
 
--- the value, unless there is a fault to report
+-- Ok with the value, unless there is a fault
 abbrev pub ok_unless : {A : Type 0} → A → Option Cause → Result A Cause
 ok_unless x None = Ok x
 ok_unless x (Some c) = Err c
 
--- the walk of one visit after n others: its word is tested by its shape
+-- the walk of one visit after n others: the word `w` of the payload `p` is tested by the shape `s`
 abbrev pub walk_visit : List ℕ → ℕ → Shape → ℕ → Result ℕ Cause
 walk_visit p n s w = ok_unless (n + 1) (visit_fault p (n + 1) (record { shape = s; word = w }))
 
--- the walk over some words in order after n visits, where `f` walks over each
+-- the walk over some words in order, after n visits. `f m w` is the walk over the word `w` after m visits
 abbrev pub walk_each_word : (ℕ → ℕ → Result ℕ Cause) → ℕ → List ℕ → Result ℕ Cause
 walk_each_word f n [] = Ok n
 walk_each_word f n (w ∷ ws) = and_then (f n w) (λ m. walk_each_word f m ws)
 
--- the walk of the word `w` and the words below it, after n visits
+-- the walk over the word `w` of the payload `p` and the words below it, by a shape, after n visits
 unfoldable mutual
   pub walk : List ℕ → Shape → ℕ → ℕ → Result ℕ Cause
   walk p number n w = walk_visit p n number w
@@ -35,7 +35,7 @@ unfoldable mutual
   walk p (object schema fs) n w = and_then (walk_visit p n (object schema fs) w)
       (λ m. fields_walk p fs m (or_empty (run_entries_of_word OBJECT p w)))
 
-  -- the walk of an object's entries that have one of these fields, after n visits
+  -- the walk over those of an object's entries (`ws`) that have one of these fields, after n visits
   pub fields_walk : List ℕ → Fields → ℕ → List ℕ → Result ℕ Cause
   fields_walk p no_fields n ws = Ok n
   fields_walk p (field name s fs) n [] = Ok n

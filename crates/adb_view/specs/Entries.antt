@@ -1,5 +1,5 @@
--- The words of the entries of a run, as its two views show them. The rule is in `docs/formats.md`,
--- "Values" ("The first word of a run"): entries count from 1, and one past the last is NULL.
+-- The words of the entries of an array (`Arr`) or an object (`Obj`) that the program has read. The rule is in
+-- `docs/formats.md`, "Values" ("The first word of a run"): entries count from 1, and one past the last is NULL.
 use Rattle.std.specs.Prelude.{ℕ, ◌/◌, ◌-◌, List, length, slice_index}
 use Rattle.adb_view.specs.Bytes.{words}
 use Rattle.adb_view.specs.declared.run.Arr.{Arr}
@@ -14,6 +14,6 @@ array_entries array = words (length array.bytes.now / 4) array.bytes.now
 abbrev pub object_entries : {N : ℕ} → Obj N → List ℕ
 object_entries object = array_entries object.entries
 
--- the entry at this position, which counts from 1; after the last it is 0, which is NULL
+-- the word of the entry at the position i, which counts from 1; past the last entry it is 0, which is NULL
 abbrev pub entry_at : List ℕ → ℕ → ℕ
 entry_at entries i = slice_index entries (i - 1)

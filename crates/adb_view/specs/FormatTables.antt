@@ -1,6 +1,5 @@
--- The tables as the formats list them: the number, and each field's name and kind, from number 1 on.
--- The list is in `docs/formats.md`, "Schemas"; the law `tables_are_as_listed` proves that the program
--- has the same.
+-- The tables as `docs/formats.md`, "Schemas", lists them: the number of each table, and the name and kind of each
+-- field, from field 1 on. The law `tables_are_as_listed` proves that the program has the same tables.
 use Rattle.std.specs.Prelude.{ℕ, List, [], ◌∷◌, codes, map}
 use Rattle.adb_view.specs.Schema.{table, table_number, field_name_text}
 use Rattle.adb_view.specs.declared.tables.Which.{Which}

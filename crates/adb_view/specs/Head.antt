@@ -1,5 +1,5 @@
--- The eight bytes before the values: the compatibility version, three ignored bytes, and the root's
--- word. The rule is in `docs/formats.md`, "Values" ("An ADB payload begins with eight bytes").
+-- The head of a payload, which is the eight bytes before its values: the compatibility version, three ignored bytes,
+-- and the root's word. The rule is in `docs/formats.md`, "Values" ("An ADB payload begins with eight bytes").
 use Rattle.std.specs.Prelude.{ℕ, List, length, take, drop, slice_index, Option, Some, None, nat_lt, ◌==◌, if◌then◌else◌}
 use Rattle.std.specs.Int.{w32, from_le_bytes}
 use Rattle.base_core.specs.declared.cause.Cause.{Cause}

@@ -7,8 +7,8 @@ use Rattle.adb_view.specs.declared.tables.Field.{Field}
 use Rattle.adb_view.specs.declared.tables.Kind.{Kind}
 use Rattle.adb_view.specs.declared.tables.Kind.TheVariants.{Int, Text, Hash, Obj, TextArr, ObjArr}
 
--- whether a word can be read as the kind demands and has no words below it: an integer, a text or a
--- hash, or NULL, which each kind allows
+-- whether the word `w` of the payload `p` can be read as the kind demands and has no words below it: it is an
+-- integer, a text or a hash, or it is NULL, which each kind allows
 abbrev pub is_sound_leaf : List ℕ → Kind → ℕ → Bool
 is_sound_leaf p Int w = is_some (result_ok (int_of p w))
 is_sound_leaf p Text w = is_some (result_ok (blob_of p w))
@@ -17,8 +17,7 @@ is_sound_leaf p (Obj which) w = w == 0
 is_sound_leaf p TextArr w = w == 0
 is_sound_leaf p (ObjArr which) w = w == 0
 
--- how many of an object's words, from the first on, are leaves that can be read, each as its field
--- demands
+-- how many of an object's words (`ws`), from the first on, are leaves that can be read, each as its field demands
 abbrev pub leading_leaves : List ℕ → List Field → List ℕ → ℕ
 leading_leaves p [] ws = 0
 leading_leaves p (f ∷ fs) [] = 0

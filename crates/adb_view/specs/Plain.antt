@@ -1,11 +1,11 @@
--- Plain values, the shapes by which tables of fields read them, and the plain value of a word. The
--- rules are in `docs/formats.md`, "Values" ("A table of fields gives each word a shape").
+-- Plain values, the shapes by which words are read, and the plain value of a word. All crates that read or write
+-- containers use them. The rules are in `docs/formats.md`, "Values" ("A table of fields gives each word a shape").
 use Rattle.std.specs.Prelude.{◌≡◌, ◌≢◌, ℕ, suc, ◌<◌, ◌^◌, List, [], ◌∷◌, Option, Some, None, option_map, option_and_then, Result, Ok, Err, ◌==◌, if◌then◌else◌}
 use Rattle.adb_view.specs.Readers.{int_of, blob_of, run_entries_of_word, ARRAY, OBJECT}
 use Rattle.adb_view.specs.Head.{root_word_of_payload}
 use Rattle.base_core.specs.declared.cause.Cause.{Cause}
 
--- a plain value: Null, an integer, the bytes of a blob, or the values of an array or an object
+-- a plain value: Null, an integer, a blob with its bytes, or an array or an object with its values
 mutual
   pub data Plain : Type 0 where
     null : Plain
@@ -19,8 +19,8 @@ mutual
     none : Plains
     more : Plain → Plains → Plains
 
--- the shape of a field: a number, a text, a hash, an array of a shape, or an object, which has the
--- number of its table, and a name and a shape for each field
+-- the shape that a field demands of its value: a number, a text, a hash, an array whose entries have a shape, or an
+-- object. The shape of an object has the number of its table, and a name and a shape for each field
 mutual
   pub data Shape : Type 0 where
     number : Shape
@@ -29,7 +29,7 @@ mutual
     array : Shape → Shape
     object : ℕ → Fields → Shape
 
-  -- the fields of an object: of each its name and its shape
+  -- the fields of an object: the name and the shape of each, in order
   pub data Fields : Type 0 where
     no_fields : Fields
     field : List ℕ → Shape → Fields → Fields
@@ -81,16 +81,16 @@ plains_of_texts (t ∷ ts) = more (blob_or_null t) (plains_of_texts ts)
 
 -- ---- the plain value of a word under a shape
 
--- the plain value of a word: Null if the word is NULL, whatever its shape, else `v`
+-- the plain value of the word `word`: Null if the word is NULL (0), whatever its shape, else `v`
 abbrev pub null_plain_if_null_word : ℕ → Option Plain → Option Plain
 null_plain_if_null_word word v = if word == 0 then Some null else v
 
--- the result of `f` for the value of a reader; None if the reader refused the word
+-- the result of `f` for the Ok value of a reader; None if the reader refused the word
 abbrev pub option_of_ok_value : {A B : Type 0} → (A → Option B) → Result A Cause → Option B
 option_of_ok_value f (Ok x) = f x
 option_of_ok_value f (Err c) = None
 
--- a value followed by other values; None if the value is None, or the others are
+-- the list of a first value and the rest; None if the first value or the rest is None
 abbrev pub plains_if_first_and_rest : Option Plain → Option Plains → Option Plains
 plains_if_first_and_rest v vs = option_and_then (λ v. option_map (more v) vs) v
 
@@ -99,8 +99,7 @@ abbrev pub plains_of_all_words : (ℕ → Option Plain) → List ℕ → Option 
 plains_of_all_words f [] = Some none
 plains_of_all_words f (w ∷ ws) = plains_if_first_and_rest (f w) (plains_of_all_words f ws)
 
--- the plain value of the word `w` in the payload `p` by a shape; None if it or a word below it cannot
--- be read
+-- the plain value of the word `w` in the payload `p` by a shape; None if this word or a word below it cannot be read
 unfoldable mutual
   pub plain_of : List ℕ → Shape → ℕ → Option Plain
   plain_of p number w = null_plain_if_null_word w (option_of_ok_value (λ n. Some (int n)) (int_of p w))
@@ -115,7 +114,7 @@ unfoldable mutual
       (option_of_ok_value (λ ws. option_map trimmed_object_or_null (plains_of p fs ws))
       (run_entries_of_word OBJECT p w))
 
-  -- the plain values of an object's entries by its fields; entries past the fields are ignored
+  -- the plain values of an object's entries (`ws`), each by the shape of its field; entries past the fields are ignored
   pub plains_of : List ℕ → Fields → List ℕ → Option Plains
   plains_of p no_fields ws = Some none
   plains_of p (field name s fs) [] = Some none

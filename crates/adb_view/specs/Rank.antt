@@ -6,8 +6,8 @@ use Rattle.adb_view.specs.declared.tables.Kind.{Kind}
 use Rattle.adb_view.specs.declared.tables.Kind.TheVariants.{Int, Text, Hash, Obj, TextArr, ObjArr}
 use Rattle.adb_view.specs.declared.tables.Field.{Field}
 
--- how deep values of a kind nest. The number is less for the kinds of its fields and entries, since a
--- table names only tables of lower numbers
+-- a measure of how deep values of a kind nest, of which only the order matters. It is less for the kinds of the fields
+-- and entries of such a value, since the fields of a table have only tables of lower numbers
 abbrev pub rank : Kind → ℕ
 rank Int = 0
 rank Text = 0

@@ -1,4 +1,4 @@
--- The ten tables, as the program's constants have them, and their shapes. The rules are in
+-- The ten tables, as the program's constants have them, and the shapes of their fields. The rules are in
 -- `docs/formats.md`, "Schemas" (the tables) and "Values" (the shapes).
 use Rattle.std.specs.Prelude.{ℕ, zero, suc, List, [], ◌∷◌, codes}
 use Rattle.adb_view.specs.Plain.{Shape, number, text, hash, array, object, Fields, no_fields, field}
@@ -88,13 +88,13 @@ field_name_text FieldName.PkgnameSpec = codes "pkgname-spec"
 field_name_text FieldName.Removals = codes "removals"
 field_name_text FieldName.Writes = codes "writes"
 
--- the fields of a table in a shape: each with its name, and the shape that `f` gives its kind
+-- the fields of a table as the fields of a shape: each has its name, and the shape that `f` gives for its kind
 abbrev pub fields_with_shapes_by : (Kind → Shape) → List Field → Fields
 fields_with_shapes_by f [] = no_fields
 fields_with_shapes_by f (r ∷ rs) = field (field_name_text r.name) (f r.kind) (fields_with_shapes_by f rs)
 
--- the shape of a kind, with objects unrolled to this depth. A table names only tables of lower numbers,
--- so some depth unrolls all of them
+-- the shape of a kind, in which objects have fields down to this depth, and deeper objects have none. The fields of a
+-- table have only tables of lower numbers, so with some depth no fields are left out
 abbrev pub shape_to_depth : ℕ → Kind → Shape
 shape_to_depth depth Int = number
 shape_to_depth depth Text = text

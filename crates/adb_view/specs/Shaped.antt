@@ -39,8 +39,7 @@ IsObjectOrNullOf P (blob b) = ⊥
 IsObjectOrNullOf P (arr vs) = ⊥
 IsObjectOrNullOf P (obj vs) = P vs
 
--- a value is one that a field of this shape may have; an object has no more values than its shape has
--- fields
+-- the value is one that a field of this shape may have. An object has no more values than its shape has fields
 unfoldable mutual
   pub HasShape : Shape → Plain → Type 0
   HasShape number v = IsNumberOrNull v

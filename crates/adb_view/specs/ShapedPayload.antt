@@ -1,5 +1,5 @@
--- The contents of a walked payload. Serves the contracts of `Shaped`; the rule is in `docs/formats.md`,
--- "The shape".
+-- What a `Shaped` has: a payload whose shape was tested by a walk, and the table of its root. Serves the contracts of
+-- `Shaped`; the rule is in `docs/formats.md`, "The shape".
 use Rattle.adb_view.specs.Plain.{Plain}
 use Rattle.adb_view.specs.Head.{root_word_of_payload}
 use Rattle.adb_view.specs.Adb.{payload_of}
@@ -9,11 +9,11 @@ use Rattle.adb_view.specs.declared.tables.Which.{Which}
 use Rattle.adb_view.specs.declared.tables.Kind.TheVariants.{Obj}
 use Rattle.adb_view.specs.declared.shaped.Shaped.{Shaped}
 
--- the opened payload that was walked
+-- the payload that was walked, as it was opened
 abbrev pub adb_of : Shaped → Adb
 adb_of shaped = shaped.adb
 
--- the table as an object of which the root was walked
+-- the table by which the root of the payload was read in the walk
 abbrev pub table_of : Shaped → Which
 table_of shaped = shaped.which
 

@@ -1,6 +1,5 @@
--- The shape of each kind, by those of the kinds below it: unrolling is deep enough that none is cut
--- off. Serves the law `tables_are_unrolled_whole` and the proofs; the tables are in `docs/formats.md`,
--- "Schemas".
+-- The shape of each kind, by the shapes of the kinds of its fields or entries: *shape_of* leaves out no fields. Serves
+-- the law `tables_are_unrolled_whole` and the proofs; the tables are in `docs/formats.md`, "Schemas".
 use Rattle.std.proofs.Common.{◌≡◌, refl}
 use Rattle.adb_view.specs.Plain.{number, text, hash, array, object}
 use Rattle.adb_view.specs.Schema.{table, table_number, shape_of, shapes_of}

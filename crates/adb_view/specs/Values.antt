@@ -1,5 +1,5 @@
--- The results of views: the plain value of a word that is known to have one, and its fields. The rule
--- is in `docs/formats.md`, "Values" ("A table of fields gives each word a shape").
+-- The plain value of a word that is known to have one, and the fields and entries of plain values. Most contracts on
+-- containers use them. The rule is in `docs/formats.md`, "Values" ("A table of fields gives each word a shape").
 use Rattle.std.specs.Prelude.{ℕ, zero, suc, Bool, List, [], is_some, Option, unwrap_or, option_map, slice_get}
 use Rattle.adb_view.specs.Plain.{Plain, null, int, blob, arr, obj, Plains, none, more, plain_of}
 pub use Rattle.adb_view.specs.Plain.{count_of}
@@ -7,22 +7,21 @@ use Rattle.adb_view.specs.Schema.{table, shape_of}
 use Rattle.adb_view.specs.declared.tables.Which.{Which}
 use Rattle.adb_view.specs.declared.tables.Kind.{Kind}
 
--- whether the word `w` of the payload `p` has a plain value of the kind
+-- whether the word `w` of the payload `p` has a plain value when it is read by the kind `k`
 unfoldable pub is_sound : List ℕ → Kind → ℕ → Bool
 is_sound p k w = is_some (plain_of p (shape_of k) w)
 
--- the plain value of the word `w` of the payload `p` by the kind; Null if it has none
+-- the plain value of the word `w` of the payload `p`, read by the kind `k`; Null if the word has none
 unfoldable pub value_at : List ℕ → Kind → ℕ → Plain
 value_at p k w = unwrap_or (plain_of p (shape_of k) w) null
 
--- the value with this index, which counts from 0; Null past the last
+-- the value with this index, which counts from 0; Null past the last value
 abbrev pub nth : Plains → ℕ → Plain
 nth none i = null
 nth (more v vs) zero = v
 nth (more v vs) (suc i) = nth vs i
 
--- the entries of an array or of an object. Null and any other value have none, so that each field of
--- theirs is Null
+-- the entries of an array, or the fields of an object. Any other value has none, so *entry_in* gives Null for it
 abbrev pub entries_in : Plain → Plains
 entries_in null = none
 entries_in (int n) = none
@@ -30,7 +29,7 @@ entries_in (blob b) = none
 entries_in (arr vs) = vs
 entries_in (obj vs) = vs
 
--- the field of an object, or the entry of an array, with this index
+-- the field of an object, or the entry of an array, with the index i, which counts from 0; Null if there is none
 abbrev pub entry_in : Plain → ℕ → Plain
 entry_in v i = nth (entries_in v) i
 

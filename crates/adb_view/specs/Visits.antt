@@ -1,5 +1,5 @@
--- The words that a walk over a value visits, and whether each can be read. The rule is in
--- `docs/formats.md`, "The shape".
+-- The words that a walk over a value visits, in order, and whether each can be read. *Walk* defines the first fault of
+-- these visits. The rule is in `docs/formats.md`, "The shape".
 use Rattle.std.specs.Prelude.{ℕ, Bool, is_none, List, [], ◌∷◌, ◌++◌, Option, Result, Ok, Err}
 use Rattle.std.specs.Result.{result_err}
 use Rattle.adb_view.specs.Plain.{Shape, number, text, hash, array, object, Fields, no_fields, field}
@@ -13,18 +13,18 @@ pub record Visit : Type 0 where
   -- the word that is visited
   pub word : ℕ
 
--- the entries that were read of an array or an object; none if its word cannot be read
+-- the words of the entries that a reader returned; none if the reader failed
 abbrev pub or_empty : Result (List ℕ) Cause → List ℕ
 or_empty (Ok ws) = ws
 or_empty (Err c) = []
 
--- the visits of each word of a list, in order
+-- the visits for all words of a list, in order; `f` gives the visits for one word
 abbrev pub visits_of_all_words : (ℕ → List Visit) → List ℕ → List Visit
 visits_of_all_words f [] = []
 visits_of_all_words f (w ∷ ws) = f w ++ visits_of_all_words f ws
 
--- the visits of a walk over a word `w` of the payload `p`, depth first: the word, then its entries in
--- order; of an object only the entries that have a field
+-- the visits of a walk over the word `w` of the payload `p`, depth first: the word, then its entries in order. Of an
+-- object only the entries that have a field are visited
 unfoldable mutual
   pub visits : List ℕ → Shape → ℕ → List Visit
   visits p number w = record { shape = number; word = w } ∷ []
@@ -35,17 +35,18 @@ unfoldable mutual
   visits p (object schema fs) w = record { shape = object schema fs; word = w } ∷
       field_visits p fs (or_empty (run_entries_of_word OBJECT p w))
 
-  -- the visits of an object's entries that have one of these fields
+  -- the visits of those of an object's entries (`ws`) that have one of these fields
   pub field_visits : List ℕ → Fields → List ℕ → List Visit
   field_visits p no_fields ws = []
   field_visits p (field name s fs) [] = []
   field_visits p (field name s fs) (w ∷ ws) = visits p s w ++ field_visits p fs ws
 
--- the most visits, so the most values, of a payload; a value is counted each time that it occurs
+-- the most visits of the walk over a payload, which is the most values of a payload. A value is counted each time that
+-- it occurs
 abbrev pub MOST_VALUES : ℕ
 MOST_VALUES = 4194304
 
--- why the reader of this shape refuses the word; None if it accepts it
+-- why the reader of this shape refuses the word `w` of the payload `p`; None if it accepts the word
 abbrev pub word_fault_under_shape : List ℕ → Shape → ℕ → Option Cause
 word_fault_under_shape p number w = result_err (int_of p w)
 word_fault_under_shape p text w = result_err (blob_of p w)

@@ -5,7 +5,7 @@ use Rattle.std.specs.Int as I
 use Rattle.adb_view.specs.declared.words.Width.{Width}
 use Rattle.adb_view.specs.declared.words.Width.TheVariants.{One, Two, Four, Eight}
 
--- a width of the program in the standard library's terms
+-- the width of the standard library that has as many bytes as this width of the program
 abbrev pub width_of : Width → I.Width
 width_of One = w8
 width_of Two = w16

@@ -1,7 +1,7 @@
-//! The readers of words that the walk calls. Each first calls the reader without a cause; only if
-//! that finds nothing, it calls the one that returns the cause. The result of each is defined in
-//! `docs/formats.md`, "Values" ("Who asks for an integer, a blob, an array or an object says
-//! which").
+//! The readers of words that the walk in `walk` calls. Each first calls the method of `Adb` that
+//! returns an Option. Only if this returns None, it calls the method that returns the cause of the
+//! failure. The result of each reader is defined in `docs/formats.md`, "Values" ("Who asks for an
+//! integer, a blob, an array or an object says which").
 
 ghost use Rattle.std.specs.Prelude.{◌≡◌, IfErr, IfOk, Err, Ok};
 ghost use Rattle.adb_view.specs.Adb.{payload_of};
@@ -17,9 +17,9 @@ use crate::visit_fault::VisitFault;
 use crate::walk::object_entries;
 use crate::words::Val;
 
-/// Whether the word can be read and has no words below it: NULL, or an integer, a text or a hash,
-/// as the kind demands. Most words of a payload are such leaves, and a leaf needs no call of its
-/// own.
+/// Whether the word can be read as `kind` demands, and has no words below it: it is NULL, an
+/// integer, a text or a hash. Most words of a payload are such leaves. For a leaf, the walk needs
+/// no further call.
 #[tactic(auto, unfolding(crate::specs::Readers::int_of, crate::specs::Readers::blob_of))]
 #[inline(always)]
 pub(crate) fn is_sound_leaf(adb: Adb<'_>, kind: Kind, word: Val) -> bool
@@ -37,11 +37,12 @@ pub(crate) fn is_sound_leaf(adb: Adb<'_>, kind: Kind, word: Val) -> bool
             Some(_) => true,
             None => false,
         },
+        // An array or an object that is not NULL may have words below it.
         Kind::Obj(_) | Kind::TextArr | Kind::ObjArr(_) => false,
     }
 }
 
-/// The integer of a word, or why it is none.
+/// The integer to which the word refers, or why there is none.
 #[tactic(auto, using(crate::proofs::ReaderFaults::int_fault, crate::proofs::ReaderFaults::read_ok))]
 pub(crate) fn read_int(adb: Adb<'_>, word: Val) -> Result<u64, VisitFault>
     // On Ok, this is the integer to which the word refers.
@@ -50,7 +51,8 @@ pub(crate) fn read_int(adb: Adb<'_>, word: Val) -> Result<u64, VisitFault>
     ensures err { IfErr result (λ fault. int_of (payload_of adb.entry) word
         ≡ Err (cause_of_fault fault)) }
 {
-    // First without a cause, which is large to move; only a failure is read again for its cause.
+    // First without a cause, since a cause is large to move. After a failure, the word is read
+    // again for the cause.
     if let Some(n) = adb.int_if_read(word) {
         return Ok(n);
     }
@@ -60,7 +62,7 @@ pub(crate) fn read_int(adb: Adb<'_>, word: Val) -> Result<u64, VisitFault>
     }
 }
 
-/// The bytes of a word that is a blob, or why it is none.
+/// The bytes of the blob to which the word refers, or why there is none.
 #[tactic(auto, using(crate::proofs::ReaderFaults::blob_fault, crate::proofs::ReaderFaults::read_ok))]
 pub(crate) fn read_blob<'a>(adb: Adb<'a>, word: Val) -> Result<&'a [u8], VisitFault>
     // On Ok, these are the bytes of the blob to which the word refers.
@@ -78,7 +80,7 @@ pub(crate) fn read_blob<'a>(adb: Adb<'a>, word: Val) -> Result<&'a [u8], VisitFa
     }
 }
 
-/// The entries of a word that is an array, or why it is none.
+/// The entries of the array to which the word refers, or why there is none.
 #[tactic(auto, using(crate::proofs::ReaderFaults::run_fault, crate::proofs::ReaderFaults::read_ok))]
 pub(crate) fn read_array<'a>(adb: Adb<'a>, word: Val) -> Result<Arr<'a>, VisitFault>
     // On Ok, these are the words of the array's entries.
@@ -97,7 +99,8 @@ pub(crate) fn read_array<'a>(adb: Adb<'a>, word: Val) -> Result<Arr<'a>, VisitFa
     }
 }
 
-/// The entries of a word that is an object, those past its fields too, or why it is none.
+/// All entries of the object to which the word refers, also those past the fields of its table, or
+/// why there is none.
 #[tactic(auto, using(crate::proofs::ReaderFaults::run_fault, crate::proofs::ReaderFaults::read_ok))]
 pub(crate) fn read_object<'a>(adb: Adb<'a>, word: Val) -> Result<Arr<'a>, VisitFault>
     // On Ok, these are the words of the object's entries.

@@ -1,4 +1,5 @@
-//! Runs of words: the entries of an array, and of an object. The rule is in `docs/formats.md`,
+//! Views of the entries of an array (`Arr`) and of an object (`Obj`). The words of the entries are
+//! next to each other in the payload, and are called a run. The rule is in `docs/formats.md`,
 //! "Values" ("The first word of a run").
 
 ghost use Rattle.std.specs.Prelude.{◌≡◌, ◌≤◌, ◌<◌, ◌-◌, ◌*◌, ◌^◌, ◌==◌, length};
@@ -14,7 +15,7 @@ use base_core::Cause;
 pub struct Arr<'a> {
     /// The words of the entries, four bytes each.
     bytes: &'a [u8],
-    // The number of the words fits into 32 bits.
+    // The number of the entries, plus one, fits into 32 bits.
     ghost counted: { length bytes.now < 4 * (2 ^ 32 - 1) },
 }
 
@@ -22,7 +23,8 @@ pub struct Arr<'a> {
 impl<'a> Arr<'a> {
     ghost use Rattle.adb_view.specs.Entries.{array_entries, entry_at};
 
-    /// The entries of the run to which a word of this kind points; NULL has none.
+    /// The entries of the run to which the word `v` points. `v` must have the kind `kind`, that of
+    /// an array or of an object. NULL has no entries.
     #[tactic(auto, unfolding(crate::specs::Readers::run_entries_of_word, crate::specs::Bytes::words))]
     pub(crate) fn read(payload: &'a [u8], kind: u32, v: Val) -> Result<Arr<'a>, Cause>
         ensures { Gives array_entries result (run_entries_of_word kind payload.now v) }
@@ -40,7 +42,7 @@ impl<'a> Arr<'a> {
         }
     }
 
-    /// The entries that `read` returns, or None if it fails.
+    /// The entries that `read` returns, or None if `read` fails.
     #[tactic(auto, unfolding(crate::specs::Readers::run_entries_of_word, crate::specs::Bytes::words))]
     pub(crate) fn find(payload: &'a [u8], kind: u32, v: Val) -> Option<Arr<'a>>
         ensures { Finds array_entries result (result_ok (run_entries_of_word kind payload.now v)) }
@@ -57,9 +59,12 @@ impl<'a> Arr<'a> {
         }
     }
 
-    /// How many entries there are: fewer than 2^32 - 1, since a run counts its words in 32 bits.
+    /// How many entries there are. There are fewer than 2^32 - 1, since the first word of a run,
+    /// which has 32 bits, counts them and itself.
     pub fn len(&self) -> usize
+        // The result is the number of entries.
         ensures value { result ≡ length (array_entries self.now) }
+        // There are fewer than 2^32 - 1 entries.
         ensures small { result < 2 ^ 32 - 1 }
     {
         self.bytes.len() / 4
@@ -74,9 +79,9 @@ impl<'a> Arr<'a> {
 
     /// The entry at this position, which counts from 1.
     pub fn get(&self, i: usize) -> Val
-        // The entries are counted from 1.
+        // Positions count from 1.
         requires from { 1 ≤ i }
-        // The number is at most that of the last entry.
+        // The position is at most that of the last entry.
         requires to { i ≤ length (array_entries self.now) }
         ensures { result ≡ entry_at (array_entries self.now) i }
     {
@@ -104,9 +109,9 @@ impl<'a, const N: usize> Obj<'a, N> {
 
     /// The entry of the field with this number, which counts from 1; NULL past the last entry.
     pub fn field(&self, i: usize) -> Val
-        // The entries are counted from 1.
+        // Positions count from 1.
         requires from { 1 ≤ i }
-        // The number is at most `N`.
+        // The number of the field is at most `N`.
         requires to { i ≤ N }
         ensures { result ≡ entry_at (object_entries self.now) i }
     {

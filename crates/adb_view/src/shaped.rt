@@ -1,4 +1,5 @@
-//! A payload whose shape was tested. The rule is in `docs/formats.md`, "The shape".
+//! A payload whose shape was tested, which `shape` of `walk` returns. The rule is in
+//! `docs/formats.md`, "The shape".
 
 ghost use Rattle.std.specs.Prelude.{◌≡◌, true, is_none};
 ghost use Rattle.adb_view.specs.Adb.{payload_of};
@@ -19,8 +20,10 @@ pub struct Shaped<'a> {
     adb: Adb<'a>,
     /// The table of the payload's root.
     which: Which,
+    // The root has a plain value, as an object of the table.
     ghost sound: { is_sound (payload_of adb) (Kinds.Obj which) (root_word_of_payload
         (payload_of adb)) ≡ true },
+    // The walk from the root finds no fault, so the number of visits is within its limit.
     ghost few: { is_none (shape_fault (payload_of adb) (shape_of (Kinds.Obj which))
         (root_word_of_payload (payload_of adb))) ≡ true },
 }
@@ -30,14 +33,16 @@ impl<'a> Shaped<'a> {
 
     /// The payload that was walked as an object of this table, without a fault.
     pub(crate) fn of(adb: Adb<'a>, which: Which) -> Shaped<'a>
-        // The root of the payload has a plain value of its kind.
+        // The root of the payload has a plain value, as an object of the table.
         requires sound { is_sound (payload_of adb) (Kinds.Obj which) (root_word_of_payload
             (payload_of adb))
             ≡ true }
         // The walk from the root finds no fault.
         requires few { is_none (shape_fault (payload_of adb) (shape_of (Kinds.Obj which))
             (root_word_of_payload (payload_of adb))) ≡ true }
+        // The result has this payload.
         ensures walked { adb_of result ≡ adb.entry }
+        // The result has this table.
         ensures table { table_of result ≡ which }
     {
         Shaped { adb, which }
@@ -50,7 +55,7 @@ impl<'a> Shaped<'a> {
         self.adb
     }
 
-    /// The table as an object of which its root was walked.
+    /// The table by which the root of the payload was read in the walk.
     pub fn which(&self) -> Which
         ensures { result ≡ table_of self.now }
     {

@@ -1,6 +1,7 @@
-//! The ten tables of the containers: fields, the constants, and the fields of each table. The
-//! tables are defined in `docs/formats.md`, "Schemas". A new table needs a constant here, its
-//! variant of `Which`, and its lines in `fields_of` and `number_of`.
+//! The ten tables of the containers, as constants: the number of each table, and the names and
+//! kinds of its fields. Readers and writers of containers use them. The tables are defined in
+//! `docs/formats.md`, "Schemas". A new table needs a constant here, a variant of `Which`, and lines
+//! in `fields_of` and `number_of`.
 
 ghost use Rattle.std.specs.Prelude.{◌≡◌, ◌≤◌};
 ghost use Rattle.adb_view.specs.Schema.{table, table_number, shape_of, shapes_of};
@@ -51,7 +52,7 @@ pub enum Kind {
     ObjArr(Which),
 }
 
-/// A field of a table. Its number is its place in the table, counted from 1.
+/// A field of a table. The number of a field is its position in the table, counted from 1.
 #[derive(Clone, Copy, Debug, PartialEq, Eq)]
 pub struct Field {
     /// The name of the field, as dumps print it.
@@ -63,8 +64,8 @@ pub struct Field {
 /// A table of N fields.
 #[derive(Clone, Copy)]
 pub struct Schema<const N: usize> {
-    /// The number of the table. Causes name a field by a number: 100 times that of its table plus
-    /// its own.
+    /// The number of the table. A cause names a field by 100 times the number of the field's table,
+    /// plus the field's own number.
     pub number: u16,
     /// The fields of the table, in the order of their numbers, which count from 1.
     pub fields: [Field; N],
@@ -183,7 +184,7 @@ impl FieldName {
     }
 }
 
-/// A field: its name, and the kind of its value.
+/// A field of a table: its name, and the kind of its value, which is a text if no kind is given.
 macro_rules! field {
     ($name:ident) => {
         field!($name: Kind::Text)
@@ -196,7 +197,7 @@ macro_rules! field {
     };
 }
 
-/// The fields of table 1, in their order.
+/// The fields of table 1, a dependency, in order. A field without a kind here is a text.
 const DEP_FIELDS: [Field; 3] = [field!(Name), field!(Version), field!(Match: Kind::Int)];
 
 /// Table 1: a dependency.
@@ -205,7 +206,7 @@ pub const DEP: Schema<3> = Schema {
     fields: DEP_FIELDS,
 };
 
-/// The fields of table 2.
+/// The fields of table 2, an access list, in order. A field without a kind here is a text.
 const ACL_FIELDS: [Field; 4] = [
     field!(Mode: Kind::Int),
     field!(User),
@@ -219,7 +220,8 @@ pub const ACL: Schema<4> = Schema {
     fields: ACL_FIELDS,
 };
 
-/// The fields of table 3.
+/// The fields of table 3, the information of a package, in order. A field without a kind here is a
+/// text.
 const PKGINFO_FIELDS: [Field; 22] = [
     field!(Name),
     field!(Version),
@@ -251,7 +253,7 @@ pub const PKGINFO: Schema<22> = Schema {
     fields: PKGINFO_FIELDS,
 };
 
-/// The fields of table 4.
+/// The fields of table 4, a file of a folder, in order. A field without a kind here is a text.
 const FILE_FIELDS: [Field; 7] = [
     field!(Name),
     field!(Acl: Kind::Obj(Which::Acl)),
@@ -268,7 +270,7 @@ pub const FILE: Schema<7> = Schema {
     fields: FILE_FIELDS,
 };
 
-/// The fields of table 5.
+/// The fields of table 5, a folder of a package, in order. A field without a kind here is a text.
 const DIR_FIELDS: [Field; 3] = [
     field!(Name),
     field!(Acl: Kind::Obj(Which::Acl)),
@@ -281,7 +283,7 @@ pub const DIR: Schema<3> = Schema {
     fields: DIR_FIELDS,
 };
 
-/// The fields of table 6.
+/// The fields of table 6, a package's scripts, in order. Each is a text.
 const SCRIPTS_FIELDS: [Field; 7] = [
     field!(Trigger),
     field!(PreInstall),
@@ -298,7 +300,7 @@ pub const SCRIPTS: Schema<7> = Schema {
     fields: SCRIPTS_FIELDS,
 };
 
-/// The fields of table 7.
+/// The fields of table 7, a package, in order.
 const PACKAGE_FIELDS: [Field; 5] = [
     field!(Info: Kind::Obj(Which::PkgInfo)),
     field!(Paths: Kind::ObjArr(Which::Dir)),
@@ -313,7 +315,7 @@ pub const PACKAGE: Schema<5> = Schema {
     fields: PACKAGE_FIELDS,
 };
 
-/// The fields of table 8.
+/// The fields of table 8, an index of packages, in order. A field without a kind here is a text.
 const INDEX_FIELDS: [Field; 3] = [
     field!(Description),
     field!(Packages: Kind::ObjArr(Which::PkgInfo)),
@@ -326,7 +328,7 @@ pub const INDEX: Schema<3> = Schema {
     fields: INDEX_FIELDS,
 };
 
-/// The fields of table 9.
+/// The field of table 9, an installed database.
 const IDB_FIELDS: [Field; 1] = [field!(Packages: Kind::ObjArr(Which::Package))];
 
 /// Table 9: an installed database.
@@ -335,7 +337,7 @@ pub const IDB: Schema<1> = Schema {
     fields: IDB_FIELDS,
 };
 
-/// The fields of table 10.
+/// The fields of table 10, a journal entry, in order.
 const INTENT_FIELDS: [Field; 2] = [
     field!(Removals: Kind::TextArr),
     field!(Writes: Kind::TextArr),
@@ -377,7 +379,7 @@ static IDB_ROWS: [Field; 1] = IDB_FIELDS;
 // The fields of table 10 as a static, so that `fields_of` can lend them.
 static INTENT_ROWS: [Field; 2] = INTENT_FIELDS;
 
-/// The fields of a table, in the order of their numbers.
+/// The fields of the table `which`, in the order of their numbers, which count from 1.
 pub fn fields_of(which: Which) -> &'static [Field]
     ensures { result.now ≡ table which }
 {

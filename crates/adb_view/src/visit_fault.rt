@@ -1,20 +1,20 @@
-//! The fault of a visit, as the walk passes it on. The faults and the order of their tests are
-//! defined in `docs/formats.md`, "The shape".
+//! The fault of a visit, as the functions of `walk` return it. The faults, and the order in which
+//! they are tested, are defined in `docs/formats.md`, "The shape".
 
 ghost use Rattle.std.specs.Prelude.{◌≡◌, true};
 ghost use Rattle.adb_view.specs.VisitFault.{cause_of_fault, is_reader_fault};
 
 use base_core::Cause;
 
-/// Why a visit is faulty. A cause has 150 bytes, too many to pass from value to value. So the walk
-/// passes this on, and its caller makes a cause of it.
+/// Why a visit is faulty. A `Cause` has 150 bytes, which would be moved at each visit. So the inner
+/// functions of the walk return this smaller type. `shape` and `walk_fields` make a `Cause` of it.
 #[derive(Clone, Copy)]
 pub(crate) enum VisitFault {
-    /// The visit with this number, counted from 1, is one too many.
+    /// The visit with the number `count`, counted from 1, exceeds the limit of visits.
     TooLarge { count: u32 },
-    /// The word is of another kind than its shape demands.
+    /// The kind of the word is not the one that its shape demands.
     WrongKind { word: u32 },
-    /// The bytes that the word points to leave the payload.
+    /// The bytes to which the word points are not within the payload.
     Outside { word: u32 },
 }
 
@@ -28,6 +28,7 @@ impl VisitFault {
         match cause {
             Cause::WrongKind { word } => VisitFault::WrongKind { word },
             Cause::Outside { word } => VisitFault::Outside { word },
+            // A reader returns no other cause, by the precondition.
             _ => unreachable!(),
         }
     }

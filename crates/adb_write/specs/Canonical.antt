@@ -1,4 +1,4 @@
--- The canonical layout of a payload: the bytes that each value adds. The rules are in
+-- The canonical layout of a payload: the bytes that each value adds, and when a value overflows. The rules are in
 -- `docs/formats.md`, "Canonical layout"; the kinds of words, in the table of "Values".
 use Rattle.std.specs.Prelude.{ℕ, suc, ◌+◌, ◌-◌, ◌*◌, ◌%◌, ◌^◌, Bool, ◌&&◌, ◌||◌, List, [], ◌∷◌, ◌++◌, length, take, drop, replicate, Option, Some, None, Result, Ok, Err, nat_lt, ◌==◌, bytes_eq, find, if◌then◌else◌}
 use Rattle.std.specs.List.{flat_map}
@@ -7,30 +7,29 @@ use Rattle.adb_view.specs.Plain.{Plain, null, int, blob, arr, obj, Plains, none,
 use Rattle.adb_view.specs.Readers.{ARRAY, OBJECT}
 pub use Rattle.adb_view.specs.Visits.{MOST_VALUES}
 
--- how many zeros are between the offset n and the next multiple of align
+-- how many zeros are between the offset n and the next multiple of `align`
 abbrev pub padding_to_alignment : ℕ → ℕ → ℕ
 padding_to_alignment align n = (align - n % align) % align
 
--- an item: the bytes of one value that are outside of its word, with the kind of the word, the
--- alignment, and the number of entries
+-- an item: the stored bytes of a value that does not fit into its word, before it is written at an offset
 pub record Item : Type 0 where
   -- the kind of the words that point to it
   pub kind : ℕ
-  -- it is at a multiple of this
+  -- the alignment: the offset of the item is a multiple of this number
   pub align : ℕ
-  -- its bytes
+  -- the bytes of the item
   pub bytes : List ℕ
-  -- how many entries it has, which count as values
+  -- how many entries the item has, each of which counts as a value; only a list has entries
   pub entries : ℕ
 
--- a value as it is written: a word that contains the value (`in_place`), or an item to which a word
--- points (`apart`)
+-- a value as it is written: a word that itself contains the value (`in_place`), or an item to which a word points
+-- (`apart`)
 pub data Cell : Type 0 where
   in_place : ℕ → Cell
   apart : Item → Cell
 
--- the item of an integer, in 32 or 64 bits; the kinds of words here and below are those of the
--- document
+-- the item of an integer, in 32 or 64 bits. The kinds of words, here and below, are those of the table in
+-- `docs/formats.md`, "Values"
 abbrev pub int_item : ℕ → Item
 int_item n =
     if nat_lt n (2 ^ 32)
@@ -41,7 +40,7 @@ int_item n =
 abbrev pub int_cell : ℕ → Cell
 int_cell n = if nat_lt n (2 ^ 28) then in_place (2 ^ 28 + n) else apart (int_item n)
 
--- the item of a blob: its length, in as few bytes as it needs, and its bytes
+-- the item of a blob: the blob's length, in 1, 2 or 4 bytes, and the blob's bytes
 abbrev pub blob_item : List ℕ → Item
 blob_item b =
     if nat_lt (length b) (2 ^ 8)
@@ -55,20 +54,21 @@ abbrev pub blob_cell : List ℕ → Cell
 blob_cell [] = in_place 0
 blob_cell (b ∷ bs) = apart (blob_item (b ∷ bs))
 
--- the bytes of a run: how many words there are, this number counted, and the words
+-- the bytes of a run of the words `ws`: the number of words, which counts this number too, and then the words
 abbrev pub run_bytes : List ℕ → List ℕ
 run_bytes ws = to_le_bytes w32 (suc (length ws)) ++ flat_map (to_le_bytes w32) ws
 
--- the item of an array or an object of these words, by the kind of its word
+-- the item of an array or an object with these words as entries; `kind` is the kind of the words that point to it (13
+-- for an array, 14 for an object)
 abbrev pub run_item : ℕ → List ℕ → Item
 run_item kind ws = record { kind = kind; align = 4; bytes = run_bytes ws; entries = length ws }
 
--- an array or an object as it is written; an empty one is NULL
+-- an array or an object with these words as it is written (`kind` as above); without words it is NULL
 abbrev pub run_cell : ℕ → List ℕ → Cell
 run_cell kind [] = in_place 0
 run_cell kind (w ∷ ws) = apart (run_item kind (w ∷ ws))
 
--- words with one more in front, which is dropped if it is NULL and would be last
+-- words with one more in front; this word is dropped if it is NULL (0) and would be the last one
 abbrev pub prepend_unless_last_null : ℕ → List ℕ → List ℕ
 prepend_unless_last_null w (v ∷ vs) = w ∷ v ∷ vs
 prepend_unless_last_null w [] = if w == 0 then [] else w ∷ []
@@ -80,43 +80,42 @@ words_without_last_nulls (w ∷ ws) = prepend_unless_last_null w (words_without_
 
 -- ---- the layout so far
 
--- an item that was written: the kind of the words that point to it, and its offset from the end of the
--- payload's head of 8 bytes
+-- an item that was written. Its length is not recorded
 pub record WrittenItem : Type 0 where
   -- the kind of the words that point to it
   pub kind : ℕ
-  -- its offset, without the head of 8 bytes
+  -- the offset of the item, counted from the end of the payload's head of 8 bytes
   pub offset : ℕ
 
--- the layout so far: the payload after its head of 8 bytes, its items, the latest first, and the number
--- of values with the root
+-- the layout so far: the payload after its head of 8 bytes, the items in it, and the number of its values
 pub record Layout : Type 0 where
-  -- the payload after its head
+  -- the bytes of the payload after its head
   pub body : List ℕ
   -- the items in it, the latest first
   pub items : List WrittenItem
-  -- how many values there are, the root counted
+  -- how many values there are, including the root
   pub values : ℕ
 
 -- the layout before anything is written: the root alone counts as a value
 abbrev pub empty_layout : Layout
 empty_layout = record { body = []; items = []; values = 1 }
 
--- the offset of the payload's end, which counts the head of 8 bytes
+-- the offset of the payload's end, including the head of 8 bytes
 abbrev pub end_offset : Layout → ℕ
 end_offset out = 8 + length out.body
 
--- whether a written item is equal to this one: it has the same kind and the same bytes
+-- whether the written item `there` is equal to the item i: it has the same kind and, in the bytes `body` of the layout,
+-- the same bytes
 abbrev pub is_equal_item : List ℕ → Item → WrittenItem → Bool
 is_equal_item body i there =
     there.kind == i.kind && bytes_eq (take (length i.bytes) (drop there.offset body)) i.bytes
 
--- the word that points to a written item: its kind, and its offset with the head of 8 bytes
+-- the word that points to a written item: the item's kind, and the item's offset including the head of 8 bytes
 abbrev pub word_of_written_item : WrittenItem → ℕ
 word_of_written_item there = there.kind * 2 ^ 28 + (8 + there.offset)
 
--- the word of a new item, and the layout with it: the item is at the next offset that its alignment
--- allows, with zeros before it
+-- the word of the new item i, and the layout with this item: it is at the next offset that its alignment allows, with
+-- zeros before it
 abbrev pub put_new_item : Item → Layout → ℕ × Layout
 put_new_item i out = (
   i.kind * 2 ^ 28 + (end_offset out + padding_to_alignment i.align (end_offset out)),
@@ -130,28 +129,27 @@ put_new_item i out = (
   },
 )
 
--- the word of an item, and the layout with it. If an equal item was written (`there`), its word is
--- returned, and only the entries are counted
+-- the word of the item i, and the layout with this item. If an equal item was written (`there`), the word of that item
+-- is returned, no bytes are added, and only the entries are counted
 abbrev pub put_item_unless_written : Option WrittenItem → Item → Layout → ℕ × Layout
 put_item_unless_written None i out = put_new_item i out
 put_item_unless_written (Some there) i out =
     (word_of_written_item there, record out { values = out.values + i.entries })
 
--- the word of an item, and the layout with it: the item is written unless an equal one was written
--- before
+-- the word of the item i, and the layout with this item, which is written unless an equal item was written before
 abbrev pub put_item : Item → Layout → ℕ × Layout
 put_item i out = put_item_unless_written (find (is_equal_item out.body i) out.items) i out
 
--- the word of a value, and the layout with the bytes that are outside of the word
+-- the word of a value, and the layout with the value's item, if the word does not contain the value itself
 abbrev pub put_cell : Cell → Layout → ℕ × Layout
 put_cell (in_place w) out = (w, out)
 put_cell (apart i) out = put_item i out
 
--- the word of an array or an object of these words, and the layout with it
+-- the word of an array or an object with these words (`kind` is 13 or 14), and the layout with this list
 abbrev pub put_run : ℕ → List ℕ → Layout → ℕ × Layout
 put_run kind ws out = put_cell (run_cell kind ws) out
 
--- the word of a value, and the layout with it: its entries are written in order, then its run
+-- the word of a value, and the layout with this value: its entries are written in order, then its own item
 unfoldable mutual
   pub write : Plain → Layout → ℕ × Layout
   write null out = (0, out)
@@ -160,14 +158,14 @@ unfoldable mutual
   write (arr vs) out = put_run ARRAY (write_all vs out).0 (write_all vs out).1
   write (obj vs) out = put_run OBJECT (words_without_last_nulls (write_all vs out).0) (write_all vs out).1
 
-  -- the words of values that are written in order, and the layout with them
+  -- the words of values that are written in order, and the layout with these values
   pub write_all : Plains → Layout → List ℕ × Layout
   write_all none out = ([], out)
   write_all (more v vs) out =
       ((write v out).0 ∷ (write_all vs (write v out).1).0, (write_all vs (write v out).1).1)
 
--- the payload of a layout with this root: four bytes of 0 for the versions, the root's word, and the
--- items
+-- the payload of a layout; `root` is the word of the root. First four bytes 0 (the version 0, and three ignored bytes),
+-- then the root's word, then the bytes of the layout
 abbrev pub payload_with_root : ℕ → Layout → List ℕ
 payload_with_root root out = 0 ∷ 0 ∷ 0 ∷ 0 ∷ (to_le_bytes w32 root ++ out.body)
 
@@ -177,7 +175,7 @@ canonical v = payload_with_root (write v empty_layout).0 (write v empty_layout).
 
 -- ---- limits
 
--- how many bytes a payload may have: 2^28 - 1, since offsets have 28 bits
+-- how many bytes a payload may have: 2^28 - 1, since the offsets in words have 28 bits
 abbrev pub MOST_BYTES : ℕ
 MOST_BYTES = 268435455
 
@@ -185,15 +183,15 @@ MOST_BYTES = 268435455
 abbrev pub PayloadCounts : Type 0
 PayloadCounts = ℕ × ℕ
 
--- the two counts of a layout
+-- the two counts of a layout: bytes, including the head, and values
 abbrev pub layout_counts : Layout → PayloadCounts
 layout_counts out = (end_offset out, out.values)
 
--- whether one of the two counts is above its limit
+-- whether one of the two counts is above its limit (*MOST_BYTES*, *MOST_VALUES*)
 abbrev pub exceeds_a_limit : PayloadCounts → Bool
 exceeds_a_limit c = nat_lt MOST_BYTES c.0 || nat_lt MOST_VALUES c.1
 
--- the two counts just after each value that is written, in the order of writing
+-- the two counts just after each value that is written, in the order of writing; `out` is the layout before the value
 unfoldable mutual
   pub counts_after_values : Plain → Layout → List PayloadCounts
   counts_after_values null out = []
@@ -202,16 +200,16 @@ unfoldable mutual
   counts_after_values (arr vs) out = trace_all vs out ++ layout_counts (write (arr vs) out).1 ∷ []
   counts_after_values (obj vs) out = trace_all vs out ++ layout_counts (write (obj vs) out).1 ∷ []
 
-  -- the counts after each of these values and those below them
+  -- the two counts just after each of these values and of the values below them
   pub trace_all : Plains → Layout → List PayloadCounts
   trace_all none out = []
   trace_all (more v vs) out = counts_after_values v out ++ trace_all vs (write v out).1
 
--- the counts just after the first value that brings one of them above its limit; None if none does
+-- the two counts just after the first value in `v` that brings one of them above its limit; None if no value does
 abbrev pub overflow_of : Plain → Option PayloadCounts
 overflow_of v = find exceeds_a_limit (counts_after_values v empty_layout)
 
--- the payload, or the counts at which a value overflows
+-- the payload, unless there are counts at which a value overflows
 abbrev pub or_overflow : List ℕ → Option PayloadCounts → Result (List ℕ) PayloadCounts
 or_overflow payload None = Ok payload
 or_overflow payload (Some counts) = Err counts

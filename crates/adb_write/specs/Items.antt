@@ -1,5 +1,5 @@
--- An item of the program as an item of the layout. Serves the contracts of `src/item.rt`; the layout is
--- in `docs/formats.md`, "Canonical layout" ("Values are written depth first").
+-- The program's type `Parts`, an item before it is written, as an *Item* of the layout. Serves the contracts of
+-- `src/item.rt`; the layout is in `docs/formats.md`, "Canonical layout" ("Values are written depth first").
 use Rattle.std.specs.Prelude.{ℕ, ◌<◌, ◌^◌, List, []}
 use Rattle.std.specs.List.{flat_map}
 use Rattle.std.specs.Int.{w32, to_le_bytes}
@@ -24,19 +24,19 @@ abbrev pub list_kind : ListKind → ℕ
 list_kind Array = ARRAY
 list_kind Object = OBJECT
 
--- what follows the number at the front of an item
+-- the bytes of an item that follow the number with which it begins: none for an integer
 abbrev pub content_bytes : Parts → List ℕ
 content_bytes (Int n) = []
 content_bytes (Blob b) = b.now
 content_bytes (Listed kind ws) = flat_map (to_le_bytes w32) ws.now
 
--- the item of the layout that the program's parts represent
+-- the item of the layout that a `Parts` represents
 abbrev pub item_of : Parts → Item
 item_of (Int n) = int_item n
 item_of (Blob b) = blob_item b.now
 item_of (Listed kind ws) = run_item (list_kind kind) ws.now
 
--- the numbers of some parts are those of the program: an integer has 64 bits
+-- an integer in a `Parts` has 64 bits, as in the program
 abbrev pub HasNumbersInRange : Parts → Type 0
 HasNumbersInRange (Int n) = n < 2 ^ 64
 HasNumbersInRange (Blob b) = Unit {0}

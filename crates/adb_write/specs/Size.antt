@@ -1,5 +1,5 @@
--- The size of a value's payload, and the number of its values: the root, and every entry of the lists.
--- What counts as a value is defined in `docs/formats.md`, "Canonical layout" ("A payload has at most").
+-- The size of a value's payload, and the number of values in it: the root, and every entry of the lists. What counts as
+-- a value is defined in `docs/formats.md`, "Canonical layout" ("A payload has at most").
 use Rattle.std.specs.Prelude.{ℕ, ◌+◌, length}
 use Rattle.adb_view.specs.Plain.{Plain, null, int, blob, arr, obj, Plains, none, more, count_of}
 use Rattle.adb_write.specs.Canonical.{Layout, canonical}
@@ -8,7 +8,7 @@ use Rattle.adb_write.specs.Canonical.{Layout, canonical}
 abbrev pub payload_size_of : Plain → ℕ
 payload_size_of v = length (canonical v)
 
--- how many entries the lists of a value have, its own and those below it
+-- how many entries all lists in a value have, the value itself included if it is a list
 unfoldable mutual
   pub entries_of : Plain → ℕ
   entries_of null = 0
@@ -17,12 +17,12 @@ unfoldable mutual
   entries_of (arr vs) = count_of vs + entries_of_all vs
   entries_of (obj vs) = count_of vs + entries_of_all vs
 
-  -- how many entries the lists of these values have
+  -- how many entries all lists in these values have
   pub entries_of_all : Plains → ℕ
   entries_of_all none = 0
   entries_of_all (more v vs) = entries_of v + entries_of_all vs
 
--- how many values there are: a value, and all below it
+-- how many values a value has: itself, and all values below it
 abbrev pub value_count : Plain → ℕ
 value_count v = 1 + entries_of v
 

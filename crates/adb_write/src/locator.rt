@@ -1,13 +1,15 @@
-//! Locators: the fingerprint of a written item, and in the low 32 bits the word that points to the
-//! item. How locators are stored is described in the README of this crate.
+//! Locators: entries of the writer's list of items. A locator is one number: the fingerprint of a
+//! written item in the high 32 bits, and the word that points to the item in the low 32 bits. How
+//! locators are stored is described in the README of this crate.
 
 ghost use Rattle.std.specs.Prelude.{◌≡◌, ◌<◌, ◌^◌};
 ghost use Rattle.adb_write.specs.Keys.{fingerprint_of_locator, locator_of, word_of_locator};
 
 use adb_view::Val;
 
-/// The locator of an item by its fingerprint, and the word that points to it.
+/// The locator of an item with this fingerprint, to which this word points.
 pub(crate) fn locator_of(fingerprint: u64, word: Val) -> u64
+    // The fingerprint has 32 bits.
     requires { fingerprint < 2 ^ 32 }
     ensures { result ≡ locator_of fingerprint word }
 {

@@ -1,9 +1,7 @@
-//! The bytes of a payload as they are written, and the locators by which written items are found.
-//! How locators are stored is described in the README of this crate; that equal values are stored
-//! once is stated in `docs/formats.md`, "Canonical layout" ("Equal values are stored once"). In the
-//! clauses `filled` says that no page is empty, and `rising` that locators are in the order of
-//! their keys. `stored` says that each names an item of the payload, and `inside` that a slot is
-//! one of these pages.
+//! The bytes of an unfinished payload, and the locators by which the items in it are found. The
+//! `Writer` uses them. How locators are stored is described in the README of this crate; that equal
+//! values are stored once is stated in `docs/formats.md`, "Canonical layout" ("Equal values are
+//! stored once").
 
 ghost use Rattle.std.specs.Prelude.{◌≡◌, ◌≤◌, ◌-◌, [], ◌∷◌, ◌++◌, length, replicate, IfOk, OnOk, OnErr};
 ghost use Rattle.std.specs.List.{concat};
@@ -21,15 +19,16 @@ use std::alloc::{AllocError, Global};
 /// The bytes of an unfinished payload, and the locators of its items.
 #[derive(Drop)]
 pub(crate) struct Store {
-    /// The payload so far: nothing, or the head of 8 zeros and the items after it.
+    /// The payload so far: no bytes, or the head of 8 zeros and the items after the head.
     pub payload: Vec<u8>,
     /// The locators of the items in the payload.
     pub words: WordPages,
 }
 
 impl Store {
-    /// A store without anything in it.
+    /// A store without bytes and without locators.
     pub(crate) fn new(alloc: Global) -> Store
+        // The payload has no bytes.
         ensures payload { result.payload.items ≡ [] }
         // There are no pages of locators.
         ensures words { pages_of result.words ≡ [] }
@@ -53,25 +52,33 @@ impl Store {
         })
     }
 
-    /// The locator of an item that equals this one, or the slot of the pages at which its own would
-    /// be inserted.
+    /// The locator of a written item that equals the item `parts`. If there is none, the error is
+    /// the slot at which the locator of `parts` would be inserted.
     pub(crate) fn find(&self, parts: &Parts<'_>) -> Result<u64, Slot>
+        // The payload is empty, or begins with its head.
         requires head { IsEmptyOrHasHead self.now.payload.items }
+        // No page is empty.
         requires filled { HaveNoEmptyPage (pages_of self.now.words) }
+        // The locators are in the rising order of their keys.
         requires rising { HaveRisingKeys self.now.payload.items (concat (pages_of self.now.words)) }
+        // Each locator names an item of the payload.
         requires stored { AreStored self.now.payload.items (concat (pages_of self.now.words)) }
+        // On Ok, the locator has the key of the item. An error is the slot between the lower and
+        // the higher keys.
         ensures { IsSearchResult self.now.payload.items (pages_of self.now.words) (key_of parts.now)
             result }
     {
         match Adb::new(&self.payload) {
             Ok(adb) => self.words.find(&adb, parts, parts.fingerprint()),
-            // Nothing was written yet, so there is no head: the first slot.
+            // The payload has no head yet, so it has no items: the locator belongs into the first
+            // slot.
             Err(_) => Err(Slot { page: 0, index: 0 }),
         }
     }
 
-    /// Appends zeros up to an offset and the item there, and inserts its locator, with this word,
-    /// at this slot. If memory runs out, the bytes and the locators are unchanged.
+    /// Appends zeros up to the offset `at`, and then the item `parts`. Inserts the item's locator,
+    /// which has the word `word`, at the slot. If memory runs out, the bytes and the locators are
+    /// unchanged.
     pub(crate) fn append(
         &mut self,
         parts: &Parts<'_>,
@@ -79,9 +86,13 @@ impl Store {
         slot: Slot,
         word: Val,
     ) -> Result<(), AllocError>
+        // The offset is not before the end of the payload.
         requires behind { length self.old.payload.items ≤ at }
+        // No page is empty.
         requires filled { HaveNoEmptyPage (pages_of self.old.words) }
+        // The slot is one of these pages.
         requires inside { IsSlotIn (pages_of self.old.words) slot.page slot.index }
+        // No page is empty.
         ensures filled { HaveNoEmptyPage (pages_of self.new.words) }
         // Zeros up to the offset are appended, and then the item.
         ensures bytes { OnOk result (self.new.payload.items
@@ -92,8 +103,9 @@ impl Store {
             ≡ locators_before_slot (pages_of self.old.words) slot.page slot.index
             ++ locator_of (fingerprint_of parts.now) word
             ∷ locators_from_slot (pages_of self.old.words) slot.page slot.index) }
-        // After an error the bytes and the locators are unchanged.
+        // After an error the bytes are unchanged.
         ensures same_bytes { OnErr result (self.new.payload.items ≡ self.old.payload.items) }
+        // After an error the locators are unchanged.
         ensures same_words { OnErr result
             (concat (pages_of self.new.words) ≡ concat (pages_of self.old.words)) }
     {
@@ -102,6 +114,7 @@ impl Store {
         let entered = self
             .words
             .insert(slot, locator_of(parts.fingerprint(), word));
+        // Without its locator, the item is removed again.
         if entered.is_err() {
             self.payload.truncate(len);
         }

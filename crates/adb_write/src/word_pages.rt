@@ -1,7 +1,8 @@
-//! The locators of the written items, in the order of their keys, so that each can be found.
+//! The locators of the items that a writer has written, in the order of their keys, so that an item
+//! that equals a new one is found. `store` uses them.
 //!
-//! They are in pages of at most 512, so that a new one moves few others. A page and the index in it
-//! are guessed first, and found by bisection if the guess fails.
+//! The locators are in pages of at most 512, so that inserting a locator moves few others. The page
+//! and the index of an item are guessed first, and found by bisection if the guess fails.
 //!
 //! A locator takes eight bytes. A page has room for at most 128 more than it contains, and every
 //! page contains at least 256, unless it is the only one. The lists of pages take at most 64 bytes
@@ -10,10 +11,7 @@
 //! more if there is one page.
 //!
 //! How locators are stored is described in the README of this crate; that equal values are stored
-//! once is stated in `docs/formats.md`, "Canonical layout" ("Equal values are stored once"). In the
-//! clauses `filled` says that no page is empty, and `rising` that locators are in the order of
-//! their keys. `stored` says that each names an item of the payload, and `inside` that a slot is
-//! one of these pages.
+//! once is stated in `docs/formats.md`, "Canonical layout" ("Equal values are stored once").
 
 ghost use Rattle.std.specs.Prelude.{◌≡◌, ◌≤◌, ◌<◌, ℕ, List, [], ◌∷◌, ◌++◌, length, take, drop, insert, IfOk, OnOk, OnErr};
 ghost use Rattle.std.specs.List.{concat};
@@ -32,26 +30,26 @@ use adb_view::Adb;
 use std::alloc::{AllocError, Global};
 use std::cmp::Ordering;
 
-/// The most locators of a page. In a larger page a new locator moves more locators; with smaller
-/// pages there are more of them.
+/// The most locators of a page. Inserting a locator in a larger page moves more locators; smaller
+/// pages are more in number.
 const FULL: usize = 512;
 
-/// How many locators remain in a page that is split; the others are moved to a new one.
+/// How many locators remain in a page that is split. The other locators are moved to a new page.
 const HALF: usize = FULL / 2;
 
-/// For how many more locators a page that grows allocates room.
+/// For how many more locators room is allocated if a page has no room.
 const ROOM: usize = 128;
 
-/// How far around its likely index in a page an item is searched first. The number does not change
-/// the result, since the guess is tested.
+/// An item is first searched among this many locators before, and after, its likely index in a
+/// page. The number does not change the result, since it is tested that the item belongs there.
 const NEARBY: usize = 12;
 
-/// The slot for a locator: the index of its page, and its index in that page.
+/// A slot: the place at which a locator is inserted.
 #[derive(Clone, Copy)]
 pub(crate) struct Slot {
-    /// The index of the page.
+    /// The index of the page, counted from 0.
     pub page: usize,
-    /// The index in the page.
+    /// The index in this page, counted from 0, which the locator gets.
     pub index: usize,
 }
 
@@ -62,12 +60,12 @@ pub(crate) struct WordPages {
     alloc: Global,
     /// The locators of each page.
     pub pages: Vec<Vec<u64>>,
-    /// The first locator of each page again, contiguous in memory.
+    /// A copy of the first locator of each page, contiguous in memory, by which pages are guessed.
     firsts: FirstLocators,
 }
 
 impl WordPages {
-    /// No locators, in no pages.
+    /// No pages.
     pub(crate) fn new(alloc: Global) -> WordPages
         ensures { pages_of result ≡ [] }
     {
@@ -78,16 +76,20 @@ impl WordPages {
         }
     }
 
-    /// The locator of an item equal to this one, which has this fingerprint, or the slot for its
-    /// own.
+    /// The locator of a written item that equals the item `parts`. If there is none, the error is
+    /// the slot for the locator of `parts`. `fingerprint` is the fingerprint of `parts`.
     pub(crate) fn find(
         &self,
         adb: &Adb<'_>,
         parts: &Parts<'_>,
         fingerprint: u64,
     ) -> Result<u64, Slot>
+        // No page is empty.
         requires filled { HaveNoEmptyPage (pages_of self.now) }
+        // The locators are in the rising order of their keys.
         requires rising { HaveRisingKeys (payload_of adb.now) (concat (pages_of self.now)) }
+        // On Ok, the locator has the key of the item. An error is the slot between the lower and
+        // the higher keys.
         ensures { IsSearchResult (payload_of adb.now) (pages_of self.now)
             (key_with_fingerprint fingerprint parts.now)
             result }
@@ -102,14 +104,18 @@ impl WordPages {
         }
     }
 
-    /// The page in which an item is looked for: the last that does not begin after the item, or the
-    /// first.
+    /// The index of the page in which the item `parts` is searched: the last page that does not
+    /// begin with a higher key, or the first page. `fingerprint` is the fingerprint of `parts`.
     fn page_of(&self, adb: &Adb<'_>, parts: &Parts<'_>, fingerprint: u64) -> usize
+        // No page is empty.
         requires filled { HaveNoEmptyPage (pages_of self.now) }
+        // The locators are in the rising order of their keys.
         requires rising { HaveRisingKeys (payload_of adb.now) (concat (pages_of self.now)) }
+        // The page is the one into which a locator with the key of the item belongs.
         ensures { IsPageFor (payload_of adb.now) (pages_of self.now)
             (key_with_fingerprint fingerprint parts.now) result }
     {
+        // Try the page that the fingerprint suggests. If it is another one, find it by bisection.
         let likely = self.firsts.page_of(fingerprint);
         if self.is_page_of(likely, adb, parts, fingerprint) {
             return likely;
@@ -119,9 +125,10 @@ impl WordPages {
             .saturating_sub(1)
     }
 
-    /// Whether an item belongs into a page: the page does not begin after the item, and the next
-    /// one, if there is one, does.
+    /// Whether the item `parts` belongs into the page with the index `page`: this page does not
+    /// begin with a higher key than the item's, and the next page, if there is one, does.
     fn is_page_of(&self, page: usize, adb: &Adb<'_>, parts: &Parts<'_>, fingerprint: u64) -> bool
+        // On true, the page begins at or below the key of the item, and the next page above it.
         ensures { OnTrue result (IsPageAt (payload_of adb.now) (pages_of self.now)
             (key_with_fingerprint fingerprint parts.now) page) }
     {
@@ -139,8 +146,11 @@ impl WordPages {
 
     /// Inserts a locator at a slot. If memory runs out, the locators are unchanged.
     pub(crate) fn insert(&mut self, slot: Slot, locator: u64) -> Result<(), AllocError>
+        // No page is empty.
         requires filled { HaveNoEmptyPage (pages_of self.old) }
+        // The slot is one of these pages.
         requires inside { IsSlotIn (pages_of self.old) slot.page slot.index }
+        // No page is empty.
         ensures filled { HaveNoEmptyPage (pages_of self.new) }
         // The locator is inserted at the slot.
         ensures ok { OnOk result (concat (pages_of self.new)
@@ -158,10 +168,11 @@ impl WordPages {
         Ok(())
     }
 
-    /// Makes the first page, of one locator.
+    /// Makes the first page, which has only this locator.
     fn begin(&mut self, locator: u64) -> Result<(), AllocError>
+        // There are no pages yet.
         requires { pages_of self.old ≡ [] }
-        // There is one page, of this locator.
+        // On Ok, there is one page, with only this locator.
         ensures ok { OnOk result (pages_of self.new ≡ (locator ∷ []) ∷ []) }
         // After an error there is still no page.
         ensures err { OnErr result (pages_of self.new ≡ []) }
@@ -173,14 +184,20 @@ impl WordPages {
         Ok(())
     }
 
-    /// Splits the page of a slot if it is full, and returns the new slot.
+    /// Splits the page of a slot if the page is full. The result is the slot between the same
+    /// locators as before.
     fn make_room(&mut self, slot: Slot) -> Result<Slot, AllocError>
+        // No page is empty.
         requires filled { HaveNoEmptyPage (pages_of self.old) }
+        // The slot is one of these pages.
         requires inside { IsSlotIn (pages_of self.old) slot.page slot.index }
+        // There is at least one page.
         requires some { 0 < length (pages_of self.old) }
+        // No page is empty.
         ensures filled { HaveNoEmptyPage (pages_of self.new) }
+        // There is at least one page.
         ensures some { 0 < length (pages_of self.new) }
-        // The new slot is between the same locators.
+        // On Ok, the new slot is between the same locators as the old one.
         ensures ok { IfOk result
             (λ there. IsSameSlot (pages_of self.old) slot (pages_of self.new) there) }
         // After an error the pages are unchanged.
@@ -199,11 +216,14 @@ impl WordPages {
         })
     }
 
-    /// Moves the upper half of a full page into a page of its own.
+    /// Splits the page with the index `page`: the locators after the first `HALF` are moved to a
+    /// new page, which follows it.
     fn split(&mut self, page: usize) -> Result<(), AllocError>
+        // There is a page with this index.
         requires inside { page < length (pages_of self.old) }
+        // The page has more than half of the most locators.
         requires full { HALF < length (page_at (pages_of self.old) page) }
-        // The page is split in two.
+        // On Ok, the page is split in two.
         ensures ok { OnOk result (pages_of self.new ≡ with_page_split (pages_of self.old) page) }
         // After an error the pages are unchanged.
         ensures err { OnErr result (pages_of self.new ≡ pages_of self.old) }
@@ -219,8 +239,9 @@ impl WordPages {
     }
 }
 
-/// Inserts a locator at an index of a page, which grows by little if it has no room.
+/// Inserts a locator at an index of a page. If the page has no room, it gets room for `ROOM` more.
 fn insert_in_page(page: &mut Vec<u64>, index: usize, locator: u64) -> Result<(), AllocError>
+    // The index is that of a locator, or just after the last one.
     requires { index ≤ length page.old.items }
     // The locator is inserted at the index.
     ensures ok { OnOk result (page.new.items ≡ insert page.old.items index locator) }
@@ -234,8 +255,10 @@ fn insert_in_page(page: &mut Vec<u64>, index: usize, locator: u64) -> Result<(),
     Ok(())
 }
 
-/// Whether an item precedes the one that a locator names, in the order of keys.
+/// Whether the key of the item `parts` is less than the key of the item that a locator names.
+/// `fingerprint` is the fingerprint of `parts`.
 fn is_before(adb: &Adb<'_>, parts: &Parts<'_>, fingerprint: u64, locator: u64) -> bool
+    // The order of the items is that of their keys.
     ensures { result ≡ is_lt (slice_cmp nat_cmp (key_with_fingerprint fingerprint parts.now)
         (key_of_locator (payload_of adb.now) locator)) }
 {
@@ -245,8 +268,10 @@ fn is_before(adb: &Adb<'_>, parts: &Parts<'_>, fingerprint: u64, locator: u64) -
     }
 }
 
-/// Whether a page begins after an item, in the order of keys.
+/// Whether the first locator of a page has a higher key than the item `parts`, whose fingerprint is
+/// `fingerprint`; false for an empty page.
 fn begins_after(page: &[u64], adb: &Adb<'_>, parts: &Parts<'_>, fingerprint: u64) -> bool
+    // The result is that of the definition, for the key of the item.
     ensures { result ≡ page_begins_above_key (payload_of adb.now)
         (key_with_fingerprint fingerprint parts.now) page.now }
 {
@@ -256,27 +281,34 @@ fn begins_after(page: &[u64], adb: &Adb<'_>, parts: &Parts<'_>, fingerprint: u64
     }
 }
 
-/// The index in a page of an item equal to this one, or the one at which its own would be inserted.
-/// The search begins near its likely index, so that few bytes of a page are read.
+/// The index in a page of the locator of an item that equals `parts`. If there is none, the error
+/// is the index at which the locator of `parts` would be inserted. The search begins near the
+/// likely index, so that few bytes of a page are read.
 fn search(page: &[u64], adb: &Adb<'_>, parts: &Parts<'_>, fingerprint: u64) -> Result<usize, usize>
+    // The locators of the page are in the rising order of their keys.
     requires rising { HaveRisingKeys (payload_of adb.now) page.now }
+    // On Ok, the locator at the index has the key of the item. An error is the index between the
+    // lower and the higher keys.
     ensures { IsPageSearchResult (payload_of adb.now) page.now
         (key_with_fingerprint fingerprint parts.now) result }
 {
+    // Only the locators from `from` to `to` can have this fingerprint.
     let likely = likely_index(page, fingerprint);
     let from = lower_end(page, fingerprint, likely);
     let to = upper_end(page, fingerprint, likely);
     let near = &page[from..to];
-    // `compare` has the order of the item and a written one. The search needs the order of the
-    // written one and the item, so each result is reversed.
+    // `compare` gives the order of the item `parts` and a written item. The search needs the order
+    // of the written item and `parts`, so each result is reversed.
     match near.binary_search_by(|it| parts.compare(fingerprint, adb, *it).reverse()) {
         Ok(index) => Ok(from + index),
         Err(index) => Err(from + index),
     }
 }
 
-/// The index of an item with this fingerprint if the fingerprints of a page had equal distances.
+/// The index at which a locator with this fingerprint would be if the fingerprints of the page had
+/// equal distances.
 fn likely_index(page: &[u64], fingerprint: u64) -> usize
+    // The index is at most the number of locators.
     ensures { result ≤ length page.now }
 {
     let (Some(first), Some(last)) = (page.first(), page.last()) else {
@@ -290,15 +322,16 @@ fn likely_index(page: &[u64], fingerprint: u64) -> usize
     if fingerprint >= high {
         return page.len();
     }
-    // If the product does not fit in 64 bits, only the guess is a bad one.
+    // If the product does not fit in 64 bits, the guess is bad, but the search still succeeds.
     let index = (fingerprint - low).wrapping_mul(page.len() as u64) / (high - low);
     page.len().min(index as usize)
 }
 
-/// An index before which all locators have lower fingerprints, at or before the likely one.
+/// An index, at most `likely`, before which all locators have lower fingerprints.
 fn lower_end(page: &[u64], fingerprint: u64, likely: usize) -> usize
+    // The index is not after the likely one.
     ensures inside { result ≤ likely }
-    // All locators before the result have lower keys, if those of the page are in order.
+    // If the keys of the page are in order, all locators before the result have lower keys.
     ensures lower { (payload content : List ℕ) → HaveRisingKeys payload page.now
         → AllCompareToKey Greater payload (fingerprint ∷ content) (take result page.now) }
 {
@@ -309,12 +342,15 @@ fn lower_end(page: &[u64], fingerprint: u64, likely: usize) -> usize
     }
 }
 
-/// An index from which on all locators have higher fingerprints, at or after the likely one.
+/// An index, at least `likely`, from which on all locators have higher fingerprints.
 fn upper_end(page: &[u64], fingerprint: u64, likely: usize) -> usize
+    // The likely index is at most the number of locators.
     requires { likely ≤ length page.now }
+    // The index is at most the number of locators.
     ensures inside { result ≤ length page.now }
+    // The index is not before the likely one.
     ensures behind { likely ≤ result }
-    // All locators from the result on have higher keys, if those of the page are in order.
+    // If the keys of the page are in order, all locators from the result on have higher keys.
     ensures higher { (payload content : List ℕ) → HaveRisingKeys payload page.now
         → AllCompareToKey Less payload (fingerprint ∷ content) (drop result page.now) }
 {

@@ -17,20 +17,23 @@ file_differences files packages =
     flat_map (λ r. path_difference_if_any r.path (difference_from_entry r.entry (files r.path)))
     (records_by_path packages)
 
--- one of the packages lists the file of a record
+-- r is the record of a file that one of the packages lists
 pub record IsRecordOfPackages (packages : List Plain) (r : PathAndEntry) : Type 0 where
-  -- an installed package
+  -- the package that lists the file
   pub pkg : Plain
+  -- it is one of the packages
   pub installed : IsIn pkg packages
-  -- the record is one of this package
+  -- r is one of the records of this package
   pub listed : IsIn r (package_records pkg)
 
--- what is found under a path differs from the entry in this way
+-- a file differs from its entry in this way, given what is found under its path: no file, or bytes that are not as the
+-- entry lists them
 abbrev pub DiffersFromEntry : Difference → Plain → Option (List ℕ) → Type 0
 DiffersFromEntry Missing entry found = found ≡ None
 DiffersFromEntry Changed entry found = IsSomeAnd found (λ bytes. is_as_listed entry bytes ≡ false)
 
--- one of the packages lists a file under this path, and the file differs so from its entry
+-- d is a difference: one of the packages lists a file under the path of d, and among `files` this file differs from its
+-- entry as d says
 pub record IsDifferenceIn (packages : List Plain) (files : Files) (d : FileDifference) : Type 0 where
   -- the entry of the file in its package
   pub entry : Plain

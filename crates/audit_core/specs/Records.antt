@@ -10,15 +10,14 @@ use Rattle.adb_view.specs.Plain.{Plain}
 use Rattle.base_core.specs.ByteOrder.{bytes_cmp}
 use Rattle.base_core.specs.Sorted.{sorted_by}
 
--- the record of a file: the path that a package lists, and the entry, which says what bytes the
--- file has
+-- the record of a file that a package lists: its path, and its entry, which has its digest, link target and size
 pub record PathAndEntry : Type 0 where
   -- the path of the file
   pub path : List ℕ
   -- the package's entry of the file, as a plain value
   pub entry : Plain
 
--- the record of a file in the folder of this name
+-- the record of a file, given the name of its folder and its entry
 abbrev pub file_record : List ℕ → Plain → PathAndEntry
 file_record folder entry = record { path = path_of folder (name_of entry); entry = entry }
 

@@ -1,5 +1,5 @@
--- What the values of the program mean. No rule of a document: serves the contracts of
--- `src/records.rt` and `src/comparing.rt`.
+-- What the stored records and the comparisons of the program mean in the definitions. No rule of a document: serves the
+-- contracts of `src/records.rt` and `src/comparing.rt`.
 use Rattle.std.specs.Prelude.{Option, Some, None, if◌then◌else◌}
 use Rattle.adb_view.specs.Values.{value_at}
 use Rattle.adb_view.specs.declared.tables.Kind.TheVariants as Kinds
@@ -17,7 +17,8 @@ record_seen r = record {
   entry = value_at r.payload (Kinds.Obj Tables.File) r.word;
 }
 
--- how a file differs, by how it compares with its entry; None if it does not differ
+-- how a file differs from its entry, given how the program compared them: `comparison` is None if there is no file. The
+-- result is None if the file does not differ
 abbrev pub difference_for_comparison : Option Comparison → Option Difference
 difference_for_comparison None = Some Missing
 difference_for_comparison (Some comparison) = if comparison.as_new then None else Some Changed

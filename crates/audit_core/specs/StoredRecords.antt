@@ -2,12 +2,12 @@
 -- `src/records.rt`.
 use Rattle.std.specs.Prelude.{ℕ, List}
 
--- the path of a file, and its entry as it is stored: the payload of a container, and the encoded 32-bit
--- value (`word`) that stands for the entry there
+-- the record of a file, whose entry is not yet read: the payload of a container, and the word (32-bit reference) that
+-- refers to the entry in this payload
 pub record StoredRecord : Type 0 where
   -- the path of the file
   pub path : List ℕ
   -- the bytes of the payload that has the entry
   pub payload : List ℕ
-  -- the 32-bit value that refers to the entry there
+  -- the word that refers to the entry in the payload
   pub word : ℕ

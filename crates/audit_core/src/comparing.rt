@@ -1,5 +1,6 @@
-//! `audit`: each file that the packages of a database list is compared with its record. The rules
-//! are in `docs/commands.md`, "`audit`".
+//! The command `audit`, which compares each file that the packages of a database list with its
+//! record (the path, and the package's entry of the file). The rules are in `docs/commands.md`,
+//! "`audit`".
 
 ghost use Rattle.audit_core.specs.Audit.{audit_report, path_difference_if_any, difference_from_entry, difference_line, difference_text, differences_from};
 ghost use Rattle.audit_core.specs.Seen.{difference_for_comparison, record_seen};
@@ -29,20 +30,20 @@ pub enum Difference {
     Changed,
 }
 
-/// Compares each file that the packages of a database list with its record, and reports those that
-/// differ: `X PATH` of a file that is missing, `U PATH` of one with other bytes, in byte order of
-/// the paths. Each file is read once, in pieces of 65,536 bytes, and the tree is left as it
-/// is, whatever the answer. Memory holds a few machine words for each listed file, and the report.
+/// Compares each file that the packages of a database list with its record, and reports the files
+/// that differ, in byte order of their paths: `X PATH` for a missing file, `U PATH` for a file with
+/// other bytes. Each file is read once, in pieces of 65,536 bytes. The tree is not changed,
+/// whatever the answer is. The memory has a few machine words for each listed file, and the report.
 ///
 /// # Errors
 ///
-/// `Disk` if the tree failed, and `Memory`.
+/// `Disk` if a call on the tree failed, `Memory` if memory ran out.
 pub fn audit<T: Tree>(alloc: Global, db: &Db<'_>, tree: &mut T) -> Result<Text, TreeFault>
-    // For each number `first` there are reads, numbered from it, that give this report. If the
-    // tree's files are observable, the reads find these files.
+    // On Ok, for each number `first`, there are results of reads, numbered from `first` on, by
+    // which the definition gives this report. If the tree is observable, the reads find its files.
     ensures report { (first : ℕ) → IsExplainedBySomeReads (T.history tree.old) (λ read.
         IfOk result (λ report. report ≡ audit_report read first (packages_of db.now))) }
-    // The tree is only read; a fault of it has its cause.
+    // The tree is only read. A failed call on it is reported with its cause.
     ensures tree { OnlyReads TreeFault.Disk (T.history tree.old) (T.history tree.new)
         (T.counts tree.old) (T.counts tree.new) result }
 {
@@ -53,22 +54,26 @@ pub fn audit<T: Tree>(alloc: Global, db: &Db<'_>, tree: &mut T) -> Result<Text, 
     Ok(Text::from_vec(report))
 }
 
-// The lines of the files that differ from their records, in the order of these.
+// The lines of the files that differ from their records, in the order of the records.
 fn audit_records<T: Tree>(
     alloc: Global,
     records: &[Record<'_>],
     tree: &mut T,
 ) -> Result<Vec<u8>, TreeFault>
+    // The path of each record is a valid name.
     requires { All (λ r. IsName r.path) (map record_seen records.now) }
-    // The report has a line for each record whose file differs.
+    // On Ok, the report has a line for each record whose file differs, by results of reads as in
+    // `audit`.
     ensures report { (first : ℕ) → IsExplainedBySomeReads (T.history tree.old) (λ read.
         IfOk result (λ report. report.items ≡ flat_map difference_line
         (differences_from read first (map record_seen records.now)))) }
+    // The tree is only read. A failed call on it is reported with its cause.
     ensures tree { OnlyReads TreeFault.Disk (T.history tree.old) (T.history tree.new)
         (T.counts tree.old) (T.counts tree.new) result }
 {
     let mut report = Vec::new(alloc);
-    // One buffer for all files: to zero one for each small file takes longer than to read the file.
+    // All files are read into one buffer. To zero a new buffer takes longer than to read a small
+    // file.
     let mut piece = [0; PIECE_LEN];
     for record in records {
         audit_record(alloc, &mut report, record, tree, &mut piece)?;
@@ -76,8 +81,8 @@ fn audit_records<T: Tree>(
     Ok(report)
 }
 
-// Adds the line of a file, if it differs from its record. The file is read into the buffer `piece`,
-// whose contents before do not matter.
+// Adds the line of a file, if the file differs from its record. The file is read into the buffer
+// `piece`, whose bytes before do not matter.
 fn audit_record<T: Tree>(
     alloc: Global,
     report: &mut Vec<u8>,
@@ -85,14 +90,17 @@ fn audit_record<T: Tree>(
     tree: &mut T,
     piece: &mut [u8; PIECE_LEN],
 ) -> Result<(), TreeFault>
+    // The path of the record is a valid name.
     requires { IsName (record_seen record.now).path }
-    // A line is appended if the file that is found differs from the record.
+    // On Ok, a line is appended if the file `found` differs from the record. If the tree is
+    // observable, `found` is the file under the path in the record, or None if there is none.
     ensures line { (found : Option (List ℕ))
         × IfObservable (T.history tree.old)
         (λ v. found ≡ files_of v (record_seen record.now).path)
         × OnOk result (report.new.items ≡ report.old.items ++ flat_map difference_line
         (path_difference_if_any (record_seen record.now).path
         (difference_from_entry (record_seen record.now).entry found))) }
+    // The tree is only read. A failed call on it is reported with its cause.
     ensures tree { OnlyReads TreeFault.Disk (T.history tree.old) (T.history tree.new)
         (T.counts tree.old) (T.counts tree.new) result }
 {
@@ -106,8 +114,8 @@ fn audit_record<T: Tree>(
     Ok(())
 }
 
-// How a file differs from its record, by how it compares with the entry; None if it does not
-// differ.
+// How a file differs from its record; None if it does not differ. `found` is how the file compares
+// with the entry in the record, or None if there is no file.
 fn difference_for_comparison(found: Option<Comparison>) -> Option<Difference>
     ensures { result ≡ difference_for_comparison found }
 {
@@ -124,9 +132,11 @@ fn push_difference(
     difference: Difference,
     path: &[u8],
 ) -> Result<(), AllocError>
+    // On Ok, the text of the definition is appended.
     ensures { OnOk result (report.new.items
         ≡ report.old.items ++ report_line (difference_text difference path.now)) }
 {
+    // The letter and the space before the path.
     let mark: &[u8] = match difference {
         Difference::Missing => b"X ",
         Difference::Changed => b"U ",

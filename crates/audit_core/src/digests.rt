@@ -1,5 +1,5 @@
-//! `manifest`: the digest and path of each file of some packages. The rules are in
-//! `docs/commands.md`, "`manifest`".
+//! The command `manifest`, which prints the digest and path of each file of some packages. The
+//! rules are in `docs/commands.md`, "`manifest`".
 
 ghost use Rattle.path_clashes.specs.adb_fields.ListValue.{list_value};
 ghost use Rattle.path_clashes.specs.adb_fields.Repeated.{list_of};
@@ -36,13 +36,14 @@ const SHA512_LEN: usize = 64;
 ///
 /// # Errors
 ///
-/// Within the answer `NotInstalled` at the first operand that names no installed package. Else out
-/// of memory.
+/// The inner error is `NotInstalled`, at the first operand that names no installed package. The
+/// outer error is out of memory.
 pub fn manifest(
     alloc: Global,
     db: &Db<'_>,
     names: &Operands,
 ) -> Result<Result<Text, Refusal>, AllocError>
+    // On Ok, the answer is that of the definition: the lines, or the refusal.
     ensures { IfOk result (λ answer. answer ≡ manifest_of (packages_of db.now) names.now) }
 {
     let mut report = Vec::new(alloc);
@@ -60,9 +61,9 @@ pub fn manifest(
     Ok(Ok(Text::from_vec(report)))
 }
 
-// Adds the lines of the package at a place, counted from 0. The mark serves the borrow checker
-// alone, which does not know the parts of a view that is made and lent here unless the signature
-// names the view as an argument.
+// Adds the lines of the package with the index `place`, counted from 0. `_mark` serves the borrow
+// checker alone: it does not know the parts of a view that is made and lent here, unless the
+// signature has the view's type.
 fn push_package<'a>(
     alloc: Global,
     report: &mut Vec<u8>,
@@ -70,7 +71,9 @@ fn push_package<'a>(
     place: usize,
     _mark: PhantomData<PackageView<'a>>,
 ) -> Result<(), AllocError>
+    // There is a package at this place.
     requires { place < length (packages_of db.now) }
+    // On Ok, the text of the definition is appended.
     ensures { OnOk result (report.new.items ≡ report.old.items
         ++ option_map_or package_manifest (slice_get (packages_of db.now) place) []) }
 {
@@ -84,7 +87,7 @@ fn push_folders<'a>(
     report: &mut Vec<u8>,
     folders: &List<'a, DirInfo<'a>>,
 ) -> Result<(), AllocError>
-    // The line of each file of these folders is appended.
+    // On Ok, the line of each file of these folders is appended.
     ensures { OnOk result (report.new.items ≡ report.old.items ++ flat_map manifest_line
         (flat_map folder_records (list_of (entries_in (list_value folders.now))))) }
 {
@@ -94,33 +97,37 @@ fn push_folders<'a>(
     Ok(())
 }
 
-// Adds the lines of the files of the folder at a place, counted from 0.
+// Adds the lines of the files of the folder with the index `i`, counted from 0.
 fn push_folder<'a>(
     alloc: Global,
     report: &mut Vec<u8>,
     folders: &List<'a, DirInfo<'a>>,
     i: usize,
 ) -> Result<(), AllocError>
+    // There is a folder at this place.
     requires { i < count_of (entries_in (list_value folders.now)) }
+    // On Ok, the text of the definition is appended.
     ensures { OnOk result (report.new.items ≡ report.old.items
         ++ flat_map manifest_line (folder_records (entry_in (list_value folders.now) i))) }
 {
-    // Excluded by the contract; `len` says that a list has fewer than 2^32 entries.
+    // The precondition excludes this. The call of `len` tells the checker that a list has fewer
+    // than 2^32 entries.
     if i >= folders.len() {
         unreachable!();
     }
+    // `get` counts from 1.
     let folder = folders.get(i + 1);
     push_files(alloc, report, folder.name(), &folder.files())
 }
 
-// Adds the lines of the files of the folder with a name, in their order.
+// Adds the lines of files in their order. `folder` is the name of their folder.
 fn push_files<'a>(
     alloc: Global,
     report: &mut Vec<u8>,
     folder: &[u8],
     files: &List<'a, FileInfo<'a>>,
 ) -> Result<(), AllocError>
-    // The line of each of these files of the folder is appended.
+    // On Ok, the line of each of these files is appended.
     ensures { OnOk result (report.new.items ≡ report.old.items ++ flat_map manifest_line
         (map (file_record folder.now) (list_of (entries_in (list_value files.now))))) }
 {
@@ -130,7 +137,7 @@ fn push_files<'a>(
     Ok(())
 }
 
-// Adds the line of the file at a place of the folder with a name, counted from 0.
+// Adds the line of the file with the index `i`, counted from 0. `folder` is the name of its folder.
 fn push_file<'a>(
     alloc: Global,
     report: &mut Vec<u8>,
@@ -138,14 +145,18 @@ fn push_file<'a>(
     files: &List<'a, FileInfo<'a>>,
     i: usize,
 ) -> Result<(), AllocError>
+    // There is a file at this place.
     requires { i < count_of (entries_in (list_value files.now)) }
+    // On Ok, the text of the definition is appended.
     ensures { OnOk result (report.new.items ≡ report.old.items
         ++ manifest_line (file_record folder.now (entry_in (list_value files.now) i))) }
 {
-    // Excluded by the contract; `len` says that a list has fewer than 2^32 entries.
+    // The precondition excludes this. The call of `len` tells the checker that a list has fewer
+    // than 2^32 entries.
     if i >= files.len() {
         unreachable!();
     }
+    // `get` counts from 1.
     let file = files.get(i + 1);
     push_digest(alloc, report, file.hashes())?;
     report.extend_from_slice(b"  ")?;
@@ -154,6 +165,7 @@ fn push_file<'a>(
 
 // Adds a digest with the name of its function, which its length determines.
 fn push_digest(alloc: Global, report: &mut Vec<u8>, digest: &[u8]) -> Result<(), AllocError>
+    // On Ok, the text of the definition is appended.
     ensures { OnOk result (report.new.items ≡ report.old.items
         ++ digest_with_algorithm_name digest.now) }
 {
@@ -168,13 +180,14 @@ fn push_digest(alloc: Global, report: &mut Vec<u8>, digest: &[u8]) -> Result<(),
     }
 }
 
-// Adds the name of a function and a digest in hexadecimal digits.
+// Adds `function`, the name of a hash function with a colon, and the digest in hexadecimal digits.
 fn push_digits(
     alloc: Global,
     report: &mut Vec<u8>,
     function: &[u8],
     digest: &[u8],
 ) -> Result<(), AllocError>
+    // On Ok, the text of the definition is appended.
     ensures { OnOk result (report.new.items
         ≡ report.old.items ++ (function.now ++ encode_lower digest.now)) }
 {
@@ -184,9 +197,10 @@ fn push_digits(
     Ok(())
 }
 
-// Adds the path of a file and a line end; the root folder has the empty name, and no `/` follows
-// it.
+// Adds the path of the file `name` in the folder `folder`, and a line end. The root folder has the
+// empty name; then the path has no `/` before the file's name.
 fn push_path(report: &mut Vec<u8>, folder: &[u8], name: &[u8]) -> Result<(), AllocError>
+    // On Ok, the text of the definition is appended.
     ensures { OnOk result (report.new.items
         ≡ report.old.items ++ report_line (path_of folder.now name.now)) }
 {

@@ -1,4 +1,5 @@
-//! What follows of the reports of `audit`. The rules are in `docs/commands.md`, "`audit`".
+//! Laws about the reports of `audit`: that they list exactly the files that differ. The rules are
+//! in `docs/commands.md`, "`audit`".
 
 ghost use Rattle.path_clashes.specs.adb_fields.FirstPair.{IsIn};
 ghost use Rattle.path_clashes.specs.adb_fields.Repeated.{entries_at};
@@ -14,35 +15,35 @@ ghost use Rattle.package_files.specs.make_info.Reads.{Reads};
 ghost use Rattle.std.specs.List.{flat_map};
 ghost use Rattle.std.specs.Prelude.{◌≡◌, ◌≤◌, ◌↔◌, [], ℕ, List, map};
 
-/// The report of an audit depends only on the reads from its first one on, and not on what the
-/// command reads before them.
+/// The report of an audit depends only on the reads from the number `first` on, and not on what the
+/// command reads before.
 pub fn audits_depend_on_their_own_reads()
     ensures { (read other : Reads) (first : ℕ) (packages : List Plain)
         → ((n : ℕ) (name : List ℕ) → first ≤ n → read n name ≡ other n name)
         → audit_report read first packages ≡ audit_report other first packages }
 {}
 
-/// If the reads find files as they are, the report of an audit has a line for each file that
-/// differs from its record: an installed package lists it, and it is missing or has other bytes
-/// than its entry lists. No other file has a line. The paths rise in byte order, so each has one
-/// line.
+/// If each read finds the file as it is, the report of an audit has a line for each file that
+/// differs from its record: a package lists the file, and it is missing or has other bytes than the
+/// entry lists. No other file has a line. The lines of a sound database are in byte order of their
+/// paths, and no path has two lines.
 pub fn an_audit_reports_just_the_files_that_differ()
-    // The report is the lines of the differences.
+    // The report consists of the lines of `file_differences`.
     ensures report { (files : Files) (read : Reads) (first : ℕ) (packages : List Plain)
         → ((n : ℕ) (name : List ℕ) → read n name ≡ files name)
         → audit_report read first packages
         ≡ flat_map difference_line (file_differences files packages) }
-    // Each of these is one, and none is left out.
+    // Each of `file_differences` is a difference of a listed file, and none is left out.
     ensures each { (files : Files) (packages : List Plain) (d : FileDifference)
         → IsIn d (file_differences files packages) ↔ IsDifferenceIn packages files d }
-    // Of a sound database each path is reported once, in byte order.
+    // For a sound database, `file_differences` has each path at most once, in byte order.
     ensures rising { (files : Files) (database : Plain) → IsSoundValue Idb database
         → AreSortedDistinctNames (map (λ d. d.path)
         (file_differences files (entries_at IDB_PACKAGES database))) }
 {}
 
-/// If the reads find files as they are, an audit reports nothing exactly if each file that a
-/// package lists is as recorded.
+/// Each read finds the file as it is. Then the report of an audit is empty exactly if each file
+/// that a package lists is there, with bytes as its entry lists them.
 pub fn an_audit_reports_nothing_if_all_is_as_recorded()
     ensures { (files : Files) (read : Reads) (first : ℕ) (packages : List Plain)
         → ((n : ℕ) (name : List ℕ) → read n name ≡ files name)

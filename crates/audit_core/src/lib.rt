@@ -1,9 +1,9 @@
 //! `audit` and `manifest` (apk(8)): the installed files that differ from their records, and the
 //! digests of the files of packages.
 //!
-//! The contract of `audit` cites `Audit` of `specs/`, that of `manifest` cites `Manifest`; both
-//! rest on `Records`. The laws cite `Differences`. The rules are in `docs/commands.md`, "`audit`"
-//! and "`manifest`".
+//! The contract of `audit` cites `Audit` of `specs/`, and that of `manifest` cites `Manifest`. Both
+//! use `Records`: the path and the entry of each file that a package lists. The laws cite
+//! `Differences`. The rules are in `docs/commands.md`, "`audit`" and "`manifest`".
 #![tactic(auto)]
 
 mod comparing;

@@ -1,5 +1,6 @@
-//! The records of the files that the packages of a database list, in byte order of their paths. The
-//! rules are in `docs/formats.md`, "Schemas", tables 4, 5, 7 and 9.
+//! The records of the files that the packages of a database list, in byte order of their paths.
+//! `audit` compares files with them. The rules are in `docs/formats.md`, "Schemas", tables 4, 5, 7
+//! and 9.
 
 ghost use Rattle.path_clashes.specs.adb_fields.ListValue.{list_value};
 ghost use Rattle.path_clashes.specs.adb_fields.Repeated.{list_of};
@@ -23,7 +24,7 @@ use std::marker::{Model, PhantomData};
 pub(crate) struct Record<'a> {
     /// The path of the file.
     pub(crate) path: FilePath<'a>,
-    /// The entry, which says what bytes the file has.
+    /// The package's entry of the file, which has the digest, link target and size of the file.
     pub(crate) file: FileInfo<'a>,
 }
 
@@ -38,24 +39,27 @@ impl<'a> Model for Record<'a> {
 
     ghost Value = { StoredRecord };
 
+    // In contracts a record is its path, and the payload and the word of its entry.
     ghost view = { λ r. record {
       path = joined_path r.path;
       payload = payload_of r.file.adb;
       word = r.file.word;
     } };
 
+    // The word of the entry has a plain value: the entry of a file.
     ghost invariant = { λ r. is_sound (payload_of r.file.adb) (Kinds.Obj Tables.File) r.file.word
         ≡ true };
 }
 
 /// The records of all files that the packages of a database list, in byte order of their paths. A
-/// record takes a few machine words of memory, and the paths are compared as a sort does.
+/// record takes a few machine words of memory.
 ///
 /// # Errors
 ///
 /// Out of memory.
 #[tactic(auto, unfolding(crate::specs::Records::records_by_path))]
 pub(crate) fn records_by_path<'a>(alloc: Global, db: &Db<'a>) -> Result<Vec<Record<'a>>, AllocError>
+    // On Ok, the records are those of the definition.
     ensures { IfOk result (λ records. map record_seen records.items
         ≡ records_by_path (packages_of db.now)) }
 {
@@ -64,8 +68,9 @@ pub(crate) fn records_by_path<'a>(alloc: Global, db: &Db<'a>) -> Result<Vec<Reco
     Ok(records)
 }
 
-// Puts records into byte order of their paths.
+// Sorts records into byte order of their paths.
 fn sort_records(records: &mut Vec<Record<'_>>) -> Result<(), AllocError>
+    // On Ok, the records are sorted by their paths; records with equal paths keep their order.
     ensures { IfOk result (λ _. map record_seen records.new.items
         ≡ sorted_by record_cmp (map record_seen records.old.items)) }
 {
@@ -75,6 +80,7 @@ fn sort_records(records: &mut Vec<Record<'_>>) -> Result<(), AllocError>
 
 // The records of all files, in the order of packages, folders and files.
 fn database_records<'a>(alloc: Global, db: &Db<'a>) -> Result<Vec<Record<'a>>, AllocError>
+    // On Ok, the records are those of the definition.
     ensures { IfOk result (λ records. map record_seen records.items
         ≡ database_records (packages_of db.now)) }
 {
@@ -85,17 +91,18 @@ fn database_records<'a>(alloc: Global, db: &Db<'a>) -> Result<Vec<Record<'a>>, A
     Ok(records)
 }
 
-// Adds the records of the package at a place, counted from 0. The mark serves the borrow checker
-// alone, which does not know the parts of a view that is made and lent here unless the signature
-// names the view as an argument.
+// Adds the records of the package with the index `i`, counted from 0. `_mark` serves the borrow
+// checker alone: it does not know the parts of a view that is made and lent here, unless the
+// signature has the view's type.
 fn add_package<'a>(
     records: &mut Vec<Record<'a>>,
     db: &Db<'a>,
     i: usize,
     _mark: PhantomData<PackageView<'a>>,
 ) -> Result<(), AllocError>
+    // There is a package at this place.
     requires { i < length (packages_of db.now) }
-    // The records of the package at this place are appended.
+    // On Ok, the records of the package at this place are appended.
     ensures { OnOk result (map record_seen records.new.items ≡ map record_seen records.old.items
         ++ option_map_or package_records (slice_get (packages_of db.now) i) []) }
 {
@@ -108,7 +115,7 @@ fn add_folders<'a>(
     records: &mut Vec<Record<'a>>,
     folders: &List<'a, DirInfo<'a>>,
 ) -> Result<(), AllocError>
-    // The records of the files of all these folders are appended.
+    // On Ok, the records of the files of all these folders are appended.
     ensures { OnOk result (map record_seen records.new.items ≡ map record_seen records.old.items
         ++ flat_map folder_records (list_of (entries_in (list_value folders.now)))) }
 {
@@ -118,32 +125,35 @@ fn add_folders<'a>(
     Ok(())
 }
 
-// Adds the records of the files of the folder at a place, counted from 0.
+// Adds the records of the files of the folder with the index `i`, counted from 0.
 fn add_folder<'a>(
     records: &mut Vec<Record<'a>>,
     folders: &List<'a, DirInfo<'a>>,
     i: usize,
 ) -> Result<(), AllocError>
+    // There is a folder at this place.
     requires { i < count_of (entries_in (list_value folders.now)) }
-    // The records of the files of one of these folders are appended.
+    // On Ok, the records of the files of this folder are appended.
     ensures { OnOk result (map record_seen records.new.items ≡ map record_seen records.old.items
         ++ folder_records (entry_in (list_value folders.now) i)) }
 {
-    // Excluded by the contract; `len` says that a list has fewer than 2^32 entries.
+    // The precondition excludes this. The call of `len` tells the checker that a list has fewer
+    // than 2^32 entries.
     if i >= folders.len() {
         unreachable!();
     }
+    // `get` counts from 1.
     let folder = folders.get(i + 1);
     add_files(records, folder.name(), &folder.files())
 }
 
-// Adds the records of the files of the folder with a name, in their order.
+// Adds the records of files in their order. `folder` is the name of their folder.
 fn add_files<'a>(
     records: &mut Vec<Record<'a>>,
     folder: &'a [u8],
     files: &List<'a, FileInfo<'a>>,
 ) -> Result<(), AllocError>
-    // The records of these files of the folder are appended.
+    // On Ok, the records of these files are appended.
     ensures { OnOk result (map record_seen records.new.items ≡ map record_seen records.old.items
         ++ map (file_record folder.now) (list_of (entries_in (list_value files.now)))) }
 {
@@ -153,22 +163,26 @@ fn add_files<'a>(
     Ok(())
 }
 
-// Adds the record of the file at a place of the folder with a name, counted from 0.
+// Adds the record of the file with the index `i`, counted from 0. `folder` is the name of its
+// folder.
 fn add_file<'a>(
     records: &mut Vec<Record<'a>>,
     folder: &'a [u8],
     files: &List<'a, FileInfo<'a>>,
     i: usize,
 ) -> Result<(), AllocError>
+    // There is a file at this place.
     requires { i < count_of (entries_in (list_value files.now)) }
-    // The record of one of these files is appended.
+    // On Ok, the record of this file is appended.
     ensures { OnOk result (map record_seen records.new.items ≡ map record_seen records.old.items
         ++ file_record folder.entry.now (entry_in (list_value files.now) i) ∷ []) }
 {
-    // Excluded by the contract; `len` says that a list has fewer than 2^32 entries.
+    // The precondition excludes this. The call of `len` tells the checker that a list has fewer
+    // than 2^32 entries.
     if i >= files.len() {
         unreachable!();
     }
+    // `get` counts from 1.
     let file = files.get(i + 1);
     let name = file.name();
     let path = FilePath { folder, name };

@@ -1,6 +1,7 @@
-//! Answers questions about `adb_block`: the blocks of a container, the first failed test, and
-//! written headers. The rules are in `docs/formats.md`, "Container". Its stored run has all rows;
-//! `tests/lines.md` describes their form, and the README of this crate has a row for each question.
+//! Answers questions about `adb_block`: the blocks of a container, the first failed test, and the
+//! headers of blocks. The rules are in `docs/formats.md`, "Container". The stored run of this
+//! program (`stdin`, `stdout`) has all rows. `tests/lines.md` describes the form of rows, and the
+//! README of this crate has a row for each question.
 #![tactic(auto)]
 
 use adb_block::{Block, BlockKind, Blocks, Frame, block_head, frame_of, head_len};
@@ -10,10 +11,10 @@ use std::alloc::{AllocError, Global};
 use std::io;
 use std::process::ExitCode;
 
-/// The most blocks of a row's container that are printed.
+/// The most blocks of a container that are printed in the answer to a row.
 const MOST_BLOCKS: usize = 100;
 
-/// The kinds of questions, with what is answered; the README of this crate says more.
+/// The questions that a row may ask, with what is answered; the README of this crate says more.
 #[derive(Clone, Copy)]
 enum Question {
     /// `blocks BYTES`: the blocks of a container.
@@ -26,7 +27,7 @@ enum Question {
     Frame,
 }
 
-// The words that questions begin with.
+// The word with which a row asks each question.
 #[rattlefmt::skip]
 const QUESTIONS: [(&[u8], Question); 4] = [
     (b"blocks", Question::Blocks),
@@ -35,7 +36,7 @@ const QUESTIONS: [(&[u8], Question); 4] = [
     (b"frame", Question::Frame),
 ];
 
-// The words for the kinds of blocks.
+// The words by which rows and answers name the kinds of blocks.
 #[rattlefmt::skip]
 const KINDS: [(&[u8], BlockKind); 3] = [
     (b"adb", BlockKind::Adb),
@@ -89,7 +90,7 @@ fn add_blocks(alloc: Global, file: &[u8], answer: &mut Vec<u8>) -> Result<(), Al
 }
 
 /// Adds the kind of a block, its offset and its payload. `at` is the offset that was announced for
-/// it: `elsewhere` is added if its own offset is another one.
+/// this block: `elsewhere` is added if the block has another offset.
 fn add_block(
     alloc: Global,
     at: Option<u64>,
@@ -105,7 +106,7 @@ fn add_block(
     add_word(answer, block.payload)
 }
 
-/// The word for a kind of block.
+/// The word for a kind of block, as in `KINDS`.
 fn kind_name(kind: BlockKind) -> &'static [u8] {
     match kind {
         BlockKind::Adb => b"adb",
@@ -152,6 +153,7 @@ fn add_cause(alloc: Global, cause: Cause, answer: &mut Vec<u8>) -> Result<(), Al
 /// Answers `cuts BYTES`: for the prefixes of a file, the length of each prefix whose first result
 /// differs from that of the prefix before, with this result.
 fn add_cuts(alloc: Global, file: &[u8], answer: &mut Vec<u8>) -> Result<(), AllocError> {
+    // The result for the prefix before, if there is one.
     let mut last = None;
     for len in 0..=file.len() {
         let found = first_fault(&file[..len]);
@@ -194,11 +196,13 @@ fn add_head(words: &Words, answer: &mut Vec<u8>) -> Result<(), AllocError> {
 /// the header HEAD. The block before it has this kind, or there is none, and LEFT bytes of the file
 /// are left.
 fn add_frame(alloc: Global, words: &Words, answer: &mut Vec<u8>) -> Result<(), AllocError> {
+    // The kind of the block before, and how many bytes of the file are left.
     let last = value_named(&KINDS, word_at(words, 1));
     let left = number_of(word_at(words, 2)).unwrap_or(0);
     let left = u64::try_from(left).unwrap_or(0);
     let head = word_at(words, 3);
     let len = head.len() as u64;
+    // `frame_of` requires that HEAD has a whole header, or all of the bytes that are left.
     if len > left || len < head_len(head).min(left) {
         return add_word(answer, b"no header");
     }

@@ -4,20 +4,20 @@ use Rattle.std.specs.Prelude.{◌≡◌, ◌⊎◌, ◌<◌, ◌≤◌, ℕ, Lis
 use Rattle.base_core.specs.declared.Cause.{Cause}
 use Rattle.base_core.specs.declared.Cause.TheVariants.{NotAdb, Compressed, Truncated}
 
--- a file begins with this mark
+-- the file begins with the bytes `mark`
 abbrev pub BeginsAs : List ℕ → List ℕ → Type 0
 BeginsAs mark file = (rest : List ℕ) × (file ≡ mark ++ rest)
 
--- a file begins as a compressed container
+-- the file begins as a compressed container does
 abbrev pub IsCompressedFile : List ℕ → Type 0
 IsCompressedFile file = BeginsAs (codes "ADBd") file ⊎ BeginsAs (codes "ADBc") file
 
--- a file begins as no container that is known
+-- the file begins neither as a compressed container nor as a container
 abbrev pub BeginsAsNoContainer : List ℕ → Type 0
 BeginsAsNoContainer file = (IsCompressedFile file → ⊥) × (BeginsAs (codes "ADB.") file → ⊥)
 
--- The fault of a file's header: it has fewer than four bytes; else it begins as a compressed container;
--- else it does not begin as a container; else it has fewer than eight bytes
+-- c is the fault of the file's header, the first of these: it has fewer than four bytes; it begins as a compressed
+-- container; it does not begin as a container; it has fewer than eight bytes
 abbrev pub IsHeaderFault : List ℕ → Cause → Type 0
 IsHeaderFault file c =
     ((length file < 4) × (c ≡ Truncated 0))

@@ -18,18 +18,17 @@ use Rattle.adb_view.specs.Head.{payload_head_fault, root_word_of_payload}
 use Rattle.container_laws.specs.HeaderFaults.{IsHeaderFault}
 use Rattle.pkg_core.specs.Whole.{fault_of_further_blocks, table_of_schema}
 
--- the cause is that of the first failed test: the test at `place`, counted from 0, fails with it, and
--- no test before fails
+-- c is the cause of the first failed test. `tests` has the results of all tests in order; None is a test that holds
 pub record IsFirstFailing (tests : List (Option Cause)) (c : Cause) : Type 0 where
   -- the index of the failed test, counted from 0
   pub place : ℕ
-  -- this test fails with the cause
+  -- this test fails with the cause c
   pub fails : slice_get tests place ≡ Some (Some c)
   -- no test before it fails
   pub before : (j : ℕ) → j < place → slice_get tests j ≡ Some None
 
--- the tests of the values and of the blocks after them: the head of the payload, the shapes, the texts,
--- repeated names, the further blocks
+-- the results of the tests of the payload of the first block, and of the blocks `behind` it: the head of the payload,
+-- the shapes, the texts and numbers, repeated names, the further blocks. `which` is the table of the root
 abbrev pub tests_of_values : Which → List ℕ → Reading → List (Option Cause)
 tests_of_values which payload behind =
     payload_head_fault payload
@@ -38,16 +37,16 @@ tests_of_values which payload behind =
     ∷ (repeated_fault which (root_value which payload)
     ∷ (fault_of_further_blocks which (root_value which payload) behind ∷ []))))
 
--- the fault of a file's blocks: the first block is bad; or it is good, and the fault is the first of
--- its tests or of the further blocks
+-- c is the fault of a file's blocks r: the first block is bad; or it is good, and c is the cause of the first failed
+-- test of its payload or of the further blocks
 abbrev pub IsBlocksFault : Which → Reading → Cause → Type 0
 IsBlocksFault which r c =
     (r ≡ fault c)
     ⊎ ((b : Piece) × (at : ℕ) × (behind : Reading) × (r ≡ more b at behind)
     × IsFirstFailing (tests_of_values which b.payload behind) c)
 
--- the fault of a file that must have one table at its root: first of the header, then of the schema,
--- then of the blocks
+-- c is the fault of a file that must have the table `which` at its root: the first fault of the header, then of the
+-- schema, then of the blocks
 abbrev pub IsContainerFaultForTable : Which → List ℕ → Cause → Type 0
 IsContainerFaultForTable which file c =
     IsHeaderFault file c
@@ -56,8 +55,8 @@ IsContainerFaultForTable which file c =
     ⊎ ((is_schema_wanted (schema_word which) schema ≡ true)
     × IsBlocksFault which (block_stream_from (first_block_position schema file)) c)))
 
--- the fault of a container of any of the four schemas: of the header, then that its schema is unknown,
--- then of its tests
+-- c is the fault of a file that must be a container with any of the four schemas: that of the header; else that the
+-- schema is none of the four; else that of a file that must have the table of its schema at the root
 abbrev pub IsContainerFault : List ℕ → Cause → Type 0
 IsContainerFault file c =
     IsHeaderFault file c
@@ -65,16 +64,16 @@ IsContainerFault file c =
     × (((table_of_schema schema ≡ None) × (c ≡ WrongSchema schema))
     ⊎ ((which : Which) × (table_of_schema schema ≡ Some which) × IsContainerFaultForTable which file c)))
 
--- A file passes every test of a container: it has a header with one of the four schemas, and a first
--- block; no test of the values and of the blocks after them fails
+-- the file passes every test of a container: it has a header with one of the four schemas, and a first block; no test
+-- of the values, and of the blocks after the first one, fails
 pub record PassesEveryContainerTest (file : List ℕ) : Type 0 where
   -- the schema of the file
   pub schema : ℕ
-  -- the header has this schema
+  -- this schema is in the header of the file
   pub header : schema_of_header file ≡ Ok schema
-  -- the table of its root
+  -- the table of the root
   pub which : Which
-  -- it is the table of the schema
+  -- the schema demands this table
   pub root : table_of_schema schema ≡ Some which
   -- the first block
   pub first : Piece

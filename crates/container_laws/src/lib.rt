@@ -1,8 +1,8 @@
-//! Which fault of a container is reported: that of the first failed test, in the order in which the
-//! format lists the tests. The order is in `docs/formats.md`, "Container" and "Tests of a
-//! container".
+//! Laws about the fault that is reported of a container: it is that of the first failed test, in
+//! the order in which the format lists the tests. The order is in `docs/formats.md`, "Container"
+//! and "Tests of a container".
 //!
-//! The functions are laws. They cite the definitions of `specs/`, and those of the readers below.
+//! The laws cite the definitions of `specs/`, and those of the crates that read containers.
 #![tactic(auto)]
 
 ghost use Rattle.adb_block.specs.Header.{schema_of_header};
@@ -13,15 +13,15 @@ ghost use Rattle.container_laws.specs.TestsInOrder.{IsContainerFault, IsContaine
 ghost use Rattle.pkg_core.specs.Whole.{container_fault, container_fault_of_table};
 ghost use Rattle.std.specs.Prelude.{◌≡◌, ◌↔◌, ℕ, Err, List, Some, None};
 
-/// The fault that is reported of a header: fewer than four bytes, else a compressed container, else
-/// no container, else fewer than eight bytes.
+/// A law: the fault that is reported of a file's header is the first of these: fewer than four
+/// bytes, a compressed container, no container, fewer than eight bytes.
 pub fn the_first_fault_of_a_header_is_reported()
     ensures { (file : List ℕ) (c : Cause) → schema_of_header file ≡ Err c → IsHeaderFault file c }
 {}
 
-/// The fault that is reported of a container is that of the first failed test, in this order: the
-/// header, the schema, the first block, the head of its payload, the shapes of the values, their
-/// texts, repeated names, and the further blocks.
+/// A law: the fault that is reported of a container is that of the first failed test, in this
+/// order: the header, the schema, the first block, the head of its payload, the shapes of the
+/// values, their texts and numbers, repeated names, and the further blocks.
 pub fn the_first_fault_of_a_container_is_reported()
     // For a file that must have a certain table at its root.
     ensures table { (which : Which) (file : List ℕ) (c : Cause)
@@ -31,7 +31,7 @@ pub fn the_first_fault_of_a_container_is_reported()
         → container_fault file ≡ Some c → IsContainerFault file c }
 {}
 
-/// No fault of a container is reported exactly if every test holds.
+/// A law: no fault of a container is reported exactly if the container passes every test.
 pub fn no_fault_is_reported_exactly_if_every_test_holds()
     ensures { (file : List ℕ) → (container_fault file ≡ None) ↔ PassesEveryContainerTest file }
 {}

@@ -17,7 +17,7 @@ use std::io;
 use std::process::ExitCode;
 use values::{add_draft, add_file, add_repeated, add_written};
 
-/// The kinds of questions, with what is answered; the README of this crate says more.
+/// The questions that a row may ask, with what is answered; the README of this crate says more.
 #[derive(Clone, Copy)]
 enum Question {
     /// `write VALUE ..`: the words of the values, and the payload whose root is the last value.
@@ -34,7 +34,7 @@ enum Question {
     Package,
 }
 
-// The words that questions begin with.
+// The word with which a row asks each question.
 #[rattlefmt::skip]
 const QUESTIONS: [(&[u8], Question); 6] = [
     (b"write", Question::Write),

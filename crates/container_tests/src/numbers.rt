@@ -1,6 +1,6 @@
-//! Answers `numbers ORDER`: many blobs are written in some order, and then again. The writer's
-//! table needs many pages for them. That equal values are stored once is stated in
-//! `docs/formats.md`, "Canonical layout".
+//! Answers `numbers ORDER`: many blobs are written in the given order, and then again. The writer's
+//! list of locators (written items) needs many pages for so many blobs. That equal values are
+//! stored once is stated in `docs/formats.md`, "Canonical layout".
 use crate::values::add_len;
 use adb_view::Val;
 use adb_write::Writer;
@@ -21,7 +21,7 @@ enum Order {
     Scattered,
 }
 
-// The words for the orders.
+// The word by which a row names each order.
 #[rattlefmt::skip]
 const ORDERS: [(&[u8], Order); 3] = [
     (b"rising", Order::Rising),

@@ -1,8 +1,8 @@
-//! Writes values, given as words of a row, with a writer or a draft. `.` is null, `#` and a number
-//! is an integer, `'` and bytes is a blob. `[` and `]` enclose an array, `{` and `}` an object. `*`
-//! and a number repeat a value, and after `~` the answer leaves out the words of the values before
-//! it. The layout is in `docs/formats.md`, "Canonical layout"; the words in the README of this
-//! crate.
+//! Writes values, which the words of a row describe, with a writer or a draft. In a row, `.` is
+//! null, `#` and a number is an integer, and `'` and bytes is a blob. `[` and `]` enclose an array,
+//! `{` and `}` an object. `*` and a number repeat a value. After `~` the answer leaves out the
+//! words (32-bit references) of the values before. The layout is in `docs/formats.md`, "Canonical
+//! layout"; the README of this crate describes the words of a row.
 use adb_schema::PACKAGE_WORD;
 use adb_values::Draft;
 use adb_view::Val;
@@ -14,7 +14,7 @@ use std::alloc::{AllocError, Global};
 /// The most bytes of a payload (`docs/formats.md`, "Canonical layout").
 const MOST_BYTES: usize = 268_435_455;
 
-/// What a word of a row says about the values to be written.
+/// What a word of a row describes: a value, or the beginning or end of a list.
 #[derive(Clone, Copy)]
 enum Part<'a> {
     /// The value null.
@@ -29,11 +29,12 @@ enum Part<'a> {
     Array,
     /// The list that was opened last ends as an object.
     Object,
-    /// The words of the values before this are left out of the answer.
+    /// The answer leaves out the words (32-bit references) of the values before.
     LeaveOut,
 }
 
-/// What a word of a row says, and how often its value is written: the number after `*`, or once.
+/// What a word of a row describes, and how often the value is written: as often as the number after
+/// `*` says, or once.
 fn part_of(word: &[u8]) -> (Part<'_>, u64) {
     match word.iter().position(|byte| *byte == b'*') {
         Some(at) => (part_named(&word[..at]), long_of(&word[at + 1..])),
@@ -41,7 +42,7 @@ fn part_of(word: &[u8]) -> (Part<'_>, u64) {
     }
 }
 
-/// What a word of a row says, given without `*` and the number after it.
+/// What a word of a row describes, given the word without `*` and the number after it.
 fn part_named(word: &[u8]) -> Part<'_> {
     match word {
         [b'\'', bytes @ ..] => Part::Blob(bytes),
@@ -63,12 +64,13 @@ fn long_of(word: &[u8]) -> u64 {
 
 // ---- a writer
 
-/// The state of a writer after some words.
+/// A writer, after the values of some words of a row were written with it.
 #[derive(Drop)]
 struct Written {
-    /// The writer.
+    /// The writer of the values.
     writer: Writer,
-    /// The entries so far of each list that has begun and not ended, the outermost list first.
+    /// For each list that has begun and not ended, the words of its entries so far; the outermost
+    /// list is first.
     open: Vec<Vec<Val>>,
     /// The words (32-bit references) of the values that are in no list.
     words: Vec<Val>,
@@ -86,8 +88,8 @@ impl Written {
         Ok(())
     }
 
-    /// Ends the list that was begun last, and writes it `times` times. Without such a list nothing
-    /// is written.
+    /// Ends the list that was begun last, as an array or an object (`part`), and writes this list
+    /// `times` times. If no list has begun, nothing is written.
     fn close(&mut self, part: Part<'_>, times: u64) -> Result<(), AllocError> {
         match self.open.pop() {
             Some(entries) => self.add_times(part, &entries, times),
@@ -95,8 +97,8 @@ impl Written {
         }
     }
 
-    /// Writes a value `times` times. Each time it is an entry of the list that was begun last, or
-    /// in no list if none has begun. `entries` are those of an array or an object.
+    /// Writes a value `times` times. Each time the value becomes an entry of the list that was
+    /// begun last, if there is one. `entries` are the words of the entries if the value is a list.
     fn add_times(&mut self, part: Part<'_>, entries: &[Val], times: u64) -> Result<(), AllocError> {
         for _ in 0..times {
             let word = self.word_of(part, entries)?;
@@ -108,9 +110,11 @@ impl Written {
         Ok(())
     }
 
-    /// Writes a value, and returns its word. `entries` are those of an array or an object.
+    /// Writes a value, and returns its word. `entries` are the words of the entries if the value is
+    /// an array or an object.
     fn word_of(&mut self, part: Part<'_>, entries: &[Val]) -> Result<Val, AllocError> {
         match part {
+            // NULL. `add` handles `Open` and `LeaveOut` itself.
             Part::Null | Part::Open | Part::LeaveOut => Ok(Val::of(0)),
             Part::Int(number) => self.writer.int(number),
             Part::Blob(bytes) => self.writer.blob(bytes),
@@ -120,7 +124,7 @@ impl Written {
     }
 }
 
-/// Writes the values that the words of a row say, from the second word on.
+/// Writes the values that the words of a row describe, from the second word on.
 fn write_values(alloc: Global, words: &Words) -> Result<Written, AllocError> {
     let mut written = Written {
         writer: Writer::new(alloc),
@@ -182,8 +186,8 @@ fn add_file_of(alloc: Global, payload: &[u8], answer: &mut Vec<u8>) -> Result<()
     add_word(answer, &file_of(alloc, PACKAGE_WORD, payload)?)
 }
 
-/// Adds the counts of bytes and values after the first value with which a count exceeds its limit.
-/// Out of memory is returned.
+/// Adds why there is no payload: the counts of bytes and values just after the first value with
+/// which a count exceeds its limit. If memory ran out, that is returned as an error.
 fn add_fault(alloc: Global, fault: WriteFault, answer: &mut Vec<u8>) -> Result<(), AllocError> {
     match fault {
         WriteFault::TooLarge { bytes, values } => {
@@ -196,7 +200,8 @@ fn add_fault(alloc: Global, fault: WriteFault, answer: &mut Vec<u8>) -> Result<(
 
 // ---- a draft
 
-/// Adds to a draft the values that the words say from the index `first` on, counted from 0.
+/// Adds to a draft the values that the words of a row describe, from the index `first` on, counted
+/// from 0.
 fn add_values(draft: &mut Draft, words: &Words, first: usize) -> Result<(), AllocError> {
     for i in first..words.len() {
         let (part, times) = part_of(words.word(i));

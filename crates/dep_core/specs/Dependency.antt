@@ -1,22 +1,21 @@
--- Dependencies, after apk-package(5) and apk-world(5): their parts, and which bytes these have. The
--- rules are in `docs/formats.md`, "Dependencies", the first two paragraphs; the match bits in
--- "Versions", the last paragraph.
+-- Dependencies, after apk-package(5) and apk-world(5): their parts, and which bytes these parts have. The rules are in
+-- `docs/formats.md`, "Dependencies", the first two paragraphs; the match bits in "Versions", the last paragraph.
 use Rattle.std.specs.Prelude.{ℕ, ◌==◌, nat_lt, nat_le, Bool, false, not, ◌&&◌, ◌||◌, List, [], ◌∷◌, length, codes, Option}
 use Rattle.std.specs.Char.{is_ascii_alphanumeric}
 use Rattle.std.specs.List.{list_all, list_any}
 
--- what a package needs or excludes. The match bits are 1 equal, 2 less, 4 greater, 8 the fuzzy match;
--- they are 1 if no version is named. Only world gives a tag to a name
+-- a dependency: what a package or world needs, or what it excludes
 pub record Dependency : Type 0 where
   -- the name that is needed or excluded
   pub name : List ℕ
   -- the wanted version, if one is named
   pub version : Option (List ℕ)
-  -- the match bits of the version operator; 1 if no version is named
+  -- the match bits of the version operator: the sum of 1 for equal, 2 for less, 4 for greater, 8 for a fuzzy match; 1
+  -- if no version is named
   pub bits : ℕ
   -- whether the dependency excludes the packages that meet it
   pub conflict : Bool
-  -- the repository tag, as in `app@edge`, if one is given
+  -- the repository tag, as in `app@edge`, if one is given; only dependencies of world have a tag
   pub tag : Option (List ℕ)
 
 -- a dependency from its parts
@@ -24,11 +23,11 @@ abbrev pub dependency_from_parts : List ℕ → Option (List ℕ) → ℕ → Bo
 dependency_from_parts name version bits conflict tag =
     record { name = name; version = version; bits = bits; conflict = conflict; tag = tag }
 
--- whether a byte is a mark, which ends a name: `!`, `<`, `=`, `>`, `@` or `~`
+-- whether a byte ends a name, since no name may have it: `!`, `<`, `=`, `>`, `@` or `~`
 abbrev pub is_name_end_mark : ℕ → Bool
 is_name_end_mark b = (b == 33) || (b == 60) || (b == 61) || (b == 62) || (b == 64) || (b == 126)
 
--- whether a name may have this byte: it is from 0x21 to 0x7e, and no mark
+-- whether a name may have this byte: it is from 0x21 to 0x7e, and none of those that end a name
 abbrev pub is_name_byte : ℕ → Bool
 is_name_byte b = nat_lt 32 b && nat_lt b 127 && not (is_name_end_mark b)
 
@@ -51,11 +50,11 @@ is_package_name name =
 abbrev pub is_tag_byte : ℕ → Bool
 is_tag_byte b = is_ascii_alphanumeric b || (b == 95) || (b == 45) || (b == 46)
 
--- whether the bytes are a tag: at least one byte, and each one that a tag may have
+-- whether the bytes are a tag: at least one byte, and only bytes that a tag may have
 abbrev pub is_tag : List ℕ → Bool
 is_tag tag = nat_lt 0 (length tag) && list_all is_tag_byte tag
 
--- each operator as it is written, and its match bits
+-- the version operators: the text and the match bits of each
 abbrev pub operators : List (List ℕ × ℕ)
 operators =
     (codes "=", 1) ∷ (codes "<", 2) ∷ (codes "<=", 3) ∷ (codes ">", 4) ∷ (codes ">=", 5)

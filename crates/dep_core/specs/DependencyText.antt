@@ -9,27 +9,26 @@ use Rattle.dep_core.specs.Dependency.{Dependency, is_dep_name, is_tag, operators
 abbrev pub operator_text : ℕ → Option (List ℕ)
 operator_text bits = lookup (λ b. b == bits) (map (λ (o : List ℕ × ℕ). (o.1, o.0)) operators)
 
--- whether the version and the match bits of a dependency are valid: without a version the bits are
--- those of `=`; a version is valid and has the bits of an operator
+-- whether the wanted version and the match bits of a dependency are valid: a version is valid, and the bits are those
+-- of an operator; without a version the bits are 1, those of `=`
 abbrev pub is_constraint_or_none : Option (List ℕ) → ℕ → Bool
 is_constraint_or_none None bits = bits == 1
 is_constraint_or_none (Some version) bits = is_version version && is_some (operator_text bits)
 
--- whether a tag, if there is one, has the bytes of a tag
+-- whether there is no tag, or the bytes are those of a tag
 abbrev pub is_tag_or_none : Option (List ℕ) → Bool
 is_tag_or_none None = true
 is_tag_or_none (Some tag) = is_tag tag
 
--- whether the parts of a dependency are in the grammar: its name, its version with the match bits, its
--- tag
+-- whether a dependency is valid, by the grammar: its name, its wanted version with the match bits, and its tag
 abbrev pub is_dependency : Dependency → Bool
 is_dependency d = is_dep_name d.name && is_constraint_or_none d.version d.bits && is_tag_or_none d.tag
 
--- the parts of a dependency are in the grammar
+-- the dependency is valid, by the grammar
 abbrev pub IsDependency : Dependency → Type 0
 IsDependency d = IsTrue (is_dependency d)
 
--- the mark of a conflict: `!` (33) if the dependency is a conflict, otherwise empty
+-- the text before the name: `!` (33) if the dependency is a conflict, otherwise nothing
 abbrev pub conflict_mark_text : Bool → List ℕ
 conflict_mark_text true = 33 ∷ []
 conflict_mark_text false = []
@@ -39,7 +38,8 @@ abbrev pub tag_text : Option (List ℕ) → List ℕ
 tag_text None = []
 tag_text (Some tag) = 64 ∷ tag
 
--- the text of the wanted version: operator and version, or nothing if any version is accepted
+-- the text of the operator and the wanted version, given the version and the match bits; nothing if any version is
+-- accepted (None)
 abbrev pub constraint_text : Option (List ℕ) → ℕ → List ℕ
 constraint_text None bits = []
 constraint_text (Some version) bits = unwrap_or (operator_text bits) [] ++ version

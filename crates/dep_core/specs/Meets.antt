@@ -1,5 +1,5 @@
--- What a `Dep` represents, and what meets it. The rule is in `docs/formats.md`, "Dependencies", the
--- last paragraph.
+-- Which dependency a `Dep` of the program represents, and which packages meet a dependency. The rule is in
+-- `docs/formats.md`, "Dependencies", the last paragraph.
 use Rattle.std.specs.Prelude.{ℕ, Bool, true, false, ◌&&◌, List, Option, Some, None, option_copied}
 use Rattle.std.specs.Str.{bytes_eq}
 use Rattle.version_core.specs.Matching.{matches}
@@ -10,8 +10,8 @@ use Rattle.dep_core.specs.Dependency.{Dependency, dependency_from_parts}
 abbrev pub dependency : Dep → Dependency
 dependency dep = dependency_from_parts dep.name.now dep.version dep.op dep.conflict (option_copied dep.tag)
 
--- whether a constraint accepts the found version: without a wanted version it accepts any version
--- and none; with one, a version must be found, and it must match
+-- whether a constraint (the wanted version, and the match bits) accepts the version `found` of a package. Without a
+-- wanted version, any version and no version are accepted. Otherwise there must be a version, and it must match
 abbrev pub constraint_accepts : Option (List ℕ) → ℕ → Option (List ℕ) → Bool
 constraint_accepts None bits found = true
 constraint_accepts (Some wanted) bits None = false

@@ -17,7 +17,7 @@ without_leading_bytes p text = drop (prefix_len p text) text
 abbrev pub is_operator_byte : ℕ → Bool
 is_operator_byte b = (b == 60) || (b == 61) || (b == 62) || (b == 126)
 
--- the match bits of an operator; `=~` and `~=` are other texts of `~`
+-- the match bits of the operator with this text, if it is an operator; `=~` and `~=` are other texts of `~`
 abbrev pub operator_bits : List ℕ → Option ℕ
 operator_bits text = lookup (bytes_eq text) (operators ++ ((codes "=~", 9) ∷ (codes "~=", 9) ∷ []))
 
@@ -25,7 +25,7 @@ operator_bits text = lookup (bytes_eq text) (operators ++ ((codes "=~", 9) ∷ (
 abbrev pub is_not_at_sign : ℕ → Bool
 is_not_at_sign b = not (b == 64)
 
--- a dependency on any version; it has the match bits of the operator `=`, which are 1
+-- the dependency on any version of the package `name`; its match bits are 1, those of the operator `=`
 abbrev pub dependency_on_any_version : Bool → List ℕ → Dependency
 dependency_on_any_version conflict name = dependency_from_parts name None 1 conflict None
 
@@ -44,8 +44,7 @@ dependency_after_version d [] = Some d
 dependency_after_version d (b ∷ tag) =
     if (b == 64) && (not (is_some d.tag) && is_tag tag) then Some (with_tag d tag) else None
 
--- parses the text after an operator with these match bits: a version up to the first `@`, and what
--- follows it
+-- parses the text after an operator with these match bits: a version up to the first `@`, and then a tag or nothing
 unfoldable pub dependency_from_version : Dependency → ℕ → List ℕ → Option Dependency
 dependency_from_version d bits text =
     if is_version (take_while is_not_at_sign text)
@@ -66,7 +65,7 @@ dependency_from_operator d (b ∷ rest) =
     dependency_after_operator d (operator_bits (take_while is_operator_byte (b ∷ rest)))
     (without_leading_bytes is_operator_byte (b ∷ rest))
 
--- parses the text after the `@` that follows the name: a tag, and what follows it
+-- parses the text after the `@` that follows the name: a tag, and then an operator with a version, or nothing
 unfoldable pub dependency_from_tag : Dependency → List ℕ → Option Dependency
 dependency_from_tag d text =
     if is_tag (take_while is_tag_byte text)
@@ -81,7 +80,7 @@ dependency_after_name d [] = Some d
 dependency_after_name d (b ∷ rest) =
     if b == 64 then dependency_from_tag d rest else dependency_from_operator d (b ∷ rest)
 
--- parses a text that begins with the name; a conflict has its `!` removed before
+-- parses a text that begins with the name; `conflict` says whether a `!` preceded the name
 unfoldable pub dependency_from_name : Bool → List ℕ → Option Dependency
 dependency_from_name conflict text =
     if is_dep_name (take_while is_name_byte text)

@@ -9,7 +9,7 @@ use Rattle.dep_core.specs.LeadingSlash.{without_slash}
 use Rattle.dep_core.specs.Reading.{without_leading_bytes}
 use Rattle.dep_core.specs.World.{is_blank, lines_of}
 
--- the file of an index, and the tag under which world may ask for its packages
+-- a repository: the path of the file of its index, and the tag by which world may ask for its packages
 pub record Repository : Type 0 where
   -- the tag of the repository, if it has one
   pub tag : Option (List ℕ)
@@ -20,7 +20,7 @@ pub record Repository : Type 0 where
 abbrev pub repository : Option (List ℕ) → List ℕ → Repository
 repository tag path = record { tag = tag; path = path }
 
--- the text without the blanks at its end
+-- the text without the spaces and tabs at its end
 abbrev pub without_trailing_blanks : List ℕ → List ℕ
 without_trailing_blanks text = take (length text - suffix_len is_blank text) text
 
@@ -28,12 +28,12 @@ without_trailing_blanks text = take (length text - suffix_len is_blank text) tex
 abbrev pub without_outer_blanks : List ℕ → List ℕ
 without_outer_blanks text = without_trailing_blanks (without_leading_bytes is_blank text)
 
--- whether a line, without blanks at its ends, is skipped: it is empty, or begins with `#` (35)
+-- whether a line is skipped, given the line without blanks at both ends: it is empty, or begins with `#` (35)
 abbrev pub is_blank_or_comment : List ℕ → Bool
 is_blank_or_comment [] = true
 is_blank_or_comment (b ∷ rest) = b == 35
 
--- whether the first byte is a blank
+-- whether the first byte is a space or a tab
 abbrev pub begins_with_blank : List ℕ → Bool
 begins_with_blank [] = false
 begins_with_blank (b ∷ rest) = is_blank b
@@ -53,7 +53,7 @@ repository_after_at_sign text =
     (without_leading_bytes is_blank rest)
     else None
 
--- the repository of a line that is not skipped, without blanks at its ends; `@` (64) precedes a tag
+-- the repository of a line that is not skipped, given without blanks at both ends; `@` (64) precedes a tag
 unfoldable pub repository_of : List ℕ → Option Repository
 repository_of [] = None
 repository_of (b ∷ rest) =
@@ -63,7 +63,7 @@ repository_of (b ∷ rest) =
 abbrev pub singleton : Repository → List Repository
 singleton found = found ∷ []
 
--- the repositories on a line, none or one; None if the line is bad
+-- the repositories on a line: none if the line is skipped, otherwise one. None if the line is bad
 abbrev pub repositories_on_line : List ℕ → Option (List Repository)
 repositories_on_line line =
     if is_blank_or_comment (without_outer_blanks line) then Some []

@@ -1,5 +1,5 @@
--- Which repositories lines can name, and a text that names them. The rules are in `docs/formats.md`,
--- "Repositories"; serves the law `repositories_are_read_back`.
+-- Which repositories a line of `etc/apk/repositories` can name, and a text that names given repositories. The rules are
+-- in `docs/formats.md`, "Repositories"; serves the law `repositories_are_read_back`.
 use Rattle.std.specs.Prelude.{ℕ, ◌==◌, Bool, not, ◌&&◌, List, [], ◌∷◌, ◌++◌, Option, Some, None}
 use Rattle.std.specs.List.{list_all, suffix_len}
 use Rattle.base_core.specs.Name.{is_name}
@@ -7,7 +7,7 @@ use Rattle.dep_core.specs.DependencyText.{is_tag_or_none}
 use Rattle.dep_core.specs.Repositories.{Repository}
 use Rattle.dep_core.specs.World.{is_blank, is_line_end}
 
--- whether a line can have this path: it is a name, has no line end, and does not end with a blank
+-- whether a line can have this path: it is a name, has no line end, and does not end with a space or a tab
 abbrev pub is_line_path : List ℕ → Bool
 is_line_path path =
     is_name path && (list_all (λ b. not (is_line_end b)) path && (suffix_len is_blank path == 0))
@@ -21,8 +21,7 @@ abbrev pub tag_prefix : Option (List ℕ) → List ℕ
 tag_prefix None = []
 tag_prefix (Some tag) = 64 ∷ (tag ++ (32 ∷ []))
 
--- a text that names these repositories: for each a line with the path after a slash (47), which ends
--- with a line end (10)
+-- a text that names these repositories, each on a line: its tag, if any, a slash (47), its path, and a line end (10)
 abbrev pub repositories_text : List Repository → List ℕ
 repositories_text [] = []
 repositories_text (found ∷ rest) =

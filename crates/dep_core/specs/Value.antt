@@ -7,25 +7,25 @@ use Rattle.version_core.specs.Order.{is_version}
 use Rattle.version_core.specs.Op.{is_operator_bits}
 use Rattle.dep_core.specs.Dependency.{Dependency}
 
--- the three fields of a dependency in a package: an empty version stands for none, and an absent match
--- number counts as 0
+-- the three fields of a dependency in a package's information, as they are stored
 pub record DepValue : Type 0 where
-  -- the name
+  -- the name of the dependency
   pub name : List ℕ
-  -- the version; empty if no version is named
+  -- the wanted version; empty if no version is named
   pub version : List ℕ
-  -- the match number, if the field is present
+  -- the match number, if the field is present; an absent one counts as 0
   pub matching : Option ℕ
 
--- the match number of a dependency, or None if it is absent. 16 marks a conflict, and 7 (so 23) accepts
--- any version. None is written for the operator `=` (1) alone, or if no version is wanted
+-- the match number that is written for a dependency, given its wanted version, its match bits and whether it is a
+-- conflict. 16 marks a conflict, and the low bits 7 (so 23) accept any version. None: the field is absent, since the
+-- dependency is no conflict, and its operator is `=` (1) or no version is wanted
 abbrev pub match_number_of : Option (List ℕ) → ℕ → Bool → Option ℕ
 match_number_of None bits true = Some 23
 match_number_of None bits false = None
 match_number_of (Some version) bits true = Some (16 + bits)
 match_number_of (Some version) bits false = if bits == 1 then None else Some bits
 
--- the value of a dependency without tag; only world has tags
+-- the value of a dependency in a package's information; its tag, which only world has, is left out
 abbrev pub dep_value : Dependency → DepValue
 dep_value d =
     record {
@@ -34,7 +34,7 @@ dep_value d =
       matching = match_number_of d.version d.bits d.conflict;
     }
 
--- whether a number is a match number: below 32, and its low four bits are an operator
+-- whether a number is a match number: it is below 32, and its low four bits are accepted as an operator
 abbrev pub is_match_number : ℕ → Bool
 is_match_number matching = nat_lt matching 32 && is_operator_bits (matching % 16)
 

@@ -5,9 +5,8 @@ use Rattle.dep_core.specs.Dependency.{Dependency, is_dep_name}
 use Rattle.dep_core.specs.Reading.{dependency_on_any_version, with_constraint}
 use Rattle.dep_core.specs.Value.{is_match_number, is_version_or_empty}
 
--- the match bits for the low four bits of a match number. 7 and 15 accept any version (None), and 0
--- counts as 1. 8, 10 and 12, which match fuzzily, count as 9, 11 and 13, which accept equal versions
--- too
+-- the match bits of a dependency, given the low four bits of a match number. 7 and 15 accept any version (None), and 0
+-- counts as 1. 8, 10 and 12, which match fuzzily, count as 9, 11 and 13, which accept equal versions too
 abbrev pub match_bits_unless_any_version : ℕ → Option ℕ
 match_bits_unless_any_version low =
     if (low == 7) || (low == 15) then None else

@@ -9,13 +9,13 @@ use Rattle.dep_core.specs.Dependency.{Dependency}
 use Rattle.dep_core.specs.DependencyText.{dep_text, is_dependency}
 use Rattle.dep_core.specs.Reading.{dependency_of}
 
--- whether each name is less than those after it
+-- whether the name of each dependency precedes, in byte order, the names of those after it
 abbrev pub is_in_order : List Dependency → Bool
 is_in_order [] = true
 is_in_order (d ∷ rest) =
     list_all (λ (e : Dependency). is_lt (bytes_cmp d.name e.name)) rest && is_in_order rest
 
--- dependencies in byte order of their names, each name once
+-- the list is a world: valid dependencies in byte order of their names, each name once
 abbrev pub IsWorld : List Dependency → Type 0
 IsWorld world = IsTrue (list_all is_dependency world && is_in_order world)
 
@@ -62,7 +62,7 @@ abbrev pub world_with_new_dependency : List Dependency → Dependency → Option
 world_with_new_dependency world d =
     if has_dependency_named d.name world then None else Some (world_with_dependency_set d world)
 
--- world with the entries of some words, or None if a word is no dependency or repeats a name
+-- world with the entries of some words; None if a word is no dependency, or repeats the name of an entry
 abbrev pub world_with_words : List Dependency → List (List ℕ) → Option (List Dependency)
 world_with_words world [] = Some world
 world_with_words world (word ∷ words) =

@@ -1,5 +1,6 @@
-//! Dependencies: their parts, names, tags and operators, and what meets them. The rules are in
-//! `docs/formats.md`, "Dependencies"; the match bits of an operator in "Versions".
+//! Dependencies: their parts, which bytes names and tags have, the texts of operators, and which
+//! packages meet a dependency. The rules are in `docs/formats.md`, "Dependencies"; the match bits
+//! of an operator in "Versions".
 
 ghost use Rattle.std.specs.Prelude.{IsTrue, ◌≡◌, Some, IfSome, is_some, ◌==◌};
 ghost use Rattle.std.specs.Option.{option_copied};
@@ -17,13 +18,15 @@ pub struct Dep<'a> {
     pub name: &'a [u8],
     /// The wanted version. Without one, any version is accepted.
     pub version: Option<Version<'a>>,
-    /// How a version must compare with the wanted one; `=` if no version is wanted.
+    /// The version operator: how a version must compare with the wanted one; `=` if no version is
+    /// wanted.
     pub op: Op,
     /// Whether the dependency is a conflict: it excludes the packages that meet it.
     pub conflict: bool,
     /// The tag of the repositories that may supply it. Only dependencies in world have one
     /// (apk-world(5)).
     pub tag: Option<&'a [u8]>,
+    // The parts are those of a valid dependency.
     pub ghost in_grammar: { IsTrue (is_dependency
         (dependency_from_parts name.now version op conflict (option_copied tag))) },
 }
@@ -52,7 +55,8 @@ impl<'a> Dep<'a> {
         }
     }
 
-    /// The dependency on any version of a name.
+    /// The dependency on any version of the package `name`; `conflict` says whether it is a
+    /// conflict.
     pub(crate) fn dependency_on_any_version(conflict: bool, name: &'a [u8]) -> Dep<'a>
         // The bytes are an allowed name of a dependency.
         requires { IsTrue (is_dep_name name.now) }
@@ -67,7 +71,7 @@ impl<'a> Dep<'a> {
         }
     }
 
-    /// This dependency, with a tag.
+    /// This dependency with the given tag instead of its own.
     pub(crate) fn with_tag(self, tag: &'a [u8]) -> Dep<'a>
         // The bytes are an allowed tag.
         requires { IsTrue (is_tag tag.now) }
@@ -118,7 +122,7 @@ pub fn operator_of(text: &[u8]) -> Option<Op>
     }
 }
 
-/// The text of an operator; it must have one.
+/// The text of an operator, which must be one that has a text.
 pub fn operator_text(op: Op) -> &'static [u8]
     // The operator can be written as a text.
     requires { IsTrue (is_some (operator_text op)) }
@@ -132,6 +136,7 @@ pub fn operator_text(op: Op) -> &'static [u8]
         5 => b">=",
         9 => b"~",
         11 => b"<~",
+        // By the precondition, only 13 is left.
         _ => b">~",
     }
 }
@@ -172,7 +177,7 @@ pub fn has_slash(name: &[u8]) -> bool
     name.contains(&b'/')
 }
 
-/// Whether a name begins with a byte that no package's name may begin with.
+/// Whether the bytes begin with `-` or `.`, as no package's name does.
 fn begins_with_dash_or_dot(name: &[u8]) -> bool
     ensures { result ≡ begins_with_dash_or_dot name.now }
 {

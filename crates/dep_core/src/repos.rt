@@ -1,5 +1,5 @@
-//! Repositories: the lines of `etc/apk/repositories` and how they are read. The rules are in
-//! `docs/formats.md`, "Repositories".
+//! Repositories: how the lines of `etc/apk/repositories` are read. Each line names the path of an
+//! index. The rules are in `docs/formats.md`, "Repositories".
 
 ghost use Rattle.std.specs.Prelude.{◌≡◌, ◌<◌, ◌==◌, ◌++◌, length, slice_get, Some, None, if◌then◌else◌, IfOk, IfErr, option_copied};
 ghost use Rattle.std.specs.Option.{option_map};
@@ -13,10 +13,10 @@ use base_core::{Name, Text};
 use std::alloc::{AllocError, Global};
 use std::marker::Model;
 
-/// Why repositories were not read.
+/// Why the text of a list of repositories was not read.
 #[derive(Clone, Copy, Debug, PartialEq, Eq)]
 pub enum ReposFault {
-    /// The first line, counted from 1, that names no repository.
+    /// `line` is the first line, counted from 1, that is not skipped and names no repository.
     Bad { line: u64 },
     /// Out of memory.
     Memory,
@@ -28,18 +28,18 @@ impl From<AllocError> for ReposFault {
 
     ghost from_gives = { λ _ fault. fault ≡ Memory };
 
-    /// Running out of memory is a fault of its own.
+    /// Running out of memory is the fault `Memory`.
     fn from(_: AllocError) -> ReposFault {
         ReposFault::Memory
     }
 }
 
-/// The file of an index, and its tag.
+/// A repository: the path of the file of its index, and its tag.
 #[derive(Drop)]
 struct Repo {
-    /// The tag under which world may ask for its packages.
+    /// The tag by which world may ask for packages of this repository, if it has a tag.
     tag: Option<Text>,
-    /// The name of the index file.
+    /// The path of the file of the index, below the root.
     path: Name,
 }
 
@@ -48,13 +48,14 @@ impl Model for Repo {
 
     ghost Value = { Repository };
 
+    // In contracts a repository is its tag and its path.
     ghost view = { λ repo. repository repo.tag repo.path };
 }
 
-/// Where indexes are found, in the order of the lines, some under a tag.
+/// The repositories of a text, in the order of its lines.
 #[derive(Drop)]
 pub struct Repos {
-    /// One for each line that is not skipped.
+    /// A repository for each line that is not skipped.
     repos: Vec<Repo>,
 }
 
@@ -64,6 +65,7 @@ impl Model for Repos {
 
     ghost Value = { List Repository };
 
+    // In contracts this is the list of the repositories.
     ghost view = { λ repos. repos.repos.items };
 }
 
@@ -102,19 +104,21 @@ impl Repos {
         self.repos.is_empty()
     }
 
-    /// The file of the index of a repository, by its index.
+    /// The path of the file of the index of the repository at `i`, which counts from 0.
     pub fn path(&self, i: usize) -> &Name
-        // The index is that of an element.
+        // There is a repository at `i`.
         requires { i < length self.now }
+        // The result is the path of the repository with this index.
         ensures { option_map (λ repo. repo.path) (slice_get self.now i) ≡ Some result.now }
     {
         &self.repos[i].path
     }
 
-    /// The tag of a repository, if it has one, by its index.
+    /// The tag, if any, of the repository at `i`, which counts from 0.
     pub fn tag(&self, i: usize) -> Option<&[u8]>
-        // The index is that of an element.
+        // There is a repository at `i`.
         requires { i < length self.now }
+        // The result is the tag of the repository with this index.
         ensures { option_map (λ repo. repo.tag) (slice_get self.now i)
             ≡ Some (option_copied result) }
     {
@@ -122,8 +126,11 @@ impl Repos {
     }
 }
 
-/// Adds the repository that a line names, if it names one, and returns whether the line is good.
+/// Adds the repository that a line names, if it names one. Returns whether the line is good: it is
+/// skipped, or names a repository.
 fn add_line(alloc: Global, repos: &mut Vec<Repo>, line: &[u8]) -> Result<bool, AllocError>
+    // On `Ok(true)`, the repositories of the line are appended. On `Ok(false)`, the definition
+    // gives None, which means that the line is bad.
     ensures { IfOk result (λ good.
         option_map (λ found. repos.old.items ++ found) (repositories_on_line line.now)
         ≡ (if good then Some repos.new.items else None)) }
@@ -157,7 +164,8 @@ fn without_trailing_blanks(text: &[u8]) -> &[u8]
     &text[..end]
 }
 
-/// Whether a line without blanks at its ends is skipped.
+/// Whether a line is skipped, given the line without blanks at both ends: it is empty, or begins
+/// with `#`.
 fn is_blank_or_comment(text: &[u8]) -> bool
     ensures { result ≡ is_blank_or_comment text.now }
 {
@@ -167,7 +175,8 @@ fn is_blank_or_comment(text: &[u8]) -> bool
     }
 }
 
-/// The repository of a line that is no comment; None if the line is bad.
+/// The repository of a line that is not skipped, given without blanks at both ends; None if the
+/// line is bad.
 #[tactic(auto, unfolding(crate::specs::Repositories::repository_of))]
 fn read_repo(alloc: Global, text: &[u8]) -> Result<Option<Repo>, AllocError>
     ensures { IfOk result (λ found. found ≡ repository_of text.now) }
@@ -179,7 +188,7 @@ fn read_repo(alloc: Global, text: &[u8]) -> Result<Option<Repo>, AllocError>
     }
 }
 
-/// The repository of a text after the `@` of its tag; None if it is bad.
+/// The repository of a line, given the text after the `@` of its tag; None if the line is bad.
 #[tactic(auto, unfolding(crate::specs::Repositories::repository_after_at_sign))]
 fn read_tagged(alloc: Global, text: &[u8]) -> Result<Option<Repo>, AllocError>
     ensures { IfOk result (λ found. found ≡ repository_after_at_sign text.now) }
@@ -191,7 +200,7 @@ fn read_tagged(alloc: Global, text: &[u8]) -> Result<Option<Repo>, AllocError>
     repository_at_path(alloc, Some(tag), &rest[blank_len(rest)..])
 }
 
-/// Whether the first byte is a blank.
+/// Whether the first byte is a space or a tab.
 fn begins_with_blank(text: &[u8]) -> bool
     ensures { result ≡ begins_with_blank text.now }
 {
@@ -201,7 +210,8 @@ fn begins_with_blank(text: &[u8]) -> bool
     }
 }
 
-/// The repository with this tag and this path; None if the path is not a name.
+/// The repository with this tag and this path, without one leading `/`; None if the path is no
+/// name.
 fn repository_at_path(
     alloc: Global,
     tag: Option<&[u8]>,

@@ -1,5 +1,5 @@
-//! Dependencies as texts and as values of a package's information: how they are read and written.
-//! The rules are in `docs/formats.md`, "Dependencies".
+//! How dependencies are read and written: as texts, which world and options use, and as values of a
+//! package's information. The rules are in `docs/formats.md`, "Dependencies".
 
 ghost use Rattle.std.specs.Prelude.{◌≡◌, IsTrue, true, is_some, IfSome, ◌++◌, IfOk, OnOk, ◌≤◌, length, not, position};
 ghost use Rattle.std.specs.Option.{option_map};
@@ -30,9 +30,11 @@ pub fn read_dep(text: &[u8]) -> Option<Dep<'_>>
     }
 }
 
-/// Reads a dependency from its name on.
+/// Reads a dependency from a text that begins with its name. `conflict` says whether a `!` preceded
+/// the name.
 #[tactic(auto, unfolding(crate::specs::Reading::dependency_from_name))]
 fn dependency_from_name(conflict: bool, text: &[u8]) -> Option<Dep<'_>>
+    // The result is the dependency, or None, that the definition with this name gives.
     ensures { option_map dependency result ≡ dependency_from_name conflict text.entry.now }
 {
     let (name, rest) = text.split_at(name_len(text));
@@ -42,9 +44,11 @@ fn dependency_from_name(conflict: bool, text: &[u8]) -> Option<Dep<'_>>
     dependency_after_name(Dep::dependency_on_any_version(conflict, name), rest)
 }
 
-/// Reads what follows the name: a tag, a constraint or nothing.
+/// Reads the text after the name: a tag, an operator with a version, or nothing. `dep` is the
+/// dependency as read so far, here and in the functions below.
 #[tactic(auto, unfolding(crate::specs::Reading::dependency_after_name))]
 fn dependency_after_name<'a>(dep: Dep<'a>, text: &'a [u8]) -> Option<Dep<'a>>
+    // The result is the dependency, or None, that the definition with this name gives.
     ensures { option_map dependency result
         ≡ dependency_after_name (dependency dep.entry) text.entry.now }
 {
@@ -55,9 +59,11 @@ fn dependency_after_name<'a>(dep: Dep<'a>, text: &'a [u8]) -> Option<Dep<'a>>
     }
 }
 
-/// Reads a tag after the name, and a constraint or nothing after it.
+/// Reads the text after the `@` that follows the name: a tag, and then an operator with a version,
+/// or nothing.
 #[tactic(auto, unfolding(crate::specs::Reading::dependency_from_tag))]
 fn dependency_from_tag<'a>(dep: Dep<'a>, text: &'a [u8]) -> Option<Dep<'a>>
+    // The result is the dependency, or None, that the definition with this name gives.
     ensures { option_map dependency result
         ≡ dependency_from_tag (dependency dep.entry) text.entry.now }
 {
@@ -68,9 +74,10 @@ fn dependency_from_tag<'a>(dep: Dep<'a>, text: &'a [u8]) -> Option<Dep<'a>>
     dependency_from_operator(dep.with_tag(tag), rest)
 }
 
-/// Reads an operator and the version after it, or nothing.
+/// Reads the text after the name and its tag: an operator with a version, or nothing.
 #[tactic(auto, unfolding(crate::specs::Reading::dependency_from_operator))]
 fn dependency_from_operator<'a>(dep: Dep<'a>, text: &'a [u8]) -> Option<Dep<'a>>
+    // The result is the dependency, or None, that the definition with this name gives.
     ensures { option_map dependency result
         ≡ dependency_from_operator (dependency dep.entry) text.entry.now }
 {
@@ -82,11 +89,12 @@ fn dependency_from_operator<'a>(dep: Dep<'a>, text: &'a [u8]) -> Option<Dep<'a>>
     dependency_from_version(dep, op, rest)
 }
 
-/// Reads the version after an operator, and what follows it.
+/// Reads the text after the operator `op`: a version, and then a tag or nothing.
 #[tactic(auto, unfolding(crate::specs::Reading::dependency_from_version))]
 fn dependency_from_version<'a>(dep: Dep<'a>, op: Op, text: &'a [u8]) -> Option<Dep<'a>>
-    // The operator can be written as a text.
+    // The operator is one that has a text.
     requires { IsTrue (is_some (operator_text op)) }
+    // The result is the dependency, or None, that the definition with this name gives.
     ensures { option_map dependency result
         ≡ dependency_from_version (dependency dep.entry) op text.entry.now }
 {
@@ -95,9 +103,11 @@ fn dependency_from_version<'a>(dep: Dep<'a>, op: Op, text: &'a [u8]) -> Option<D
     dependency_after_version(dep.with_constraint(version, op), rest)
 }
 
-/// Reads what follows the version: a tag or nothing.
+/// Reads the text after the version: `@` and a tag, or nothing. A tag is refused here if the name
+/// was already followed by one.
 #[tactic(auto, unfolding(crate::specs::Reading::dependency_after_version))]
 fn dependency_after_version<'a>(dep: Dep<'a>, text: &'a [u8]) -> Option<Dep<'a>>
+    // The result is the dependency, or None, that the definition with this name gives.
     ensures { option_map dependency result
         ≡ dependency_after_version (dependency dep.entry) text.entry.now }
 {
@@ -108,17 +118,19 @@ fn dependency_after_version<'a>(dep: Dep<'a>, text: &'a [u8]) -> Option<Dep<'a>>
     }
 }
 
-/// The part of a match number above the operator's four bits that marks a conflict. All match
-/// numbers are below twice as much.
+/// The bit of a match number that marks a conflict: 16, above the four bits of the operator. All
+/// match numbers are below 32.
 const CONFLICT: u64 = 16;
 
-/// The dependency of a package's information: a name, a version, which may be empty, and a match
-/// number. The low four bits of the number are the operator's, and 16 marks a conflict. With the
-/// low bits 7 or 15 any version is accepted. 0 counts as 1, and 8, 10, 12 count as 9, 11, 13. None
-/// if and only if the name is no name, the version is neither empty nor a version, or the number is
-/// above 31 or has the low bits 6 or 14.
+/// The dependency that three values in a package's information denote: a name, a version, which may
+/// be empty, and a match number (`matching`). The low four bits of the match number are those of
+/// the operator, and 16 marks a conflict. With the low bits 7 or 15 any version is accepted. The
+/// low bits 0 count as 1, and 8, 10, 12 as 9, 11, 13. The result is None if and only if one of
+/// these holds: the name is no name; the version is neither empty nor a version; the match number
+/// is above 31; its low bits are 6 or 14.
 #[tactic(auto, unfolding(crate::specs::ValueReading::dependency_of_value))]
 pub fn dep_of<'a>(name: &'a [u8], version: &'a [u8], matching: u64) -> Option<Dep<'a>>
+    // The result is the dependency, or None, that the definition with this name gives.
     ensures { option_map dependency result
         ≡ dependency_of_value name.entry.now version.entry.now matching }
 {
@@ -128,20 +140,22 @@ pub fn dep_of<'a>(name: &'a [u8], version: &'a [u8], matching: u64) -> Option<De
     dep_of_parts(name, version, matching)
 }
 
-/// The result of `dep_of` for a name and a version that are known to be good, so that neither is
-/// read.
+/// The result of `dep_of` for a name and a version that are known to be valid, so that their bytes
+/// are not tested again.
 #[tactic(auto, unfolding(crate::specs::ValueReading::dependency_of_value))]
 pub fn dep_of_parts<'a>(name: &'a [u8], version: &'a [u8], matching: u64) -> Option<Dep<'a>>
     // The name is allowed for a dependency.
     requires name { is_dep_name name.now ≡ true }
     // The version is valid, or empty.
     requires version { is_version_or_empty version.now ≡ true }
+    // The result is the dependency, or None, that the definition with this name gives.
     ensures { option_map dependency result
         ≡ dependency_of_value name.entry.now version.entry.now matching }
 {
     if matching >= 2 * CONFLICT {
         return None;
     }
+    // The low four bits are match bits. `Op::of` refuses those that no operator has.
     let low = Op::of((matching % CONFLICT) as u8)?;
     let dep = Dep::dependency_on_any_version(matching >= CONFLICT, name);
     if version.is_empty() {
@@ -160,15 +174,19 @@ fn is_version_or_empty(text: &[u8]) -> bool
     text.is_empty() || Version::read(text).is_some()
 }
 
-/// The operator that the low four bits of a match number denote; None if any version is accepted.
+/// The operator that the low four bits (`low`) of a match number denote; None if they accept any
+/// version.
 fn wanted_op(low: Op) -> Option<Op>
     ensures bits { result ≡ match_bits_unless_any_version low }
     // An operator that is returned can be written as a text.
     ensures has_text { IfSome result (λ op. IsTrue (is_some (operator_text op))) }
 {
     match low.bits() {
+        // Any version is accepted.
         7 | 15 => None,
+        // The operator `=`.
         0 => Op::of(1),
+        // A fuzzy match accepts equal versions too.
         8 => Op::of(9),
         10 => Op::of(11),
         12 => Op::of(13),
@@ -176,7 +194,7 @@ fn wanted_op(low: Op) -> Option<Op>
     }
 }
 
-/// The one text that a dependency is written as, which is read as that dependency.
+/// The text that a dependency is written as. `read_dep` reads this text as the same dependency.
 pub fn dep_text(alloc: Global, dep: &Dep<'_>) -> Result<Text, AllocError>
     ensures { IfOk result (λ text. text ≡ dep_text (dependency dep.now)) }
 {
@@ -208,13 +226,13 @@ pub fn append_dep(text: &mut Vec<u8>, dep: &Dep<'_>) -> Result<(), AllocError>
 #[tactic(auto, using(crate::proofs::Prefixes::len_at))]
 pub fn name_len(text: &[u8]) -> usize
     ensures len { result ≡ prefix_len is_name_byte text.now }
-    // The result is at most the length.
+    // The result is at most the length of the text.
     ensures within { result ≤ length text.now }
 {
     name_end(text).unwrap_or(text.len())
 }
 
-/// The index of the first byte that a name may not have.
+/// The index of the first byte that a name may not have; None if there is no such byte.
 fn name_end(text: &[u8]) -> Option<usize>
     ensures { result ≡ position (λ b. not (is_name_byte b)) text.now }
 {
@@ -225,30 +243,30 @@ fn name_end(text: &[u8]) -> Option<usize>
 #[tactic(auto, using(crate::proofs::Prefixes::len_at))]
 pub fn tag_len(text: &[u8]) -> usize
     ensures len { result ≡ prefix_len is_tag_byte text.now }
-    // The result is at most the length.
+    // The result is at most the length of the text.
     ensures within { result ≤ length text.now }
 {
     tag_end(text).unwrap_or(text.len())
 }
 
-/// The index of the first byte that a tag may not have.
+/// The index of the first byte that a tag may not have; None if there is no such byte.
 fn tag_end(text: &[u8]) -> Option<usize>
     ensures { result ≡ position (λ b. not (is_tag_byte b)) text.now }
 {
     text.iter().position(|byte| !is_tag_byte(*byte))
 }
 
-/// The length of the longest prefix of bytes that occur in operators.
+/// The length of the longest prefix whose bytes all occur in operators.
 #[tactic(auto, using(crate::proofs::Prefixes::len_at))]
 pub fn operator_len(text: &[u8]) -> usize
     ensures len { result ≡ prefix_len is_operator_byte text.now }
-    // The result is at most the length.
+    // The result is at most the length of the text.
     ensures within { result ≤ length text.now }
 {
     operator_end(text).unwrap_or(text.len())
 }
 
-/// The index of the first byte that occurs in no operator.
+/// The index of the first byte that occurs in no operator; None if there is no such byte.
 fn operator_end(text: &[u8]) -> Option<usize>
     ensures { result ≡ position (λ b. not (is_operator_byte b)) text.now }
 {
@@ -262,17 +280,17 @@ fn is_operator_byte(byte: u8) -> bool
     matches!(byte, b'<' | b'=' | b'>' | b'~')
 }
 
-/// How many bytes precede the first `@`.
+/// How many bytes precede the first `@`; all bytes if there is no `@`.
 #[tactic(auto, using(crate::proofs::Prefixes::len_at))]
 pub fn len_before_at_sign(text: &[u8]) -> usize
     ensures len { result ≡ prefix_len is_not_at_sign text.now }
-    // The result is at most the length.
+    // The result is at most the length of the text.
     ensures within { result ≤ length text.now }
 {
     at_sign(text).unwrap_or(text.len())
 }
 
-/// The index of the first `@`.
+/// The index of the first `@`; None if there is none.
 fn at_sign(text: &[u8]) -> Option<usize>
     ensures { result ≡ position (λ b. not (is_not_at_sign b)) text.now }
 {
@@ -283,13 +301,13 @@ fn at_sign(text: &[u8]) -> Option<usize>
 #[tactic(auto, using(crate::proofs::Prefixes::len_at))]
 pub fn blank_len(text: &[u8]) -> usize
     ensures len { result ≡ prefix_len is_blank text.now }
-    // The result is at most the length.
+    // The result is at most the length of the text.
     ensures within { result ≤ length text.now }
 {
     blank_end(text).unwrap_or(text.len())
 }
 
-/// The index of the first byte that is not a blank.
+/// The index of the first byte that is neither a space nor a tab; None if there is none.
 fn blank_end(text: &[u8]) -> Option<usize>
     ensures { result ≡ position (λ b. not (is_blank b)) text.now }
 {

@@ -1,6 +1,6 @@
-//! World (apk-world(5)): its entries, how they are read, written and edited. The rules are in
-//! `docs/formats.md`, "World"; how a command edits world is defined in `docs/commands.md`, "`add`
-//! and `del`".
+//! World (apk-world(5)), the dependencies that the user asks for: how its entries are read, written
+//! and edited. The rules are in `docs/formats.md`, "World"; how a command edits world is defined in
+//! `docs/commands.md`, "`add` and `del`".
 
 ghost use Rattle.std.specs.Prelude.{◌≡◌, ◌<◌, ◌==◌, Some, length, slice_get, IfOk, IfErr, OnOk, OnErr, IsTrue, [], None, not, if◌then◌else◌};
 ghost use Rattle.dep_core.specs.Meets.{dependency};
@@ -20,11 +20,11 @@ use std::collections::BTreeMap;
 use std::marker::Model;
 use version_core::{Op, Version};
 
-/// Why a world was not read.
+/// Why the text of a world was not read.
 #[derive(Clone, Copy, Debug, PartialEq, Eq)]
 pub enum WorldFault {
-    /// The first line, counted from 1, with an entry that is no dependency or whose name is already
-    /// taken.
+    /// `line` is the first line, counted from 1, with an entry that is no dependency or that
+    /// repeats the name of an entry before it.
     Bad { line: u64 },
     /// Out of memory.
     Memory,
@@ -36,7 +36,7 @@ impl From<AllocError> for WorldFault {
 
     ghost from_gives = { λ _ fault. fault ≡ Memory };
 
-    /// Running out of memory is a fault of its own.
+    /// Running out of memory is the fault `Memory`.
     fn from(_: AllocError) -> WorldFault {
         WorldFault::Memory
     }
@@ -48,7 +48,7 @@ impl From<AllocError> for WorldFault {
 pub struct World {
     /// The allocator for further entries.
     alloc: Global,
-    /// In byte order of their names, one per name.
+    /// The entries of world, in byte order of their names, each name once.
     entries: Vec<Entry>,
 }
 
@@ -59,18 +59,22 @@ impl Model for World {
 
     ghost Value = { List Dependency };
 
+    // In contracts a world is the list of its dependencies.
     ghost view = { λ world. world.entries.items };
 
+    // Each entry is a valid dependency, and each name occurs once, in byte order.
     ghost invariant = { λ world. IsWorld world.entries.items };
 }
 
 impl World {
-    /// The world that a text denotes: dependency texts between spaces, tabs and line ends.
+    /// The world that a text denotes. The text has the texts of dependencies, separated by spaces,
+    /// tabs and line ends.
     pub fn read(alloc: Global, bytes: &[u8]) -> Result<World, WorldFault>
         // On Ok, the world is that of the text.
         ensures ok { IfOk result (λ world. world_of bytes.now ≡ Ok world) }
         // An error is that of the definition, or out of memory.
         ensures bad { IfErr result (λ fault. IsWorldFault fault (world_of bytes.now)) }
+        // The result has each name once, in byte order.
         ensures world { IfOk result (λ world. IsWorld world) }
     {
         let mut found = Found::new(alloc);
@@ -85,31 +89,34 @@ impl World {
         Ok(World { alloc, entries })
     }
 
-    /// Replaces the entry of the dependency's name, or inserts one. A call that fails changes
-    /// nothing.
+    /// Replaces the entry with the name of `dep` by `dep`, or inserts `dep` in the order of the
+    /// names if there is no such entry. A call that fails changes nothing.
     pub fn add(&mut self, dep: &Dep<'_>) -> Result<(), AllocError>
-        // On Ok, the world has the dependency in its place, instead of one of the same name.
+        // On Ok, the entries have the dependency, instead of an entry with the same name.
         ensures ok { OnOk result (self.new
             ≡ world_with_dependency_set (dependency dep.now) self.old) }
-        // An error leaves the value unchanged.
+        // After an error, world is unchanged.
         ensures err { OnErr result (self.new ≡ self.old) }
     {
         let entry = Entry::of(self.alloc, dep)?;
         put(&mut self.entries, entry)
     }
 
-    /// Removes the entry of a name, and returns whether there was one.
+    /// Removes the entry with this name, and returns whether there was such an entry.
     pub fn del(&mut self, name: &[u8]) -> bool
+        // The result says whether an entry had the name.
         ensures found { result ≡ has_dependency_named name.now self.old }
+        // The other entries remain.
         ensures rest { self.new ≡ world_without_name name.now self.old }
     {
         take_out(&mut self.entries, name)
     }
 
-    /// The text of this world, a line for each entry. It is read as this world.
+    /// The text of this world, which has a line for each entry. `read` reads it as this world.
     pub fn text(&self, alloc: Global) -> Result<Text, AllocError>
         // On Ok, the text is that of the world.
         ensures text { IfOk result (λ text. text ≡ world_text self.now) }
+        // Each name occurs once, in byte order.
         ensures world { IsWorld self.now }
     {
         let mut text = Vec::new(alloc);
@@ -123,6 +130,7 @@ impl World {
     /// How many entries there are.
     pub fn len(&self) -> usize
         ensures value { result ≡ length self.now }
+        // Each name occurs once, in byte order.
         ensures world { IsWorld self.now }
     {
         self.entries.len()
@@ -139,6 +147,7 @@ impl World {
     pub fn entry(&self, i: usize) -> Dep<'_>
         // The index is that of an element.
         requires { i < length self.now }
+        // The result is the entry with this index.
         ensures { slice_get self.now i ≡ Some (dependency result) }
     {
         self.entries[i].dep()
@@ -148,7 +157,7 @@ impl World {
 /// A dependency that owns its parts.
 #[derive(Drop)]
 pub struct Entry {
-    // The parts are those of `Dep`, in texts that the entry owns.
+    // The name of the dependency.
     name: Text,
     /// The wanted version, if one is named.
     version: Option<Text>,
@@ -156,7 +165,7 @@ pub struct Entry {
     op: Op,
     /// Whether the entry excludes the packages that meet it.
     conflict: bool,
-    /// The tag of the repositories to be preferred, if one is given.
+    /// The tag of the repositories whose packages are preferred, if a tag is given.
     tag: Option<Text>,
 }
 
@@ -167,16 +176,18 @@ impl Model for Entry {
 
     ghost Value = { Dependency };
 
+    // In contracts an entry is the dependency that it represents.
     ghost view = { λ e. dependency_from_parts e.name e.version e.op e.conflict e.tag };
 
+    // The parts are those of a valid dependency.
     ghost invariant = { λ e.
         IsTrue (is_dependency (dependency_from_parts e.name e.version e.op e.conflict e.tag)) };
 }
 
 impl Entry {
-    /// A copy of the dependency.
+    /// The entry that owns a copy of a dependency's parts.
     pub fn of(alloc: Global, dep: &Dep<'_>) -> Result<Entry, AllocError>
-        // On Ok, the entry is the given dependency.
+        // On Ok, the entry represents the given dependency.
         ensures value { IfOk result (λ entry. entry ≡ dependency dep.now) }
         // Each `Dep` is a valid dependency.
         ensures grammar { IsTrue (is_dependency (dependency dep.now)) }
@@ -199,7 +210,7 @@ impl Entry {
         })
     }
 
-    /// The dependency, borrowed.
+    /// The dependency that the entry represents; it borrows the entry's texts.
     pub fn dep(&self) -> Dep<'_>
         ensures { dependency result ≡ self.now }
     {
@@ -225,18 +236,19 @@ impl Entry {
     }
 }
 
-/// Replaces the entry of the same name, or inserts the entry at the place of its name. A call that
-/// fails changes nothing.
+/// Replaces the entry with the name of `entry` by `entry`, or inserts `entry` in the order of the
+/// names if there is no such entry. A call that fails changes nothing.
 pub fn put(entries: &mut Vec<Entry>, entry: Entry) -> Result<(), AllocError>
-    // The entries are those of a world: each name once, in order.
+    // The entries are those of a world: each name once, in byte order.
     requires world { IsWorld entries.old.items }
     // The entry is a valid dependency.
     requires dependency { IsDependency entry }
-    // On Ok, the entry is in its place, instead of one of the same name.
+    // On Ok, the entries have `entry`, instead of an entry with the same name.
     ensures ok { OnOk result (entries.new.items
         ≡ world_with_dependency_set entry entries.old.items) }
-    // An error leaves the entries unchanged.
+    // After an error, the entries are unchanged.
     ensures err { OnErr result (entries.new.items ≡ entries.old.items) }
+    // Afterwards each name still occurs once, in byte order.
     ensures still_world { IsWorld entries.new.items }
 {
     match index_of(entries, entry.name()) {
@@ -246,14 +258,15 @@ pub fn put(entries: &mut Vec<Entry>, entry: Entry) -> Result<(), AllocError>
     Ok(())
 }
 
-/// Removes the entry of a name, and returns whether there was one.
+/// Removes the entry with this name, and returns whether there was such an entry.
 pub fn take_out(entries: &mut Vec<Entry>, name: &[u8]) -> bool
-    // The entries are those of a world: each name once, in order.
+    // The entries are those of a world: each name once, in byte order.
     requires { IsWorld entries.old.items }
     // The result says whether an entry had the name.
     ensures found { result ≡ has_dependency_named name.now entries.old.items }
-    // No entry has the name any more.
+    // The entry with the name is removed, and the others remain.
     ensures rest { entries.new.items ≡ world_without_name name.now entries.old.items }
+    // Afterwards each name still occurs once, in byte order.
     ensures still_world { IsWorld entries.new.items }
 {
     match index_of(entries, name) {
@@ -265,22 +278,24 @@ pub fn take_out(entries: &mut Vec<Entry>, name: &[u8]) -> bool
     }
 }
 
-/// The index of the entry of a name, or else the one at which it would be inserted.
+/// The index of the entry with this name. If there is none, the error is the index at which an
+/// entry with this name would be inserted.
 fn index_of(entries: &[Entry], name: &[u8]) -> Result<usize, usize>
     // The index is within the list, or at its end.
     ensures within { IsSearchInRange result (length entries.now) }
-    // The index is that of an entry of this name, or the one at which it would be inserted.
+    // Ok has the index of an entry with this name, an error that at which one would be inserted.
     ensures index { IsBinarySearchResult
         (λ entry. bytes_cmp entry.name name.now) entries.now result }
 {
     entries.binary_search_by(|entry| entry.name().cmp(name))
 }
 
-/// The entries found in a text so far, in byte order of their names.
+/// The entries that were found so far in the text of a world, in byte order of their names.
 #[derive(Drop)]
 pub struct Found<'a> {
+    /// The allocator for further entries.
     alloc: Global,
-    /// Each entry under its own name.
+    /// Maps the name of each entry to the entry.
     by_name: BTreeMap<&'a [u8], Entry>,
 }
 
@@ -293,14 +308,16 @@ impl<'a> Model for Found<'a> {
 
     ghost Value = { List Dependency };
 
+    // In contracts this is the list of the dependencies found so far.
     ghost view = { λ found. values found.by_name };
 
+    // Each entry is under its own name, and the entries are a world.
     ghost invariant = { λ found. IsKeyedByName found.by_name.entries
         × IsWorld (values found.by_name) };
 }
 
 impl<'a> Found<'a> {
-    /// No entries yet.
+    /// The object at the beginning, when no entry is found.
     pub fn new(alloc: Global) -> Found<'a>
         ensures { result ≡ [] }
     {
@@ -310,9 +327,11 @@ impl<'a> Found<'a> {
         }
     }
 
-    /// Adds the entries of a line, and returns whether each of its words is a dependency with a new
-    /// name.
+    /// Adds the entries of a line, and returns whether each word of the line is a dependency whose
+    /// name no entry before it has.
     pub fn add_line(&mut self, line: &'a [u8]) -> Result<bool, AllocError>
+        // On `Ok(true)`, the entries are those of the definition. On `Ok(false)`, the definition
+        // gives None, which means that the line is bad.
         ensures { IfOk result (λ good.
             world_with_words self.old (words_of_line line.entry.now)
             ≡ (if good then Some self.new else None)) }
@@ -328,8 +347,11 @@ impl<'a> Found<'a> {
         Ok(true)
     }
 
-    /// Adds the entry that a word denotes, and returns whether it is a dependency with a new name.
+    /// Adds the entry that a word denotes, and returns whether the word is a dependency whose name
+    /// no entry before it has.
     fn add_word(&mut self, word: &'a [u8]) -> Result<bool, AllocError>
+        // On `Ok(true)`, the entries are those of the definition. On `Ok(false)`, the definition
+        // gives None, which means that the word is bad.
         ensures { IfOk result (λ good.
             option_and_then (world_with_new_dependency self.old) (dependency_of word.entry.now)
             ≡ (if good then Some self.new else None)) }
@@ -340,12 +362,12 @@ impl<'a> Found<'a> {
         }
     }
 
-    /// Adds an entry, and returns whether its name is new.
+    /// Adds an entry for `dep`, and returns whether no entry had its name before.
     fn add(&mut self, dep: &Dep<'a>) -> Result<bool, AllocError>
         // On Ok, the result says whether no entry had the name before.
         ensures new { IfOk result (λ new. new
             ≡ not (has_dependency_named dep.now.name.now self.old)) }
-        // On Ok, the world has the dependency in its place, instead of one of the same name.
+        // On Ok, the entries have the dependency, instead of an entry with the same name.
         ensures added { OnOk result (self.new
             ≡ world_with_dependency_set (dependency dep.now) self.old) }
     {
@@ -356,8 +378,9 @@ impl<'a> Found<'a> {
 
     /// All entries, in byte order of their names.
     pub fn into_entries(self) -> Result<Vec<Entry>, AllocError>
-        // On Ok, the entries are those of the world.
+        // On Ok, the result has the entries that were found.
         ensures value { IfOk result (λ entries. entries.items ≡ self.entry) }
+        // Each name occurs once, in byte order.
         ensures world { IsWorld self.entry }
     {
         self.by_name.into_values().collect(self.alloc)

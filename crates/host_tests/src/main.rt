@@ -1,6 +1,7 @@
-//! Answers questions to `host_tree` on the folder that it runs in. The rules are in
-//! `docs/crash-safety.md`, "What the host's tree does". Its stored run has all rows;
-//! `tests/lines.md` describes their form, and the README of this crate has a row for each question.
+//! Answers questions about `host_tree`, the tree of the host, on the folder in which this program
+//! runs. The rules are in `docs/crash-safety.md`, "What the host's tree does". The stored run of
+//! this program (`stdin`, `stdout`) has all rows. `tests/lines.md` describes the form of rows, and
+//! the README of this crate has a row for each question.
 #![tactic(auto)]
 
 use base_core::{Disk, Name, Tree, TreeFault, Words};
@@ -12,20 +13,21 @@ use std::os::unix::fs::symlink;
 use std::process::ExitCode;
 use std::{fs, io, str};
 
-/// The most bytes that a row reads.
+/// The most bytes that a row may read, and the greatest offset at which it may read.
 const MOST_BYTES: u128 = 1_000_000;
 
-/// The folder that the program runs in, and its tree.
+/// The folder in which the program runs, and the tree whose root is this folder.
 #[derive(Drop)]
 struct HostFolder<'a, R: Host> {
     /// The runtime, by which rows also call the host without the tree.
     rt: &'a R,
-    /// The tested tree, whose root is the folder.
+    /// The tree that is tested.
     tree: HostTree<'a, R>,
 }
 
 impl<'a, R: Host> Subject for HostFolder<'a, R> {
-    /// Answers a question by its first word, on the state that earlier questions have left.
+    /// Answers a question, which is the first word of a row. Earlier questions may have changed the
+    /// files of the folder.
     fn answer(
         &mut self,
         alloc: Global,
@@ -33,13 +35,15 @@ impl<'a, R: Host> Subject for HostFolder<'a, R> {
         answer: &mut Vec<u8>,
     ) -> Result<(), AllocError> {
         let question = word_at(words, 0);
-        // The only question without a name.
+        // This question alone has no name of a file.
         if question == b"sync_names".as_slice() {
             return add_outcome(answer, self.tree.sync_names());
         }
         let Some(name) = Name::read(alloc, word_at(words, 1))? else {
             return answer.extend_from_slice(b"no name");
         };
+        // The second word is the name of a file, and the further words are arguments of the
+        // question.
         match question {
             b"create" => add_outcome(answer, self.tree.create(&name)),
             b"append" => add_outcome(answer, self.tree.append(&name, word_at(words, 2))),
@@ -57,14 +61,15 @@ impl<'a, R: Host> Subject for HostFolder<'a, R> {
 }
 
 impl<'a, R: Host> HostFolder<'a, R> {
-    /// Answers `write`: makes a file of these bytes by three calls, of which the last syncs it.
+    /// Answers `write NAME BYTES`: makes a file with these bytes by three calls, the last of which
+    /// syncs the file.
     fn write(&mut self, name: &Name, bytes: &[u8]) -> Result<(), Disk> {
         self.tree.create(name)?;
         self.tree.append(name, bytes)?;
         self.tree.sync(name)
     }
 
-    /// Answers `rename`: renames a file, and adds whether that succeeds.
+    /// Answers `rename NAME TO`: renames a file, and adds whether the call succeeds.
     fn add_rename(
         &mut self,
         alloc: Global,
@@ -78,8 +83,8 @@ impl<'a, R: Host> HostFolder<'a, R> {
         }
     }
 
-    /// Answers `check NAME SOURCE`: adds whether the file SOURCE can be renamed to NAME later, or,
-    /// if SOURCE is empty, whether NAME can be removed later.
+    /// Answers `check NAME SOURCE`: adds whether the file SOURCE can be renamed to NAME later. If
+    /// SOURCE is no name, for example empty, it adds whether NAME can be removed later.
     fn add_check(
         &mut self,
         alloc: Global,
@@ -93,7 +98,7 @@ impl<'a, R: Host> HostFolder<'a, R> {
         }
     }
 
-    /// Answers `size`: adds the length of a file, or `none` if it is absent.
+    /// Answers `size NAME`: adds the length of a file in bytes, or `none` if the file is absent.
     fn add_size(
         &mut self,
         alloc: Global,
@@ -129,7 +134,7 @@ impl<'a, R: Host> HostFolder<'a, R> {
         }
     }
 
-    /// Answers `list`: adds the names of all files below a folder.
+    /// Answers `list FOLDER`: adds the names of all files below a folder.
     fn add_list(
         &mut self,
         alloc: Global,
@@ -148,8 +153,8 @@ impl<'a, R: Host> HostFolder<'a, R> {
         }
     }
 
-    /// Calls the host itself: to see whether a path leads to something, to make a symbolic link
-    /// there, or to remove a file.
+    /// Answers a question by calling the host itself, and not the tree: whether a path leads to
+    /// something, making a symbolic link, or removing a file.
     fn add_host_answer(
         &self,
         question: &[u8],
@@ -162,11 +167,11 @@ impl<'a, R: Host> HostFolder<'a, R> {
             return answer.extend_from_slice(b"no text");
         };
         match question {
-            // Whether the path leads to something.
+            // `stands PATH`: whether the path leads to something.
             b"stands" => add_yes_or_no(answer, matches!(fs::exists(self.rt, path), Ok(true))),
-            // Makes a symbolic link to the target at the path.
+            // `link PATH TARGET`: makes a symbolic link at the path, to the target.
             b"link" => add_outcome(answer, symlink(self.rt, target, path)),
-            // Removes the file at the path.
+            // `unlink PATH`: removes the file at the path.
             b"unlink" => add_outcome(answer, fs::remove_file(self.rt, path)),
             _ => answer.extend_from_slice(b"no question"),
         }
@@ -181,7 +186,8 @@ fn add_outcome<E: Drop>(answer: &mut Vec<u8>, outcome: Result<(), E>) -> Result<
     }
 }
 
-/// Answers the rows of standard input, in the folder that it runs in.
+/// Runs the rows of standard input in the folder in which the program runs, and returns the exit
+/// status.
 fn main(rt: HostRuntime) -> io::Result<ExitCode> {
     let alloc = rt.alloc();
     let mut folder = HostFolder {

@@ -5,18 +5,18 @@ use Rattle.hex.specs.Hex.{encode_lower}
 
 -- ---- `audit`
 
--- the line of a listed file that is missing, as `X PATH`
+-- the text for a listed file that is missing: `X PATH`
 abbrev pub missing_file_text : List ℕ → List ℕ
 missing_file_text path = codes "X " ++ path
 
--- the line of a file whose bytes are not as listed, as `U PATH`
+-- the text for a file whose bytes are not as its entry lists them: `U PATH`
 abbrev pub modified_file_text : List ℕ → List ℕ
 modified_file_text path = codes "U " ++ path
 
 -- ---- `manifest`
 
--- a digest with the name of its function, as `sha256:DIGITS`; its length determines the function (FIPS
--- 180-4). `none` if there is no digest
+-- a digest with the name of its hash function, as `sha256:DIGITS`. The length of the digest determines the function
+-- (FIPS 180-4). `none` for any other length, so also if there is no digest
 abbrev pub digest_with_algorithm_name : List ℕ → List ℕ
 digest_with_algorithm_name digest =
     if length digest == 20 then codes "sha1:" ++ encode_lower digest
@@ -24,6 +24,6 @@ digest_with_algorithm_name digest =
     else if length digest == 64 then codes "sha512:" ++ encode_lower digest
     else codes "none"
 
--- the line of a listed file: its digest, two spaces and its path
+-- the text for a listed file: its digest, two spaces and its path
 abbrev pub digest_and_path_text : List ℕ → List ℕ → List ℕ
 digest_and_path_text digest path = digest_with_algorithm_name digest ++ codes "  " ++ path

@@ -1,4 +1,4 @@
--- The numbers by which refusals name a field and a script: the positions in tables 3 and 6 of
+-- The numbers by which refusals name a field of a package's information and a script: the numbers in tables 3 and 6 of
 -- `docs/formats.md`, "Schemas", which count from 1.
 use Rattle.std.specs.Prelude.{ℕ}
 

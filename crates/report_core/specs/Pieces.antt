@@ -1,5 +1,5 @@
--- The pieces of a refusal's text. Serves the proof of `write_error`, whose contract cites
--- *refusal_line*; the meaning of each piece is a rule of `docs/commands.md`, "Error lines".
+-- The pieces from which the program puts together the text of a refusal. Serves the proof of `write_error`, whose
+-- contract cites *refusal_line*; how each piece is printed is a rule of `docs/commands.md`, "Error lines".
 use Rattle.std.specs.Prelude.{ℕ, List, [], ◌∷◌, ◌++◌, Option, Some, None}
 use Rattle.std.specs.Fmt.{decimal}
 use Rattle.hex.specs.Hex.{encode_lower}
@@ -29,6 +29,6 @@ abbrev pub cause_text_if_any : Option Cause → List ℕ
 cause_text_if_any (Some cause) = cause_text cause
 cause_text_if_any None = []
 
--- the text of a sentence: its pieces, and then its cause
+-- the text of a refusal, given as a `Sentence` of the program: the pieces, and then the cause, if there is one
 abbrev pub sentence_text : Sentence → List ℕ
 sentence_text sentence = pieces_text sentence.pieces ++ cause_text_if_any sentence.cause

@@ -5,7 +5,7 @@ use Rattle.std.specs.Prelude.{ℕ, ◌+◌, List, [], ◌∷◌, ◌++◌, codes
 use Rattle.std.specs.Fmt.{decimal}
 use Rattle.std.specs.List.{flat_map}
 
--- a text as a line
+-- a text as a line: with a line end after it
 abbrev pub report_line : List ℕ → List ℕ
 report_line text = text ++ codes "\n"
 
@@ -19,8 +19,8 @@ name_dash_version name version = name ++ codes "-" ++ version
 
 -- ---- changes
 
--- what becomes of a package: it is installed, reinstalled or removed; or its version is replaced by a
--- greater one, a smaller one, or one that is equal in order
+-- what a change does with a package, given its name and version: it is installed, reinstalled or removed. Or, given its
+-- name, the old and the new version: the new version is greater, is smaller, or is neither (`Replace`)
 pub data Change : Type 0 where
   Install : List ℕ → List ℕ → Change
   Reinstall : List ℕ → List ℕ → Change
@@ -37,7 +37,7 @@ name_with_version_in_brackets name version = name ++ codes " (" ++ version ++ co
 abbrev pub name_with_version_change : List ℕ → List ℕ → List ℕ → List ℕ
 name_with_version_change name old new = name ++ codes " (" ++ old ++ codes " -> " ++ new ++ codes ")"
 
--- the report on a package that changes
+-- the text that reports a change of a package
 abbrev pub change_text : Change → List ℕ
 change_text (Install name version) = codes "Installing " ++ name_with_version_in_brackets name version
 change_text (Reinstall name version) = codes "Reinstalling " ++ name_with_version_in_brackets name version
@@ -46,12 +46,12 @@ change_text (Upgrade name old new) = codes "Upgrading " ++ name_with_version_cha
 change_text (Downgrade name old new) = codes "Downgrading " ++ name_with_version_change name old new
 change_text (Replace name old new) = codes "Replacing " ++ name_with_version_change name old new
 
--- the text of a change, with its number among the changes and how many there are, as `(2/5) ..`
+-- the text of a change with the number of the change, counted from 1, and how many changes there are, as `(2/5) ..`
 abbrev pub numbered_change : ℕ → ℕ → Change → List ℕ
 numbered_change number count change =
     codes "(" ++ decimal number ++ codes "/" ++ decimal count ++ codes ") " ++ change_text change
 
--- the lines of changes, the first of which has this number, of this many in all
+-- the lines of changes, the first of which has the number `number`; `count` is how many changes the report has in all
 abbrev pub change_lines_from : ℕ → ℕ → List Change → List ℕ
 change_lines_from number count [] = []
 change_lines_from number count (change ∷ changes) =
@@ -69,30 +69,30 @@ abbrev pub with_spaces_before : List (List ℕ) → List ℕ
 with_spaces_before [] = []
 with_spaces_before (text ∷ texts) = codes " " ++ text ++ with_spaces_before texts
 
--- the report on a package that was to be removed and is kept, with the names of those that need it, if
--- there are any
+-- the text for the package `name`, which was to be removed and is kept; the other names are those of the packages that
+-- need it, if there are any
 abbrev pub still_needed_text : List ℕ → List (List ℕ) → List ℕ
 still_needed_text name [] = name ++ codes " stays"
 still_needed_text name (first ∷ others) =
     name ++ codes " stays; required by:" ++ with_spaces_before (first ∷ others)
 
--- the folder of a due trigger as a path from the root on: a folder without a name is the root
+-- the path of a folder for which a trigger is due, as it is printed: `/` for the root folder, whose name is empty
 abbrev pub trigger_folder_text : List ℕ → List ℕ
 trigger_folder_text [] = codes "/"
 trigger_folder_text (b ∷ bytes) = b ∷ bytes
 
--- the report on a trigger that is due for a folder
+-- the text for a trigger of the package `name` that is due for a folder
 abbrev pub trigger_due_text : List ℕ → List ℕ → List ℕ
 trigger_due_text name folder = name ++ codes ": trigger due for " ++ trigger_folder_text folder
 
--- the last line of a change: the sum of the installed sizes, and how many packages there are
+-- the text of the last line of a change: the sum of the sizes of all installed packages in bytes, and their number
 abbrev pub bytes_and_package_count_text : ℕ → ℕ → List ℕ
 bytes_and_package_count_text bytes packages =
     codes "OK: " ++ decimal bytes ++ codes " bytes in " ++ decimal packages ++ codes " packages"
 
 -- ---- `info`: a heading, its text, and an empty line
 
--- a section: a heading, a line for each text, and an empty line
+-- a section of a report of `info`: a line with a heading, a line for each text, and an empty line
 abbrev pub section : List ℕ → List (List ℕ) → List ℕ
 section heading texts = report_line heading ++ report_lines texts ++ codes "\n"
 
@@ -111,7 +111,7 @@ abbrev pub depends_section : List ℕ → List ℕ → List (List ℕ) → List 
 depends_section name version dependencies =
     section (name_dash_version name version ++ codes " depends on:") dependencies
 
--- the line of `info -W PATH`: the package that owns a path
+-- the text of the line of `info -W PATH`: the package that owns the path
 abbrev pub owner_text : List ℕ → List ℕ → List ℕ → List ℕ
 owner_text path name version =
     codes "/" ++ path ++ codes " is owned by " ++ name_dash_version name version

@@ -1,5 +1,5 @@
--- The lines of refusals and faults. The rules are in `docs/commands.md`, "Error lines"; the lines of a
--- failed tree and of out of memory are in "Answers and statuses".
+-- The error lines of refusals, of a failed call on the file tree, and of out of memory. The rules are in
+-- `docs/commands.md`, "Error lines"; the lines of the two failures are in "Answers and statuses".
 use Rattle.std.specs.Prelude.{ℕ, List, ◌++◌, ◌==◌, if◌then◌else◌, codes}
 use Rattle.std.specs.Fmt.{decimal}
 use Rattle.std.specs.Int.{w32, to_be_bytes}
@@ -12,11 +12,11 @@ use Rattle.report_core.specs.Numbers.{HASHES_FIELD, TRIGGER_SCRIPT, PRE_INSTALL_
 use Rattle.report_core.specs.declared.refusal.Refusal.{Refusal}
 use Rattle.report_core.specs.declared.refusal.Refusal.TheVariants.{Usage, IntentBad, FileMissing, FileBad, TextBad, VersionBad, InfoBad, NoDatabase, DatabaseBad, WorldBad, RepositoriesBad, Untrusted, IndexMissing, IndexBad, TooMany, NotInstalled, Unsatisfied, PackageMissing, PackageBad, PackageDiffers, ScriptNeeded, Reserved, PathClash, Owned, TriggerNeeded, ResultTooLarge}
 
--- a 32-bit number, which is an encoded value or a schema, in eight lower-case hexadecimal digits
+-- a word of a value or a schema, both with 32 bits, in eight lower-case hexadecimal digits
 abbrev pub eight_hex_digits : ℕ → List ℕ
 eight_hex_digits number = encode_lower (to_be_bytes w32 number)
 
--- the bytes of a digest, of which the digits are printed
+-- the bytes of a digest, which are printed in hexadecimal digits
 abbrev pub digest_bytes : Digest → List ℕ
 digest_bytes (Sha1 bytes) = bytes
 digest_bytes (Sha256 bytes) = bytes
@@ -24,11 +24,11 @@ digest_bytes (Sha512 bytes) = bytes
 
 -- ---- causes
 
--- the positions of a folder in a package and of a file in it, counted from 1, with a dot between
+-- the positions of a folder in a package and of a file in this folder, counted from 1, with a dot between
 abbrev pub folder_and_file_position_text : ℕ → ℕ → List ℕ
 folder_and_file_position_text folder file = decimal folder ++ codes "." ++ decimal file
 
--- the text of a cause
+-- the text of a cause, for which a container is refused
 abbrev pub cause_text : Cause → List ℕ
 cause_text NotAdb = codes "not an ADB file"
 cause_text Compressed = codes "compressed ADB file"
@@ -56,24 +56,24 @@ cause_text (TextLine line) = codes "bad line " ++ decimal line
 
 -- ---- refusals
 
--- the text of a refusal of a word: its place, counted from 1, and the reason
+-- the text of a refusal of a word: the place of the word, counted from 1, and the reason (`text`)
 abbrev pub word_refusal_text : ℕ → List ℕ → List ℕ
 word_refusal_text place text = codes "word " ++ decimal place ++ codes ": " ++ text
 
--- the text of a refusal of a repository: its number, counted from 1, and the reason
+-- the text of a refusal of a repository: the number of the repository, counted from 1, and the reason (`text`)
 abbrev pub repository_refusal_text : ℕ → List ℕ → List ℕ
 repository_refusal_text number text = codes "repository " ++ decimal number ++ codes ": " ++ text
 
--- the text of a refusal of a package: name and version, and the reason
+-- the text of a refusal of a package: the package's name and version, and the reason (`text`)
 abbrev pub package_refusal_text : List ℕ → List ℕ → List ℕ → List ℕ
 package_refusal_text name version text = name ++ codes "-" ++ version ++ codes ": " ++ text
 
--- the value of a package's field, as it is printed: the id (`hashes`) in hexadecimal digits, name and
--- version as they are
+-- the value `bytes` of the field with this number in a package's information, as it is printed: the id (the field
+-- *hashes*) in hexadecimal digits, the name and the version as they are
 abbrev pub package_field_text : ℕ → List ℕ → List ℕ
 package_field_text field bytes = if field == HASHES_FIELD then encode_lower bytes else bytes
 
--- the name of a script by its number; a number that is no script's is printed as such
+-- the name of the script with this number; a number that no script has is printed as a number
 abbrev pub script_name : ℕ → List ℕ
 script_name script =
     if script == TRIGGER_SCRIPT then codes "trigger" else

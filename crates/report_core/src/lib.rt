@@ -1,8 +1,8 @@
-//! The texts for the user: the line of each refusal, which is written to a sink without memory, and
-//! the report of a command that was done.
+//! The texts for the user: the error line of each refusal, which is written to a sink (output
+//! stream) without memory, and the report of a command that was not refused.
 //!
-//! Of `specs/` the contracts cite `Texts` (the lines of refusals and of faults) and `Reports` (the
-//! texts of reports). The rules are in `docs/commands.md`, "Error lines".
+//! The contracts cite these modules of `specs/`: `Texts` (the error lines of refusals and of failed
+//! calls) and `Reports` (the texts of reports). The rules are in `docs/commands.md`, "Error lines".
 #![tactic(auto)]
 
 mod lines;

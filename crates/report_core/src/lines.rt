@@ -1,7 +1,6 @@
-//! What a command prints: its report, made whole in memory before the first byte is printed; and
-//! the line of a refusal, put together from pieces and written to a sink without memory. The rules
-//! are in `docs/commands.md`, "Error lines"; for a report, which is whole before it is printed, in
-//! "Answers and statuses".
+//! What a command prints. A report is made completely in memory before its first byte is printed.
+//! The error line of a refusal is written to a sink (output stream) in pieces, without memory. The
+//! rules are in `docs/commands.md`, "Error lines", and for reports in "Answers and statuses".
 
 ghost use Rattle.std.specs.Prelude.{◌≡◌, [], ◌∷◌, decimal, ◌++◌, OnOk, OnErr};
 ghost use Rattle.base_core.specs.Sink.{sink_before_and_after};
@@ -17,8 +16,10 @@ use itoa::Buffer;
 use std::alloc::{AllocError, Global};
 use std::marker::Model;
 
-/// Writes the line of a refusal. If the sink fails, a prefix of it was written.
+/// Writes the error line of a refusal to the sink `err`. If the sink fails, it has got a prefix of
+/// the line.
 pub fn write_error<E: Sink>(refusal: &Refusal, err: &mut E) -> Result<(), SinkFault>
+    // The sink gets this text. If a write fails, it gets a prefix of the text.
     ensures { Writes (refusal_line refusal.now)
         (sink_before_and_after E.bytes E.counts err.old err.new) result }
 {
@@ -28,8 +29,9 @@ pub fn write_error<E: Sink>(refusal: &Refusal, err: &mut E) -> Result<(), SinkFa
     write_all(err, b"\n")
 }
 
-/// Writes a sentence: its pieces, and then its cause.
+/// Writes the text of a refusal: its pieces, and then the text of its cause, if it has one.
 fn write_sentence<E: Sink>(sentence: &Sentence<'_>, err: &mut E) -> Result<(), SinkFault>
+    // The sink gets this text. If a write fails, it gets a prefix of the text.
     ensures { Writes (sentence_text sentence.now)
         (sink_before_and_after E.bytes E.counts err.old err.new) result }
 {
@@ -37,8 +39,9 @@ fn write_sentence<E: Sink>(sentence: &Sentence<'_>, err: &mut E) -> Result<(), S
     write_cause(sentence.cause, err)
 }
 
-/// Writes a cause, if there is one.
+/// Writes the text of a cause, if there is one.
 fn write_cause<E: Sink>(cause: Option<Cause>, err: &mut E) -> Result<(), SinkFault>
+    // The sink gets this text. If a write fails, it gets a prefix of the text.
     ensures { Writes (cause_text_if_any cause)
         (sink_before_and_after E.bytes E.counts err.old err.new) result }
 {
@@ -48,30 +51,31 @@ fn write_cause<E: Sink>(cause: Option<Cause>, err: &mut E) -> Result<(), SinkFau
     }
 }
 
-/// A piece of a text.
+/// A piece of the text of a refusal or a cause.
 #[derive(Clone, Copy)]
 pub(crate) enum Piece<'a> {
     /// Bytes as they are.
     Bytes(&'a [u8]),
     /// A number, in decimal digits.
     Number(u64),
-    /// A 32-bit number, which is an encoded value or a schema, in eight hexadecimal digits.
+    /// A word of a value or a schema, both with 32 bits, in eight hexadecimal digits.
     HexNumber(u32),
     /// Bytes, in two hexadecimal digits each.
     Hex(&'a [u8]),
     /// A digest, in hexadecimal digits.
     Digest(Digest),
-    /// The positions of a folder and of a file in it.
+    /// The positions of a folder in a package, and of a file in this folder, with a dot between.
     Position(u64, u64),
     /// No text.
     Nothing,
 }
 
-/// The pieces of a text: seven, the most that a refusal has; unused ones are empty.
+/// The pieces of a text. There are seven, the most that a refusal needs; unused ones are `Nothing`.
 pub(crate) type Pieces<'a> = [Piece<'a>; 7];
 
-/// Writes all the pieces, in order. If the sink fails, a prefix of their text was written.
+/// Writes the texts of all pieces, in order. If the sink fails, it has got a prefix of these texts.
 pub(crate) fn write_pieces<S: Sink>(pieces: &[Piece<'_>], sink: &mut S) -> Result<(), SinkFault>
+    // The sink gets this text. If a write fails, it gets a prefix of the text.
     ensures { Writes (pieces_text pieces.now)
         (sink_before_and_after S.bytes S.counts sink.old sink.new) result }
 {
@@ -81,8 +85,9 @@ pub(crate) fn write_pieces<S: Sink>(pieces: &[Piece<'_>], sink: &mut S) -> Resul
     Ok(())
 }
 
-/// Writes a piece.
+/// Writes the text of a piece.
 fn write_piece<S: Sink>(piece: &Piece<'_>, sink: &mut S) -> Result<(), SinkFault>
+    // The sink gets this text. If a write fails, it gets a prefix of the text.
     ensures { Writes (piece_text piece.now)
         (sink_before_and_after S.bytes S.counts sink.old sink.new) result }
 {
@@ -97,8 +102,9 @@ fn write_piece<S: Sink>(piece: &Piece<'_>, sink: &mut S) -> Result<(), SinkFault
     }
 }
 
-/// Writes the positions of a folder and of a file in it, with a dot between.
+/// Writes the positions of a folder and of a file in this folder, with a dot between.
 fn write_position<S: Sink>(folder: u64, file: u64, sink: &mut S) -> Result<(), SinkFault>
+    // The sink gets this text. If a write fails, it gets a prefix of the text.
     ensures { Writes (folder_and_file_position_text folder file)
         (sink_before_and_after S.bytes S.counts sink.old sink.new) result }
 {
@@ -109,6 +115,7 @@ fn write_position<S: Sink>(folder: u64, file: u64, sink: &mut S) -> Result<(), S
 
 /// Writes a number in decimal.
 fn write_number<S: Sink>(number: u64, sink: &mut S) -> Result<(), SinkFault>
+    // The sink gets this text. If a write fails, it gets a prefix of the text.
     ensures { Writes (decimal number)
         (sink_before_and_after S.bytes S.counts sink.old sink.new) result }
 {
@@ -118,6 +125,7 @@ fn write_number<S: Sink>(number: u64, sink: &mut S) -> Result<(), SinkFault>
 
 /// Writes bytes as hexadecimal digits.
 fn write_hex<S: Sink>(bytes: &[u8], sink: &mut S) -> Result<(), SinkFault>
+    // The sink gets this text. If a write fails, it gets a prefix of the text.
     ensures { Writes (encode_lower bytes.now)
         (sink_before_and_after S.bytes S.counts sink.old sink.new) result }
 {
@@ -131,7 +139,7 @@ fn write_hex<S: Sink>(bytes: &[u8], sink: &mut S) -> Result<(), SinkFault>
     Ok(())
 }
 
-// The bytes of a digest, of which the digits are printed.
+// The bytes of a digest, which are printed in hexadecimal digits.
 fn digest_bytes(digest: &Digest) -> &[u8]
     ensures { result.now ≡ digest_bytes digest.now }
 {
@@ -145,7 +153,7 @@ fn digest_bytes(digest: &Digest) -> &[u8]
 /// What a command prints on standard output.
 #[derive(Drop)]
 pub struct Report {
-    /// The bytes so far.
+    /// The bytes of the report so far.
     bytes: Vec<u8>,
 }
 
@@ -154,6 +162,7 @@ impl Model for Report {
 
     ghost Value = { List ℕ };
 
+    // In contracts a report is its bytes.
     ghost view = { λ report. report.bytes.items };
 }
 
@@ -167,18 +176,22 @@ impl Report {
         }
     }
 
-    /// Appends bytes. If memory runs out, nothing changes.
+    /// Appends bytes to the report. If memory runs out, the report is unchanged.
     pub fn push(&mut self, piece: &[u8]) -> Result<(), AllocError>
+        // On Ok, the bytes are appended.
         ensures ok { OnOk result (self.new ≡ self.old ++ piece.now) }
+        // After an error, the report is unchanged.
         ensures err { OnErr result (self.new ≡ self.old) }
     {
         self.bytes.extend_from_slice(piece)?;
         Ok(())
     }
 
-    /// Appends a number in decimal digits. If memory runs out, nothing changes.
+    /// Appends a number in decimal digits. If memory runs out, the report is unchanged.
     pub fn number(&mut self, n: u128) -> Result<(), AllocError>
+        // On Ok, the digits are appended.
         ensures ok { OnOk result (self.new ≡ self.old ++ decimal n) }
+        // After an error, the report is unchanged.
         ensures err { OnErr result (self.new ≡ self.old) }
     {
         let mut digits = Buffer::new();

@@ -1,5 +1,6 @@
-//! The numbers by which refusals name a field and a script: the positions in tables 3 and 6 of
-//! `docs/formats.md`, "Schemas", which count from 1. The contracts have the same list in `Numbers`.
+//! The numbers by which refusals name a field of a package's information and a script: the numbers
+//! in tables 3 and 6 of `docs/formats.md`, "Schemas", which count from 1. The contracts have the
+//! same list in `Numbers`.
 
 // Table 3: the fields in which a package has to agree with its index.
 

@@ -1,5 +1,5 @@
-//! The texts of refusals and causes, as pieces. The rules are in `docs/commands.md`, "Error lines",
-//! the table of refusals and that of causes.
+//! The texts of refusals and causes, as lists of pieces that `lines` writes. The rules are in
+//! `docs/commands.md`, "Error lines": the table of refusals, and the table of causes.
 ghost use Rattle.std.specs.Prelude.{◌≡◌, ◌++◌};
 ghost use Rattle.report_core.specs.Pieces.{piece_text, pieces_text, sentence_text};
 ghost use Rattle.report_core.specs.Texts.{cause_text, package_field_text, word_refusal_text, refusal_text, script_name};
@@ -16,34 +16,34 @@ use base_core::Cause;
 /// The text of a refusal: some pieces, and then the text of its cause, if it has one.
 #[derive(Clone, Copy)]
 pub(crate) struct Sentence<'a> {
-    /// The pieces before the cause.
+    /// The pieces of the text before the cause.
     pub(crate) pieces: Pieces<'a>,
-    /// The cause whose text follows; None if the refusal has no cause.
+    /// The cause whose text follows the pieces; None if the refusal has no cause.
     pub(crate) cause: Option<Cause>,
 }
 
-// A text of one piece: the other six of the list are empty.
+// The list for a text of one piece: the other six have no text.
 fn one<'a>(a: Piece<'a>) -> Pieces<'a>
     ensures { pieces_text result ≡ piece_text a.entry }
 {
     [a, Nothing, Nothing, Nothing, Nothing, Nothing, Nothing]
 }
 
-// A text of two pieces: the other five of the list are empty.
+// The list for a text of two pieces: the other five have no text.
 fn two<'a>(a: Piece<'a>, b: Piece<'a>) -> Pieces<'a>
     ensures { pieces_text result ≡ piece_text a.entry ++ piece_text b.entry }
 {
     [a, b, Nothing, Nothing, Nothing, Nothing, Nothing]
 }
 
-// A text of three pieces: the other four of the list are empty.
+// The list for a text of three pieces: the other four have no text.
 fn three<'a>(a: Piece<'a>, b: Piece<'a>, c: Piece<'a>) -> Pieces<'a>
     ensures { pieces_text result ≡ piece_text a.entry ++ piece_text b.entry ++ piece_text c.entry }
 {
     [a, b, c, Nothing, Nothing, Nothing, Nothing]
 }
 
-// A text of four pieces: the other three of the list are empty.
+// The list for a text of four pieces: the other three have no text.
 fn four<'a>(a: Piece<'a>, b: Piece<'a>, c: Piece<'a>, d: Piece<'a>) -> Pieces<'a>
     ensures { pieces_text result ≡ piece_text a.entry ++ piece_text b.entry
         ++ piece_text c.entry ++ piece_text d.entry }
@@ -51,7 +51,7 @@ fn four<'a>(a: Piece<'a>, b: Piece<'a>, c: Piece<'a>, d: Piece<'a>) -> Pieces<'a
     [a, b, c, d, Nothing, Nothing, Nothing]
 }
 
-// A text of five pieces: the other two of the list are empty.
+// The list for a text of five pieces: the other two have no text.
 fn five<'a>(a: Piece<'a>, b: Piece<'a>, c: Piece<'a>, d: Piece<'a>, e: Piece<'a>) -> Pieces<'a>
     ensures { pieces_text result ≡ piece_text a.entry ++ piece_text b.entry
         ++ piece_text c.entry ++ piece_text d.entry ++ piece_text e.entry }
@@ -59,7 +59,7 @@ fn five<'a>(a: Piece<'a>, b: Piece<'a>, c: Piece<'a>, d: Piece<'a>, e: Piece<'a>
     [a, b, c, d, e, Nothing, Nothing]
 }
 
-// A text of six pieces: the last one of the list is empty.
+// The list for a text of six pieces: the last one has no text.
 fn six<'a>(
     a: Piece<'a>,
     b: Piece<'a>,
@@ -74,7 +74,7 @@ fn six<'a>(
     [a, b, c, d, e, f, Nothing]
 }
 
-// A text of seven pieces, the most that a refusal has.
+// The list for a text of seven pieces, the most that a refusal needs.
 fn seven<'a>(
     a: Piece<'a>,
     b: Piece<'a>,
@@ -91,7 +91,7 @@ fn seven<'a>(
     [a, b, c, d, e, f, g]
 }
 
-// A sentence without a cause.
+// The text of a refusal without a cause.
 fn plain<'a>(pieces: Pieces<'a>) -> Sentence<'a>
     ensures { sentence_text result ≡ pieces_text pieces.entry }
 {
@@ -101,7 +101,7 @@ fn plain<'a>(pieces: Pieces<'a>) -> Sentence<'a>
     }
 }
 
-// A sentence with its cause.
+// The text of a refusal, followed by the text of its cause.
 fn caused<'a>(pieces: Pieces<'a>, cause: Cause) -> Sentence<'a>
     ensures { sentence_text result ≡ pieces_text pieces.entry ++ cause_text cause }
 {
@@ -111,7 +111,7 @@ fn caused<'a>(pieces: Pieces<'a>, cause: Cause) -> Sentence<'a>
     }
 }
 
-// The text `word PLACE: TEXT`, which refuses the argument at this place of the command line.
+// The text `word PLACE: TEXT`, for a refusal of the word at this place of the command line.
 fn at_word(place: u32, text: &'static [u8]) -> Sentence<'static>
     ensures { sentence_text result ≡ word_refusal_text place text.now }
 {
@@ -123,11 +123,11 @@ fn at_word(place: u32, text: &'static [u8]) -> Sentence<'static>
     ))
 }
 
-// The text of a refusal, as a sentence.
+// The text of a refusal: its pieces and its cause.
 pub(crate) fn sentence_of<'a>(refusal: &'a Refusal) -> Sentence<'a>
     ensures { sentence_text result ≡ refusal_text refusal.now }
 {
-    // Each text is a row of the table of refusals; `caused` appends the text of a cause.
+    // Each text is that of a row in the table of refusals. `caused` appends the text of the cause.
     match refusal {
         Refusal::Usage { place } => plain(two(
             Bytes(b"usage error at word "),
@@ -242,11 +242,11 @@ pub(crate) fn sentence_of<'a>(refusal: &'a Refusal) -> Sentence<'a>
     }
 }
 
-// The text of a cause, as pieces.
+// The pieces of the text of a cause.
 pub(crate) fn cause_pieces(cause: Cause) -> Pieces<'static>
     ensures { pieces_text result ≡ cause_text cause }
 {
-    // Each text is a row of the table of causes.
+    // Each text is that of a row in the table of causes.
     match cause {
         Cause::NotAdb => one(Bytes(b"not an ADB file")),
         Cause::Compressed => one(Bytes(b"compressed ADB file")),
@@ -303,8 +303,8 @@ pub(crate) fn cause_pieces(cause: Cause) -> Pieces<'static>
     }
 }
 
-// The value of a field of a package, as a piece of text: the id in hexadecimal digits, the name or
-// the version as it is.
+// The piece with the value `bytes` of the field with this number in a package's information: the id
+// in hexadecimal digits, the name or the version as it is.
 fn field_piece(field: u16, bytes: &[u8]) -> Piece<'_>
     ensures { piece_text result ≡ package_field_text field bytes.now }
 {
@@ -315,7 +315,7 @@ fn field_piece(field: u16, bytes: &[u8]) -> Piece<'_>
     }
 }
 
-// The name of a script by its number.
+// The piece with the name of the script that has this number; a number of no script is printed.
 fn script_piece(script: u16) -> Piece<'static>
     ensures { piece_text result ≡ script_name script }
 {
