@@ -45,7 +45,7 @@ pub record IsRootLeftByChange (command : CommandLine) (read : Reads) (chosen : O
   pub selected : InputsAndReplacement
   -- these are what the command reads and selects
   pub is_selected : selected_from_reads_by_choice command read chosen ≡ Ok selected
-  -- the packages after the change, with their files where they are added
+  -- the packages after the change, and for each added one its file and the contents of its files
   pub found : List MemberFound
   -- these are the members of this replacement
   pub members : members_after_change selected.inputs selected.replacement (wishes_of command) read
