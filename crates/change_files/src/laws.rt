@@ -43,6 +43,8 @@ pub fn what_is_written_is_owned_by_an_added_package()
 /// A law: a file of an added package that owns its path is written under this path, unless the user
 /// changed a protected configuration file there.
 pub fn an_added_file_takes_its_path()
+    // If `l` is the listing of the path by its added owner, and the path has no configuration file
+    // that the user changed, `l` is written under the path.
     ensures { (change : FileChange) (files : Files) (path : List ℕ) (l : Listing)
         → added_owner_listing change path ≡ Some l
         → ((bytes : List ℕ) → IsModifiedConfigFile change files path bytes → ⊥)
@@ -76,6 +78,8 @@ pub fn what_differs_is_written_beside_the_users_file()
 /// text of a link, or contents with the listed size and digest, or an empty file. The contents of
 /// the package with the listing's member are those of a package in which no test fails.
 pub fn the_files_of_an_added_package_are_as_listed()
+    // `contents` has the contents of the member's package, which have the listed sizes and digests.
+    // If the entry is that of an empty file, its digest must be that of no bytes.
     ensures { (contents : ℕ → List Contents) (members : List Member) (l : Listing)
         → Contains (member_listings members) l
         → HaveValidDigestLengths (expected_files_of_package l.member.pkg)

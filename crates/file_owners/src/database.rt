@@ -24,6 +24,7 @@ use std::marker::PhantomData;
 ///
 /// The program is out of memory.
 pub fn claims_in_database<'a>(alloc: Global, db: &Db<'a>) -> Result<Vec<Claim<'a>>, AllocError>
+    // On Ok, these are the claims of the packages as kept members, in byte order of their paths.
     ensures { IfOk result (λ claims. map claim_seen claims.items
         ≡ sorted_by claim_cmp (claims_in (map member_of_kept (packages_of db.now)))) }
 {
@@ -53,6 +54,7 @@ fn count_in_package<'a>(db: &Db<'a>, i: usize, _mark: PhantomData<PackageView<'a
 
 /// The claims of the packages of a database, in the order of packages, folders and files.
 fn listed_files<'a>(alloc: Global, db: &Db<'a>) -> Result<Vec<Claim<'a>>, AllocError>
+    // On Ok, these are the claims of the packages as kept members, in the order of the members.
     ensures { IfOk result (λ claims. map claim_seen claims.items
         ≡ claims_with_listings [] (member_listings (map member_of_kept (packages_of db.now)))) }
 {
@@ -76,6 +78,7 @@ fn add_package<'a>(
 ) -> Result<(), AllocError>
     // The index is that of one of the database's packages.
     requires { i < length (packages_of db.now) }
+    // On Ok, the claims of this package, as a kept member m, are added at the end.
     ensures { IfOk result (λ _. (m : Member)
         → slice_get (map member_of_kept (packages_of db.now)) i ≡ Some m
         → map claim_seen claims.new.items

@@ -36,6 +36,8 @@ fn add_file<'a>(
     name: &'a [u8],
     file: u32,
 ) -> Result<(), AllocError>
+    // On Ok, the claim of this file is added at the end: that of any listing l with the same path,
+    // member and positions.
     ensures { IfOk result (λ _. (l : Listing) → l.path ≡ path_of place.now.name.now name.now
         → l.place ≡ place.now.member → l.folder ≡ place.now.folder → l.file ≡ file
         → map claim_seen claims.new.items
@@ -62,6 +64,7 @@ fn add_files<'a>(
     place: &FolderPlace<'a>,
     files: &List<'a, FileInfo<'a>>,
 ) -> Result<(), AllocError>
+    // On Ok, the claims of the folder's files are added at the end.
     ensures { IfOk result (λ _. (m : Member) → map claim_seen claims.new.items
         ≡ claims_with_listings (map claim_seen claims.old.items)
         (listings_in_folder m place.now.member place.now.folder 1 place.now.name.now
@@ -83,6 +86,7 @@ fn add_folder<'a>(
 ) -> Result<(), AllocError>
     // The index is that of an entry of the list.
     requires { i < count_of (entries_in (list_value folders.now)) }
+    // On Ok, the claims of the files of this folder are added at the end.
     ensures { IfOk result (λ _. (m : Member) → map claim_seen claims.new.items
         ≡ claims_with_listings (map claim_seen claims.old.items)
         (listings_in_folder m member (i + 1) 1
@@ -110,6 +114,7 @@ pub(crate) fn add_folders<'a>(
     member: u32,
     folders: &List<'a, DirInfo<'a>>,
 ) -> Result<(), AllocError>
+    // On Ok, the claims of the files of all folders are added at the end.
     ensures { IfOk result (λ _. (m : Member) → map claim_seen claims.new.items
         ≡ claims_with_listings (map claim_seen claims.old.items)
         (listings_in_folders m member 1 (list_of (entries_in (list_value folders.now))))) }
@@ -147,6 +152,7 @@ fn add_member<'a>(
 ) -> Result<(), AllocError>
     // The index is that of one of the members.
     requires { i < length (members_of members.now) }
+    // On Ok, the claims of this member m are added at the end.
     ensures { IfOk result (λ _. (m : Member) → slice_get (members_of members.now) i ≡ Some m
         → map claim_seen claims.new.items
         ≡ claims_with_listings (map claim_seen claims.old.items) (listings_of_member i m)) }
@@ -174,6 +180,7 @@ pub(crate) fn claims_in<'a>(
     alloc: Global,
     members: &Members<'a>,
 ) -> Result<Vec<Claim<'a>>, AllocError>
+    // On Ok, these are the claims of all files that the members list, in order.
     ensures { IfOk result (λ claims. map claim_seen claims.items
         ≡ claims_with_listings [] (member_listings (members_of members.now))) }
 {

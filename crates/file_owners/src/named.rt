@@ -36,6 +36,7 @@ pub(crate) fn places_of_each(
     alloc: Global,
     members: &Members<'_>,
 ) -> Result<Vec<Vec<u32>>, AllocError>
+    // On Ok, there is one list for each member, with the indexes of the members that it names.
     ensures { IfOk result (λ named.
         ArePlacesNamedByEachMember (members_of members.now) (map (λ v. v.items) named.items)) }
 {
@@ -59,6 +60,7 @@ fn places_named(
     // The entries of `replaces` obey the rules of dependencies.
     requires { Each IsSoundDependency (entries_in
         (entry_in (entry_in (package_value pkg.now) PACKAGE_INFO) INFO_REPLACES)) }
+    // On Ok, these are the indexes of the members that the package names.
     ensures { IfOk result (λ places.
         ArePlacesOfNamedMembers (members_of members.now) (package_value pkg.now) places.items) }
 {

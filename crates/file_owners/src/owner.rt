@@ -159,6 +159,7 @@ pub fn no_two_packages_take_over_from_each_other()
 /// A law: no two members own files of the same path. So the flags that say whether a member owns
 /// its files can be stored in a database.
 pub fn no_path_is_owned_by_two_members()
+    // Of the listings with the same path, the flags mark at most one member's.
     ensures { (members : List Member)
         → HaveAtMostOneOwner (owned_listings (member_listings members) (owned_flags_of members)) }
 {}

@@ -80,6 +80,7 @@ pub(crate) fn places_in<'a>(
     // The entries obey the rules of dependencies.
     requires texts { Each IsSoundDependency (entries_in
         (array_at (payload_of adb) (Kinds.Obj Tables.Dep) (array_entries entries))) }
+    // On Ok, the index y of a member m is in the result exactly if one of the entries names m.
     ensures { IfOk result (λ places. (y : ℕ) (m : Member)
         → slice_get (members_of members.now) y ≡ Some m
         → list_any (λ place. place == y) places.items
@@ -130,6 +131,7 @@ fn questions_of<'a>(
 
 /// Adds the question at the end of the list, if there is one.
 fn add_question(questions: &mut Vec<Question>, question: Option<Question>) -> Result<(), AllocError>
+    // On Ok, the question, if there is one, is added at the end.
     ensures { IfOk result (λ _. questions.new.items
         ≡ with_question questions.old.items question) }
 {
@@ -177,6 +179,8 @@ fn places_asked(
 ) -> Result<Vec<u32>, AllocError>
     // Each question is about one of the members.
     requires { All (IsQuestionIn (members_of members.now) (payload_of adb)) questions.now }
+    // On Ok, the index y of a member m is in the result exactly if one of the questions is about m
+    // and has the answer yes.
     ensures { IfOk result (λ places. (y : ℕ) (m : Member)
         → slice_get (members_of members.now) y ≡ Some m
         → list_any (λ place. place == y) places.items
@@ -191,6 +195,7 @@ fn places_asked(
 
 /// Adds the index `place` of a member at the end of the list, if there is one.
 fn add_place(places: &mut Vec<u32>, place: Option<u32>) -> Result<(), AllocError>
+    // On Ok, an index y is in the new list exactly if it was in the old one, or is the given one.
     ensures { IfOk result (λ _. (y : ℕ) → list_any (λ p. p == y) places.new.items
         ≡ (list_any (λ p. p == y) places.old.items || is_found_place y place)) }
 {
@@ -208,6 +213,8 @@ fn place_asked(members: &Members<'_>, adb: Adb<'_>, questions: &[Question], i: u
     // Each question is about one of the members.
     requires questions { All (IsQuestionIn (members_of members.now) (payload_of adb))
         questions.now }
+    // The index y of a member m is that of an earlier question with the answer yes, or the result,
+    // exactly if one of the questions up to this one is about m and has the answer yes.
     ensures { (y : ℕ) (m : Member) → slice_get (members_of members.now) y ≡ Some m
         → (list_any (question_names_package (payload_of adb.entry) y m.pkg) (take i questions.now)
         || is_found_place y result)
@@ -242,6 +249,8 @@ fn repeats_the_one_before(questions: &[Question], i: usize) -> bool
 fn place_if_named(members: &Members<'_>, adb: Adb<'_>, question: &Question) -> Option<u32>
     // The question is about one of the members.
     requires { IsQuestionIn (members_of members.now) (payload_of adb) question.now }
+    // The result is the index y of a member m exactly if the question is about m and its entry
+    // names the package of m.
     ensures { (y : ℕ) (m : Member) → slice_get (members_of members.now) y ≡ Some m
         → is_found_place y result
         ≡ question_names_package (payload_of adb.entry) y m.pkg question.now }

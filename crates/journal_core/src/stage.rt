@@ -162,10 +162,12 @@ impl Stage {
         self.acted < self.intent.removals_len() + self.intent.writes_len()
     }
 
-    /// The names of the stage's actions are free, and no write is repeated. There are fewer than
-    /// 2^63 actions, so that their number and the next one have 64 bits.
+    /// A law: the names of the stage's actions are free, and no write is repeated. There are fewer
+    /// than 2^63 actions.
     pub fn names_are_free(&self)
+        // No name belongs to the journal, no write is repeated, and no written name is removed.
         ensures free { HasFreeDistinctNames self.now.intent }
+        // The actions can be counted in 64 bits.
         ensures few { action_count self.now.intent < 2 ^ 63 }
     {
         // A law that the proof needs; it computes nothing.

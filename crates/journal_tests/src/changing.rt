@@ -112,6 +112,7 @@ fn run_one_write(alloc: Global, tree: &mut MemoryTree) -> Result<Reached, AllocE
 
 /// The stage of the change that removes `x` and writes `y`. No file is staged so far.
 fn begin_one_write(alloc: Global) -> Result<Option<Stage>, AllocError>
+    // The stage is new, with these removals and writes.
     ensures { IfOk result (λ found. IfSome found
         (λ stage. stage ≡ new_stage_of_removals_and_writes (codes "x" ∷ []) (codes "y" ∷ []))) }
 {
@@ -178,6 +179,7 @@ fn run_two_writes(alloc: Global, tree: &mut MemoryTree) -> Result<Reached, Alloc
 
 /// The stage of the change that removes `x` and writes `y` and `z`. No file is staged so far.
 fn begin_two_writes(alloc: Global) -> Result<Option<Stage>, AllocError>
+    // The stage is new, with these removals and writes.
     ensures { IfOk result (λ found. IfSome found
         (λ stage. stage ≡ new_stage_of_removals_and_writes (codes "x" ∷ [])
         (codes "y" ∷ codes "z" ∷ []))) }

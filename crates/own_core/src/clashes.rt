@@ -30,6 +30,7 @@ use std::alloc::{AllocError, Global};
 pub(crate) fn names_beside(alloc: Global, asides: &[Claim<'_>]) -> Result<Names, AllocError>
     // Each of these is a name that is not too long.
     requires { CanHaveApkNewNames (map claim_seen asides.now) }
+    // On Ok, these are the names, in the order of the claims.
     ensures { IfOk result
         (λ names. names ≡ map (λ c. apk_new_name c.path) (map claim_seen asides.now)) }
 {
@@ -49,6 +50,7 @@ fn add_coming<'a>(
 ) -> Result<(), AllocError>
     // Each claim is of a file of one of the members.
     requires { AreClaimsOf (members_of members.now) (map claim_seen claims.now) }
+    // On Ok, the paths of the claims of added members are added at the end.
     ensures { OnOk result (map joined_path paths.new.items ≡ map joined_path paths.old.items
         ++ map (λ c. c.path) (filter (λ c. is_added_at (members_of members.now) c.member)
         (map claim_seen claims.now))) }
@@ -63,6 +65,7 @@ fn add_coming<'a>(
 
 /// Adds the names to `paths`, each as a path whose folder is empty.
 fn add_names<'a>(paths: &mut Vec<FilePath<'a>>, names: &'a Names) -> Result<(), AllocError>
+    // On Ok, the names are added at the end.
     ensures { OnOk result
         (map joined_path paths.new.items ≡ map joined_path paths.old.items ++ names.now) }
 {
@@ -77,6 +80,7 @@ fn add_names<'a>(paths: &mut Vec<FilePath<'a>>, names: &'a Names) -> Result<(), 
 
 /// Sorts the paths in byte order.
 fn sort_paths(paths: &mut Vec<FilePath<'_>>) -> Result<(), AllocError>
+    // On Ok, the same paths are in byte order.
     ensures { OnOk result (map joined_path paths.new.items
         ≡ sorted_by bytes_cmp (map joined_path paths.old.items)) }
 {
@@ -94,6 +98,7 @@ pub(crate) fn written_paths<'a>(
 ) -> Result<Vec<FilePath<'a>>, AllocError>
     // Each claim is of a file of one of the members.
     requires { AreClaimsOf (members_of members.now) (map claim_seen claims.now) }
+    // On Ok, these are all these names in byte order; a name may be repeated.
     ensures { IfOk result (λ paths. map joined_path paths.items ≡ sorted_by bytes_cmp
         (database_name ∷ world_name ∷ [] ++ map (λ c. c.path)
         (filter (λ c. is_added_at (members_of members.now) c.member) (map claim_seen claims.now))

@@ -54,6 +54,7 @@ fn owned_claims<'n>(
     // For each claim, `owners` has the index of the member that owns its path, or None.
     requires owners { owners.now
         ≡ map (λ c. owner_of_path (members_of members.now) c.path) (map claim_seen claims.now) }
+    // On Ok, these are the claims whose member is added and owns the path.
     ensures { IfOk result (λ owned. map claim_seen owned.items
         ≡ filter (is_of_added_owner (members_of members.now)) (map claim_seen claims.now)) }
 {
@@ -82,6 +83,8 @@ pub fn added_claims<'n>(
     // For each claim, `owners` has the index of the member that owns its path, or None.
     requires owners { owners.now
         ≡ map (λ c. owner_of_path (members_of members.now) c.path) (map claim_seen claims.now) }
+    // On Ok, of the claims whose member is added and owns the path, these are the first of each
+    // path.
     ensures { IfOk result (λ coming. HasFirstClaimOfEachPath
         (filter (is_of_added_owner (members_of members.now)) (map claim_seen claims.now))
         (map claim_seen coming.items)) }

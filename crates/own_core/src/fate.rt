@@ -44,6 +44,7 @@ fn listed_so_far<'o>(
 ) -> Option<ListedFile<'o>>
     // `before` and `after` have the claims of the packages before the change and after it.
     requires { HasClaimsOfPackages change.now }
+    // The result describes the old entry, or both are absent.
     ensures { DescribesEntryIfAny result (old_entry (file_change_of change.now)
         (joined_path path.now)) }
 {
@@ -62,6 +63,7 @@ fn is_apk_new_name_free(
 ) -> Result<bool, AllocError>
     // `before` and `after` have the claims of the packages before the change and after it.
     requires { HasClaimsOfPackages change.now }
+    // On Ok, the result says whether `NAME.apk-new` is free.
     ensures { IfOk result (λ free. free
         ≡ is_apk_new_name_free (file_change_of change.now) name.now) }
 {
@@ -79,6 +81,7 @@ fn is_apk_new_name_free(
 /// Whether there is an old entry, and the new entry describes the same bytes: the package's file
 /// has not changed.
 fn agrees_with_old_entry(new: &ListedFile<'_>, old: &Option<ListedFile<'_>>) -> bool
+    // The result is right for the entries that `new` and `old` describe.
     ensures { (entry : Plain) (before : Option Plain) → DescribesEntry new.now entry
         → DescribesEntryIfAny old.now before → result ≡ agrees_with_old_entry before entry }
 {
@@ -102,6 +105,7 @@ fn fate_if_user_modified_file(
     requires claims { HasClaimsOfPackages change.now }
     // `old` is the entry that the old database has for the name, if there is one.
     requires old { DescribesEntryIfAny old.now (old_entry (file_change_of change.now) name.now) }
+    // On Ok, the fate is right for the entry that `new` describes.
     ensures { IfOk result (λ fate. (entry : Plain) → DescribesEntry new.now entry
         → fate_seen fate ≡ fate_if_user_modified_file (file_change_of change.now) name.now entry) }
 {

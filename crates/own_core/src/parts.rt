@@ -53,6 +53,7 @@ fn claims_with<'n>(
 ) -> Result<Vec<Claim<'n>>, AllocError>
     // There is one fate for each claim.
     requires { length fates.now ≡ length coming.now }
+    // On Ok, these are the claims whose fate is the given one.
     ensures { IfOk result (λ some. map claim_seen some.items ≡ marked_claims
         (are_equal_fates (fate_seen fate)) (map claim_seen coming.now) (map fate_seen fates.now)) }
 {
@@ -91,6 +92,7 @@ fn is_path_left_over(
     requires claims { HasClaimsOfPackages change.now }
     // The claims of the files written aside are in byte order of their paths.
     requires sorted { IsSorted claim_cmp (map claim_seen asides.now) }
+    // The result says whether the path is left over.
     ensures { result ≡ is_path_left_over (file_change_of change.now) (map claim_seen asides.now)
         (joined_path path.now) }
 {
@@ -111,6 +113,7 @@ fn left_over_claims<'o>(
     requires claims { HasClaimsOfPackages change.now }
     // The claims of the files written aside are in byte order of their paths.
     requires sorted { IsSorted claim_cmp (map claim_seen asides.now) }
+    // On Ok, these are the claims of the packages before the change whose path is left over.
     ensures { IfOk result (λ left. map claim_seen left.items
         ≡ filter (λ c. is_path_left_over (file_change_of change.now) (map claim_seen asides.now)
         c.path)
@@ -208,6 +211,7 @@ fn claims_where<'o>(
 ) -> Result<Vec<Claim<'o>>, AllocError>
     // There is one flag for each claim.
     requires { length flags.now ≡ length left.now }
+    // On Ok, these are the claims whose flag is the given one.
     ensures { IfOk result (λ some. map claim_seen some.items
         ≡ marked_claims (are_equal_flags flag) (map claim_seen left.now) flags.now) }
 {

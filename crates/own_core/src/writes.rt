@@ -62,6 +62,7 @@ impl Writes {
 
 /// Adds a write of the claim's file under this name.
 fn add_write(writes: &mut Vec<Write>, name: Name, claim: &Claim<'_>) -> Result<(), AllocError>
+    // On Ok, the write is added at the end.
     ensures { OnOk result (map write_seen writes.new.items
         ≡ map write_seen writes.old.items
         ++ write_of_claim_under name (claim_seen claim.now) ∷ []) }
@@ -79,6 +80,7 @@ fn add_write(writes: &mut Vec<Write>, name: Name, claim: &Claim<'_>) -> Result<(
 fn add_in(alloc: Global, writes: &mut Vec<Write>, ins: &[Claim<'_>]) -> Result<(), AllocError>
     // The paths of the claims are names.
     requires { HaveValidPaths (map claim_seen ins.now) }
+    // On Ok, these writes are added at the end, in the order of the claims.
     ensures { OnOk result (map write_seen writes.new.items
         ≡ map write_seen writes.old.items ++ map claim_write (map claim_seen ins.now)) }
 {
@@ -97,6 +99,7 @@ fn add_beside(
 ) -> Result<(), AllocError>
     // The paths of the claims are names, and so are these with `.apk-new`.
     requires { CanHaveApkNewNames (map claim_seen asides.now) }
+    // On Ok, these writes are added at the end, in the order of the claims.
     ensures { OnOk result (map write_seen writes.new.items
         ≡ map write_seen writes.old.items ++ map apk_new_write (map claim_seen asides.now)) }
 {
@@ -110,6 +113,7 @@ fn add_beside(
 
 /// Sorts the writes by their names, in byte order.
 fn sort_writes(writes: &mut Vec<Write>) -> Result<(), AllocError>
+    // On Ok, the same writes are in byte order of their names.
     ensures { OnOk result (map write_seen writes.new.items
         ≡ sorted_by write_cmp (map write_seen writes.old.items)) }
 {
@@ -128,6 +132,7 @@ pub(crate) fn writes_of(
     requires ins { HaveValidPaths (map claim_seen ins.now) }
     // The paths of `asides` are names, and so are these with `.apk-new`.
     requires asides { CanHaveApkNewNames (map claim_seen asides.now) }
+    // On Ok, the writes are those of `ins` under their paths, and of `asides` under `PATH.apk-new`.
     ensures { IfOk result (λ writes. writes_in writes ≡ sorted_by write_cmp
         (map claim_write (map claim_seen ins.now)
         ++ map apk_new_write (map claim_seen asides.now))) }

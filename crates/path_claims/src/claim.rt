@@ -30,6 +30,7 @@ pub struct Claim<'a> {
 
 /// Sorts the claims by their paths, in byte order. Claims of the same path keep their order.
 pub fn sort_claims(claims: &mut Vec<Claim<'_>>) -> Result<(), AllocError>
+    // On Ok, the claims are sorted, and claims of the same path are in their old order.
     ensures { IfOk result (λ _. map claim_seen claims.new.items
         ≡ sorted_by claim_cmp (map claim_seen claims.old.items)) }
 {
@@ -53,6 +54,7 @@ pub fn begins_path(claims: &[Claim<'_>], i: usize) -> bool
 /// The claims at the beginning of the list that have this path, up to the first one that has
 /// another path.
 fn run_in_front<'c, 'a>(claims: &'c [Claim<'a>], path: &FilePath<'_>) -> &'c [Claim<'a>]
+    // The result is the longest beginning of the list in which each claim has the path.
     ensures { map claim_seen result.now
         ≡ passing_prefix (is_claim_of_path (joined_path path.now)) (map claim_seen claims.now) }
 {
@@ -68,6 +70,8 @@ fn run_in_front<'c, 'a>(claims: &'c [Claim<'a>], path: &FilePath<'_>) -> &'c [Cl
 pub fn run_at<'c, 'a>(claims: &'c [Claim<'a>], from: usize) -> &'c [Claim<'a>]
     // The index is that of one of the claims.
     requires { from < length claims.now }
+    // If c is the claim at this index, the result is the longest run of claims from it on that have
+    // its path.
     ensures { (c : PathClaim) → slice_get (map claim_seen claims.now) from ≡ Some c
         → map claim_seen result.now
         ≡ passing_prefix (is_claim_of_path c.path) (drop from (map claim_seen claims.now)) }

@@ -33,6 +33,7 @@ pub struct Rivals {
 /// The only member that may beat all others. The pass begins with the member `first`, and goes
 /// through the members of the claims: each one that the current member does not beat replaces it.
 fn last_unbeaten_member<C: Contest>(contest: &C, first: u32, claims: &[Claim<'_>]) -> u32
+    // The result is the last current member of this pass.
     ensures { result ≡ last_unbeaten_member (C.beats contest.now) first (map
         (λ c. c.member) claims.now) }
 {
@@ -92,6 +93,7 @@ pub(crate) fn first_with_unbeaten_rival<C: Contest>(
     contest: &C,
     claims: &[Claim<'_>],
 ) -> Option<Rivals>
+    // The result has these two members, or is None.
     ensures { result ≡ first_with_unbeaten_rival (C.beats contest.now) (map
         (λ c. c.member) claims.now) }
 {

@@ -83,6 +83,7 @@ fn owners_in_order<C: Contest>(
     requires one_way { IsAsymmetric (C.beats contest.now) }
     // The claims are in byte order of their paths.
     requires sorted { IsSorted claim_cmp (map claim_seen claims.now) }
+    // On Ok, the result has the owner of the path of each claim.
     ensures { IfOk result (λ owners. owners.items
         ≡ map (λ c. owner_among (C.beats contest.now) (map claim_seen claims.now) c.path)
         (map claim_seen claims.now)) }
@@ -144,6 +145,7 @@ fn contested_from<'a, C: Contest>(
     requires sorted { IsSorted claim_cmp (map claim_seen claims.now) }
     // No earlier claim has the same path.
     requires first { is_first_of_path (map claim_seen claims.now) i ≡ true }
+    // The result has the path of this claim, and its rivals.
     ensures { (c : PathClaim) → slice_get (map claim_seen claims.now) i ≡ Some c
         → option_map contested_seen result
         ≡ contested_path_at (C.beats contest.now) (map claim_seen claims.now) c.path }
@@ -170,6 +172,7 @@ fn first_contested<'a, C: Contest>(
     requires owners { owners.now
         ≡ map (λ c. owner_among (C.beats contest.now) (map claim_seen claims.now) c.path)
         (map claim_seen claims.now) }
+    // The result is the first path, in the order of the claims, that has no owner, with its rivals.
     ensures { option_map contested_seen result
         ≡ option_and_then (contested_path_at (C.beats contest.now) (map claim_seen claims.now))
         (find

@@ -44,6 +44,7 @@ fn comes_before(one: &Clash, other: &Clash) -> bool
 
 /// The earlier of two optional clashes. If one of them is absent, it is the other one.
 fn first_of(one: Option<Clash>, other: Option<Clash>) -> Option<Clash>
+    // The result is the earlier of the two clashes.
     ensures { option_map clash_seen result
         ≡ earlier_pair (option_map clash_seen one) (option_map clash_seen other) }
 {

@@ -140,6 +140,7 @@ fn first_to_stay<G: IsReleased>(
     names: &Names,
     let_go: &G,
 ) -> Result<Option<Name>, AllocError>
+    // On Ok, the result is the first name of the list that is not released.
     ensures { IfOk result (λ found.
         found ≡ find (λ name. not (G.does_release let_go.now name)) names.now) }
 {
