@@ -42,8 +42,8 @@ fn count_listed(db: &Db<'_>) -> usize {
     count
 }
 
-/// How many files the package with the index `i` in the database lists. The argument `_mark` serves
-/// only the borrow checker, as in `add_package`.
+/// How many files the package with the index `i` in the database lists. The argument `_mark` has no
+/// effect at run time, as in `add_package`.
 fn count_in_package<'a>(db: &Db<'a>, i: usize, _mark: PhantomData<PackageView<'a>>) -> usize
     // The index is that of one of the database's packages.
     requires { i < length (packages_of db.now) }
@@ -67,9 +67,9 @@ fn listed_files<'a>(alloc: Global, db: &Db<'a>) -> Result<Vec<Claim<'a>>, AllocE
     Ok(claims)
 }
 
-/// Adds the claims of the package with the index `i` in the database. The argument `_mark` serves
-/// only the borrow checker: it tells it the lifetime of the view of the package, which is made
-/// here.
+/// Adds the claims of the package with the index `i` in the database. The argument `_mark` has no
+/// effect at run time: it names the type of the view of the package, which is made here, for the
+/// borrow checker.
 fn add_package<'a>(
     claims: &mut Vec<Claim<'a>>,
     db: &Db<'a>,

@@ -64,7 +64,7 @@ impl<'a> NewFile<'a> {
         // On Ok, a new file was made under the scratch name, and has no bytes.
         ensures begun { OnOk result (IsNewFile (scratch_name_of name.now) [] (T.history tree.old)
             (T.history tree.new)) }
-        // Whatever it returns, only the file under the scratch name has changed.
+        // Whatever is returned, only the file under the scratch name has changed.
         ensures only { OnlyScratchHasChanged (scratch_name_of name.now) (T.history tree.old)
             (T.history tree.new) }
 
@@ -105,7 +105,7 @@ impl<'a> NewFile<'a> {
             → IsNewFile (scratch_name_of self.now) bytes first (T.history tree.old)
             → OnOk result (IsNewFile (scratch_name_of self.now) (bytes ++ piece.now) first
             (T.history tree.new)) }
-        // Whatever it returns, only the file under the scratch name has changed.
+        // Whatever is returned, only the file under the scratch name has changed.
         ensures only { (bytes : List ℕ) (first : List TreeState)
             → IsNewFile (scratch_name_of self.now) bytes first (T.history tree.old)
             → OnlyScratchHasChanged (scratch_name_of self.now) first (T.history tree.new) }
@@ -133,7 +133,7 @@ impl<'a> NewFile<'a> {
             → IfObservable first (λ v. Since (IsNewFileReadyToMove
             (scratch_name_of self.now) self.now bytes v)
             first (T.history tree.new)) }
-        // Once it has returned Ok, the new file has its name, and no crash undoes this.
+        // Once Ok is returned, the new file has its name, and no crash undoes this.
         ensures moved { OnOk result ((bytes : List ℕ) (first : List TreeState)
             → IsNewFile (scratch_name_of self.now) bytes first (T.history tree.old)
             → IfObservable first (λ v. HoldsNow (T.history tree.new)
@@ -177,10 +177,10 @@ fn scratch_name(alloc: Global, name: &Name) -> Result<Name, AllocError>
 /// Asks the tree whether a file can be renamed from the scratch name to the name, and then makes an
 /// empty file under the scratch name. The clauses are those of `begin`, for any scratch name.
 fn begin_scratch<T: Tree>(tree: &mut T, scratch: &Name, name: &Name) -> Result<(), Disk>
-    // Once it has returned Ok, an empty new file is under the scratch name.
+    // Once Ok is returned, an empty new file is under the scratch name.
     ensures begun { OnOk result (IsNewFile scratch.now [] (T.history tree.old)
         (T.history tree.new)) }
-    // Whatever it returns, only the file under the scratch name has changed.
+    // Whatever is returned, only the file under the scratch name has changed.
     ensures only { OnlyScratchHasChanged scratch.now (T.history tree.old) (T.history tree.new) }
     // Either nothing has changed, or the tree has accepted the rename.
     ensures asked { (T.history tree.new ≡ T.history tree.old)
@@ -202,10 +202,10 @@ fn begin_scratch<T: Tree>(tree: &mut T, scratch: &Name, name: &Name) -> Result<(
 
 /// Makes an empty file under `name`, which is a scratch name. A file that was there is removed.
 fn create_anew<T: Tree>(tree: &mut T, name: &Name) -> Result<(), Disk>
-    // Once it has returned Ok, an empty new file is under this name.
+    // Once Ok is returned, an empty new file is under this name.
     ensures begun { OnOk result (IsNewFile name.now [] (T.history tree.old)
         (T.history tree.new)) }
-    // Whatever it returns, only the file under this name has changed.
+    // Whatever is returned, only the file under this name has changed.
     ensures only { OnlyScratchHasChanged name.now (T.history tree.old) (T.history tree.new) }
     // How the tree's counts explain the result.
     ensures counts { IsResultExplainedByCounts (T.counts tree.old) (T.counts tree.new) result }
@@ -231,7 +231,7 @@ fn settle<T: Tree>(tree: &mut T, from: &Name, to: &Name) -> Result<(), Disk>
         → HasChangedOnlyByNewFile from.now (synced_file bytes) start v
         → Since (IsNewFileReadyToMove from.now to.now bytes start) (T.history tree.old) (T.history
         tree.new)) }
-    // Once it has returned Ok, the new file has its name, and no crash undoes this.
+    // Once Ok is returned, the new file has its name, and no crash undoes this.
     ensures settled { IfObservable (T.history tree.old) (λ v. (bytes : List ℕ) (start : TreeState)
         → HasChangedOnlyByNewFile from.now (synced_file bytes) start v
         → OnOk result (IfObservable (T.history tree.new)

@@ -52,7 +52,7 @@ pub fn replace<T: Tree>(
         → IsDurable (StateDependsOn ignored) v → IgnoresScratchNameButNotIntent ignored name.now
         → HoldsNow (T.history tree.new) (IsDurable (StateDependsOn ignored))) }
 
-    // Once it has returned Ok, each crash leaves the state of the files with the new file.
+    // Once Ok is returned, each crash leaves the state of the files with the new file.
     ensures settled { IfObservable (T.history tree.old) (λ v. (ignored : List ℕ → Bool)
         → IsDurable (StateDependsOn ignored) v → IgnoresScratchNameButNotIntent ignored name.now
         → OnOk result (HoldsNow (T.history tree.new)
@@ -64,7 +64,7 @@ pub fn replace<T: Tree>(
     ensures reads { IfObservable (T.history tree.old) (λ v.
         Since (ReadsOldOrReplaced name.now bytes.now (files_of v)) (T.history tree.old)
         (T.history tree.new)) }
-    // Once it has returned Ok, the files as read are those with the new file.
+    // Once Ok is returned, the files as read are those with the new file.
     ensures ok { IfObservable (T.history tree.old)
         (λ v. OnOk result (HoldsNow (T.history tree.new) (λ w.
         files_of w ≡ files_after_replacement name.now bytes.now (files_of v)))) }
@@ -76,7 +76,7 @@ pub fn replace<T: Tree>(
         (T.history tree.old)
         (T.history tree.new)) }
 
-    // Once it has returned Ok, no crash undoes a change of names, and the new file is synced.
+    // Once Ok is returned, no crash undoes a change of names, and the new file is synced.
     ensures synced { IfObservable (T.history tree.old)
         (λ v. OnOk result (HoldsNow (T.history tree.new) (IsSyncedAt name.now))) }
 
@@ -123,7 +123,7 @@ fn write_new<T: Tree>(
         Since (IsNewFileReadyToMove (scratch_name_of name.now) name.now bytes.now v)
         (T.history tree.old)
         (T.history tree.new)) }
-    // Once it has returned Ok, the new file has its name, and no crash undoes this.
+    // Once Ok is returned, the new file has its name, and no crash undoes this.
     ensures lasting { IfObservable (T.history tree.old) (λ v.
         OnOk result (HoldsNow (T.history tree.new)
         (IsNewFileDurablyMoved (scratch_name_of name.now) name.now bytes.now v))) }

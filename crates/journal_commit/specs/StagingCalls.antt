@@ -13,7 +13,7 @@ use Rattle.journal_commit.specs.StageRun.{IsRunThatStagedContents, IsStagingRun}
 -- how a call changes the tree and its counts, if before it no staged file is begun and not yet ended
 pub record ChangesOnlyStagedFiles {T E : Type 0} (stage : Staging) (old now : List TreeState)
     (before after : Counts) (result : Result T E) : Type 0 where
-  -- whatever it returns, only staged files have changed at each moment
+  -- whatever is returned, only staged files have changed at each moment
   pub run : (contents : List (List ℕ)) (v : TreeState) (first : List TreeState)
       → IsRunThatStagedContents stage contents None v first old → IsStagingRun v first now
   -- how the tree's counts explain the result
@@ -27,7 +27,7 @@ pub record ChangesOnlyStagedFiles {T E : Type 0} (stage : Staging) (old now : Li
 -- path has to be free for the call
 pub record ChangesOnlyBegunFile {T E : Type 0} (stage : Staging) (old now : List TreeState)
     (before after : Counts) (result : Result T E) : Type 0 where
-  -- whatever it returns, only staged files have changed at each moment
+  -- whatever is returned, only staged files have changed at each moment
   pub run : (contents : List (List ℕ)) (so_far : List ℕ) (v : TreeState) (first : List TreeState)
       → IsRunThatStagedContents stage contents (Some so_far) v first old → IsStagingRun v first now
   -- how the tree's counts explain the result
@@ -41,7 +41,7 @@ pub record StagesFile {T E : Type 0} (stage next : Staging) (bytes : List ℕ) (
     (before after : Counts) (result : Result T E) : Type 0 where
   -- how the call changes the tree and its counts
   pub only : ChangesOnlyStagedFiles stage old now before after result
-  -- once it has returned Ok, the bytes are staged after the files staged before
+  -- once Ok is returned, the bytes are staged after the files staged before
   pub staging : (contents : List (List ℕ)) (v : TreeState) (first : List TreeState)
       → IsRunThatStagedContents stage contents None v first old
       → OnOk result (IsRunThatStagedContents next (contents ++ bytes ∷ []) None v first now)

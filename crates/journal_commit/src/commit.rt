@@ -27,13 +27,13 @@ pub fn carry_through<T: Tree>(stage: &mut Stage, tree: &mut T) -> Result<(), Dis
     requires all { stage.old.staged ≡ length stage.old.intent.writes }
 
     // If the files with the bytes `contents` are staged, the moments from the start of staging on
-    // are, whatever it returns, those of one change, which leads to the files after all actions.
+    // are, whatever is returned, those of one change, which leads to the files after all actions.
     ensures run { (contents : List (List ℕ)) (v : TreeState) (first : List TreeState)
         → IsRunThatStagedContents stage.old contents None v first (T.history tree.old)
         → IsRunOfStagedChange (files_after_actions stage.old.intent (files_with_staged 1 contents
         (files_of v)))
         v first (T.history tree.new) }
-    // Once it has returned Ok, the change is complete.
+    // Once Ok is returned, the change is complete.
     ensures done { (contents : List (List ℕ)) (v : TreeState) (first : List TreeState)
         → IsRunThatStagedContents stage.old contents None v first (T.history tree.old)
         → OnOk result (IsStagedChangeComplete
@@ -75,17 +75,17 @@ fn enact<T: Tree>(stage: &mut Stage, tree: &mut T) -> Result<(), Disk>
     // outside the journal.
     ensures last { IfObservable (T.history tree.old) (λ v. IsSome (v.names intent_name)
         → Since NamesAreDurableWithoutIntent (T.history tree.old) (T.history tree.new)) }
-    // Once it has returned Ok, each crash leaves the state of `files`, which recovery yields at the
+    // Once Ok is returned, each crash leaves the state of `files`, which recovery yields at the
     // call.
     ensures settled { IfObservable (T.history tree.old) (λ v. (ignored : List ℕ → Bool)
         (files : Files) → IsDurable (StateDependsOn ignored) v
         → IsCarryingOutActions stage.old files v
         → OnOk result (HoldsNow (T.history tree.new) (EachCrashLeavesStateOf ignored files))) }
-    // Once it has returned Ok, the files as read are these `files`, and no intent is read.
+    // Once Ok is returned, the files as read are these `files`, and no intent is read.
     ensures files { IfObservable (T.history tree.old) (λ v. (files : Files)
         → IsCarryingOutActions stage.old files v → OnOk result (HoldsNow (T.history tree.new)
         (λ w. (files_of w ≡ files) × (w.names intent_name ≡ None)))) }
-    // Once it has returned Ok, no crash restores the intent.
+    // Once Ok is returned, no crash restores the intent.
     ensures gone { OnOk result (IfObservable (T.history tree.new)
         (IsRestoredByNoCrash intent_name)) }
     // How the tree's counts explain the result.

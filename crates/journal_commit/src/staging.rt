@@ -23,11 +23,11 @@ pub fn begin_file<T: Tree>(stage: &mut Stage, tree: &mut T) -> Result<(), Disk>
     // A write is left whose file is not staged.
     requires more { stage.old.staged < length stage.old.intent.writes }
 
-    // Whatever it returns, only staged files have changed at each moment; and no call is a misuse
+    // Whatever is returned, only staged files have changed at each moment; and no call is a misuse
     // if the paths of the stage are free.
     ensures only { ChangesOnlyStagedFiles stage.old (T.history tree.old) (T.history tree.new)
         (T.counts tree.old) (T.counts tree.new) result }
-    // Once it has returned Ok, the next staged file is begun, and is empty.
+    // Once Ok is returned, the next staged file is begun, and is empty.
     ensures staging { (contents : List (List ℕ)) (v : TreeState) (first : List TreeState)
         → IsRunThatStagedContents stage.old contents None v first (T.history tree.old)
         → OnOk result (IsRunThatStagedContents stage.new contents (Some []) v first
@@ -45,7 +45,7 @@ pub fn begin_file<T: Tree>(stage: &mut Stage, tree: &mut T) -> Result<(), Disk>
 pub fn append_piece<T: Tree>(stage: &mut Stage, tree: &mut T, piece: &[u8]) -> Result<(), Disk>
     // A staged file is begun and not yet ended.
     requires { stage.old.is_open ≡ true }
-    // Whatever it returns, at each moment only staged files have changed. No call is a misuse.
+    // Whatever is returned, at each moment only staged files have changed. No call is a misuse.
     ensures only { ChangesOnlyBegunFile stage.old (T.history tree.old) (T.history tree.new)
         (T.counts tree.old) (T.counts tree.new) result }
     // On Ok, the begun file has its bytes so far, followed by the piece.
@@ -66,7 +66,7 @@ pub fn append_piece<T: Tree>(stage: &mut Stage, tree: &mut T, piece: &[u8]) -> R
 pub fn end_file<T: Tree>(stage: &mut Stage, tree: &mut T) -> Result<(), Disk>
     // A staged file is begun and not yet ended.
     requires { stage.old.is_open ≡ true }
-    // Whatever it returns, at each moment only staged files have changed. No call is a misuse.
+    // Whatever is returned, at each moment only staged files have changed. No call is a misuse.
     ensures only { ChangesOnlyBegunFile stage.old (T.history tree.old) (T.history tree.new)
         (T.counts tree.old) (T.counts tree.new) result }
     // On Ok, the begun file is ended: it is the last of the staged files.

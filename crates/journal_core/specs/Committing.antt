@@ -110,12 +110,12 @@ pub record PublishesIntent {T E : Type 0} (stage : Staging) (old now : List Tree
       → IsDurable (StateDependsOn ignored) v → HasStagedContents stage contents None base v
       → SinceGivenEarlier (IsOldUntilCommit ignored (files_after_actions stage.intent (files_of v)) v)
       old now)
-  -- once it has returned Ok, the change is committed by an intent of this call
+  -- once Ok is returned, the change is committed by an intent of this call
   pub published : IfObservable old (λ v. (ignored : List ℕ → Bool) (contents : List (List ℕ)) (base : Files)
       → IsDurable (StateDependsOn ignored) v → HasStagedContents stage contents None base v
       → OnOk result (IsHistoryThatCommitsFiles ignored
       (files_after_actions stage.intent (files_of v)) v old now))
-  -- once it has returned Ok, each crash leaves the state of the files with all actions done
+  -- once Ok is returned, each crash leaves the state of the files with all actions done
   pub settled : IfObservable old (λ v. (ignored : List ℕ → Bool) (contents : List (List ℕ)) (base : Files)
       → IsDurable (StateDependsOn ignored) v → HasStagedContents stage contents None base v
       → OnOk result (HoldsNow now
@@ -124,8 +124,8 @@ pub record PublishesIntent {T E : Type 0} (stage : Staging) (old now : List Tree
   pub reads : IfObservable old (λ v. (contents : List (List ℕ)) (base : Files)
       → HasStagedContents stage contents None base v → Since (λ w. IsSome (w.names intent_name)
       → RecoversTo (files_after_actions stage.intent (files_of v)) w) old now)
-  -- whatever it returns, only the names of the intent and of the staged file 0 have changed
+  -- whatever is returned, only the names of the intent and of the staged file 0 have changed
   pub names : ChangesOnlyIntentNames old now
-  -- once it has returned Ok, the files as read are unchanged under each name except the intent's
+  -- once Ok is returned, the files as read are unchanged under each name except the intent's
   pub only_intent : IfObservable old (λ v.
       OnOk result (HoldsNow now (KeepsFilesExcept (λ q. q ≡ intent_name) v)))

@@ -1,5 +1,5 @@
 -- Trees in which the state has not changed since a start. The rules are in `docs/crash-safety.md`,
--- "What files stand for", the table, *quiet* and *still*.
+-- "What files stand for", the table, *quiet* and *unchanged*.
 use Rattle.std.specs.Prelude.{◌≡◌, ◌≤◌, ℕ, Bool, List}
 use Rattle.base_core.specs.Undone.{IsDurable, IsCrashImage}
 use Rattle.base_core.specs.Files.{Files}

@@ -27,7 +27,7 @@ pub(crate) fn act<T: Tree>(
     // moment, and recovery yields the same files.
     ensures actions { CarriesOutActions (stage_with_actions_done intent.now acted)
         (T.history tree.old) (T.history tree.new) }
-    // Once it has returned Ok, the actions that then count as done are done in the tree, and
+    // Once Ok is returned, the actions that then count as done are done in the tree, and
     // recovery yields the same files as at the call.
     ensures acting { IfObservable (T.history tree.old) (λ v. (files : Files)
         → IsCarryingOutActions (stage_with_actions_done intent.now acted) files v
@@ -36,7 +36,7 @@ pub(crate) fn act<T: Tree>(
     // At each moment the intent is unchanged, and each staged file is unchanged or gone.
     ensures waiting { IfObservable (T.history tree.old) (λ v.
         Since (KeepsIntentWhileStageShrinks v) (T.history tree.old) (T.history tree.new)) }
-    // Whatever it returns, in the newest state only the names of this action have changed.
+    // Whatever is returned, in the newest state only the names of this action have changed.
     ensures others { IfObservable (T.history tree.old) (λ v.
         HoldsNow (T.history tree.new) (KeepsFilesExcept (IsNameOfNextAction intent.now acted) v)) }
     // If an action was left, the returned count is one more than `acted`.
@@ -77,7 +77,7 @@ fn remove_one<T: Tree>(intent: &PreparedIntent, i: usize, tree: &mut T) -> Resul
     // moment, and recovery yields the same files.
     ensures actions { CarriesOutActions (stage_with_actions_done intent.now i)
         (T.history tree.old) (T.history tree.new) }
-    // Once it has returned Ok, the actions that then count as done are done in the tree, and
+    // Once Ok is returned, the actions that then count as done are done in the tree, and
     // recovery yields the same files as at the call.
     ensures acting { IfObservable (T.history tree.old) (λ v. (files : Files)
         → IsCarryingOutActions (stage_with_actions_done intent.now i) files v
@@ -86,7 +86,7 @@ fn remove_one<T: Tree>(intent: &PreparedIntent, i: usize, tree: &mut T) -> Resul
     // At each moment the intent is unchanged, and each staged file is unchanged or gone.
     ensures waiting { IfObservable (T.history tree.old) (λ v.
         Since (KeepsIntentWhileStageShrinks v) (T.history tree.old) (T.history tree.new)) }
-    // Whatever it returns, in the newest state only the names of this action have changed.
+    // Whatever is returned, in the newest state only the names of this action have changed.
     ensures others { IfObservable (T.history tree.old) (λ v.
         HoldsNow (T.history tree.new) (KeepsFilesExcept (IsNameOfNextAction intent.now i) v)) }
     // How the tree's counts explain the result.
@@ -117,7 +117,7 @@ fn move_one<T: Tree>(
     // moment, and recovery yields the same files.
     ensures actions { CarriesOutActions (stage_with_actions_done intent.now acted)
         (T.history tree.old) (T.history tree.new) }
-    // Once it has returned Ok, the actions that then count as done are done in the tree, and
+    // Once Ok is returned, the actions that then count as done are done in the tree, and
     // recovery yields the same files as at the call.
     ensures acting { IfObservable (T.history tree.old) (λ v. (files : Files)
         → IsCarryingOutActions (stage_with_actions_done intent.now acted) files v
@@ -126,7 +126,7 @@ fn move_one<T: Tree>(
     // At each moment the intent is unchanged, and each staged file is unchanged or gone.
     ensures waiting { IfObservable (T.history tree.old) (λ v.
         Since (KeepsIntentWhileStageShrinks v) (T.history tree.old) (T.history tree.new)) }
-    // Whatever it returns, in the newest state only the names of this action have changed.
+    // Whatever is returned, in the newest state only the names of this action have changed.
     ensures others { IfObservable (T.history tree.old) (λ v.
         HoldsNow (T.history tree.new) (KeepsFilesExcept (IsNameOfNextAction intent.now acted) v)) }
     // How the tree's counts explain the result.

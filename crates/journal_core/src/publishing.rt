@@ -28,7 +28,7 @@ pub(crate) fn publish_intent<T: Tree>(tree: &mut T, intent: &PreparedIntent) -> 
     // What holds at each moment of the commit, and after it.
     ensures publishing { PublishesIntent (fully_staged_stage intent.now)
         (T.history tree.old) (T.history tree.new) result }
-    // Once it has returned Ok, the intent is committed, and none of its actions is done.
+    // Once Ok is returned, the intent is committed, and none of its actions is done.
     ensures acting { IfObservable (T.history tree.old) (λ v. (contents : List (List ℕ))
         (base : Files) → HasStagedContents (fully_staged_stage intent.now) contents None base v
         → OnOk result (HoldsNow (T.history tree.new)
@@ -58,7 +58,7 @@ fn write_waiting<T: Tree>(tree: &mut T, place: &Name, bytes: &[u8]) -> Result<()
     ensures moments { IfObservable (T.history tree.old) (λ v. (ignored : List ℕ → Bool)
         → IsDurable (StateDependsOn ignored) v → files_of v intent_name ≡ None
         → Since (StateIsUnchanged ignored v) (T.history tree.old) (T.history tree.new)) }
-    // If no intent was read at the call: once it has returned Ok, the only change of the tree is
+    // If no intent was read at the call: once Ok is returned, the only change of the tree is
     // the new file with these bytes, which is synced.
     ensures written { IfObservable (T.history tree.old) (λ v. files_of v intent_name ≡ None
         → OnOk result (HoldsNow (T.history tree.new)
@@ -104,13 +104,13 @@ fn enter<T: Tree>(tree: &mut T, place: &Name, name: &Name) -> Result<(), Disk>
         → IsReadyToPublish intent base made v
         → Since (IsCommitting ignored (files_after_actions intent base) made v) (T.history tree.old)
         (T.history tree.new)) }
-    // If the tree was durable: once it has returned Ok, each crash leaves the state with all
+    // If the tree was durable: once Ok is returned, each crash leaves the state with all
     // actions done.
     ensures entered { IfObservable (T.history tree.old) (λ v. (ignored : List ℕ → Bool)
         (intent : Intent) (base : Files) (made : ℕ) → IsDurable (StateDependsOn ignored) v
         → IsReadyToPublish intent base made v → OnOk result (HoldsNow (T.history tree.new)
         (HasCommittedIntent ignored (files_after_actions intent base) made))) }
-    // Once it has returned Ok, the intent is committed, and none of its actions is done.
+    // Once Ok is returned, the intent is committed, and none of its actions is done.
     ensures acting { IfObservable (T.history tree.old) (λ v. (intent : Intent) (base : Files)
         (made : ℕ) → IsReadyToPublish intent base made v
         → OnOk result (HoldsNow (T.history tree.new)
@@ -123,7 +123,7 @@ fn enter<T: Tree>(tree: &mut T, place: &Name, name: &Name) -> Result<(), Disk>
         (made : ℕ) → IsReadyToPublish intent base made v → Since (λ w. IsSome (w.names intent_name)
         → RecoversTo (files_after_actions intent base) w) (T.history tree.old)
         (T.history tree.new)) }
-    // Once it has returned Ok, the staged file 0 is gone.
+    // Once Ok is returned, the staged file 0 is gone.
     ensures moved { OnOk result
         (IfObservable (T.history tree.new) (λ w. w.names (stage_name 0) ≡ None)) }
     // How the tree's counts explain the result.

@@ -1,4 +1,5 @@
-//! A stage: new files wait in the staging area until one step commits all of them.
+//! `Stage`, the object that carries out a change of several files: it stages the new files, commits
+//! the intent (journal entry) in one step, and then does its actions. `journal_commit` calls it.
 //! The rules are in `docs/crash-safety.md`, "A change of several files".
 ghost use Rattle.std.specs.Prelude.{◌≡◌, ◌≤◌, ◌<◌, ◌+◌, ◌++◌, ◌∷◌, [], ◌^◌, ℕ, Bool, true, false, List, Some, None, length, IfOk, OnOk, OnErr, IsErrOf, IsSome, nat_lt};
 ghost use Rattle.journal_intent.specs.adb_schema.Soundness.{container_fault_except_contents};
@@ -30,8 +31,8 @@ use journal_intent::{PreparedIntent, WriteFault, copy_of_names};
 use std::alloc::Global;
 use std::marker::Model;
 
-/// Staged files, and the actions to be done once all files are staged: names are removed, and the
-/// staged files are moved to their names.
+/// A change of several files, and how far it is carried out. First the new files are staged. After
+/// the commit the actions are done: names are removed, and staged files are moved to their names.
 ///
 /// `begin` and `of_names` allocate all the memory that a stage needs. Each write's file is then
 /// begun, appended to and ended, in the order of the writes; `publish` commits all actions in one
@@ -203,7 +204,7 @@ impl Stage {
         ensures moments { IfObservable (T.history tree.old) (λ v. (ignored : List ℕ → Bool)
             → IsDurable (StateDependsOn ignored) v
             → Since (StateIsUnchanged ignored v) (T.history tree.old) (T.history tree.new)) }
-        // Once it has returned Ok, the staged files are as before, and no crash restores an intent.
+        // Once Ok is returned, the staged files are as before, and no crash restores an intent.
         ensures staged { IfObservable (T.history tree.old) (λ v. (contents : List (List ℕ))
             (base : Files) → HasStagedContents self.now contents None base v
             → OnOk result (HoldsNow (T.history tree.new)
@@ -241,13 +242,13 @@ impl Stage {
             (contents : List (List ℕ)) (base : Files) → IsDurable (StateDependsOn ignored) v
             → HasStagedContents self.old contents None base v
             → Since (StateIsUnchanged ignored v) (T.history tree.old) (T.history tree.new)) }
-        // Once it has returned Ok, the staged files are as before, and the begun one is empty.
+        // Once Ok is returned, the staged files are as before, and the begun one is empty.
         ensures staged { IfObservable (T.history tree.old) (λ v. (contents : List (List ℕ))
             (base : Files) → HasStagedContents self.old contents None base v
             → OnOk result (HoldsNow (T.history tree.new)
             (HasStagedContents self.new contents (Some []) base))) }
 
-        // At each moment, whatever it returns, the files as read are unchanged under every name
+        // At each moment, whatever is returned, the files as read are unchanged under every name
         // except that of the new staged file.
         ensures others { IfObservable (T.history tree.old) (λ v.
             Since (KeepsFilesExcept (λ q. q ≡ stage_name (self.old.staged + 1)) v)
@@ -289,7 +290,7 @@ impl Stage {
             → IsDurable (StateDependsOn ignored) v
             → HasStagedContents self.old contents (Some so_far) base v
             → Since (StateIsUnchanged ignored v) (T.history tree.old) (T.history tree.new)) }
-        // Once it has returned Ok, the begun file has the bytes `so_far`, followed by the piece.
+        // Once Ok is returned, the begun file has the bytes `so_far`, followed by the piece.
         ensures staged { IfObservable (T.history tree.old) (λ v. (contents : List (List ℕ))
             (so_far : List ℕ) (base : Files)
             → HasStagedContents self.old contents (Some so_far) base v
@@ -333,14 +334,14 @@ impl Stage {
             → IsDurable (StateDependsOn ignored) v
             → HasStagedContents self.old contents (Some so_far) base v
             → Since (StateIsUnchanged ignored v) (T.history tree.old) (T.history tree.new)) }
-        // Once it has returned Ok, the begun file is ended: it is the last of the staged files.
+        // Once Ok is returned, the begun file is ended: it is the last of the staged files.
         ensures staged { IfObservable (T.history tree.old) (λ v. (contents : List (List ℕ))
             (so_far : List ℕ) (base : Files)
             → HasStagedContents self.old contents (Some so_far) base v
             → OnOk result (HoldsNow (T.history tree.new)
             (HasStagedContents self.new (contents ++ so_far ∷ []) None base))) }
 
-        // At each moment, whatever it returns, the files as read are unchanged.
+        // At each moment, whatever is returned, the files as read are unchanged.
         ensures others { IfObservable (T.history tree.old) (λ v.
             Since (λ w. files_of w ≡ files_of v) (T.history tree.old) (T.history tree.new)) }
         // At each moment a crash leaves the names as a crash at the call might have left them.
@@ -375,10 +376,10 @@ impl Stage {
         requires all { self.old.staged ≡ length self.old.intent.writes }
 
         // At each moment a crash leaves an old state or the state with all actions done. Once
-        // `publish` has returned Ok, each crash leaves the state with all actions done.
+        // Ok is returned, each crash leaves the state with all actions done.
         ensures publishing { PublishesIntent self.old (T.history tree.old)
             (T.history tree.new) result }
-        // Once it has returned Ok, the intent is committed, and none of its actions is done.
+        // Once Ok is returned, the intent is committed, and none of its actions is done.
         ensures acting { IfObservable (T.history tree.old) (λ v. (contents : List (List ℕ))
             (base : Files) → HasStagedContents self.old contents None base v
             → OnOk result (HoldsNow (T.history tree.new)
@@ -411,7 +412,7 @@ impl Stage {
         // If the actions that the stage counts as done are done in the tree, the state is unchanged
         // at each moment, and recovery yields the same files.
         ensures actions { CarriesOutActions self.old (T.history tree.old) (T.history tree.new) }
-        // Once it has returned Ok, all actions that the stage counts as done are done in the tree,
+        // Once Ok is returned, all actions that the stage counts as done are done in the tree,
         // and recovery yields the same files as at the call.
         ensures acting { IfObservable (T.history tree.old) (λ v. (files : Files)
             → IsCarryingOutActions self.old files v
@@ -421,7 +422,7 @@ impl Stage {
         ensures waiting { IfObservable (T.history tree.old) (λ v.
             Since (KeepsIntentWhileStageShrinks v) (T.history tree.old) (T.history tree.new)) }
 
-        // Whatever it returns, in the newest state only the names of its action have changed: the
+        // Whatever is returned, in the newest state only the names of its action have changed: the
         // removed name, or the written name and that of its staged file.
         ensures others { IfObservable (T.history tree.old) (λ v. HoldsNow (T.history tree.new)
             (KeepsFilesExcept (IsNameOfNextAction self.old.intent self.old.acted) v)) }
@@ -465,12 +466,12 @@ impl Stage {
             (files : Files) → IsDurable (StateDependsOn ignored) v
             → IsCarryingOutActions self.old files v
             → Since (StateIsUnchanged ignored v) (T.history tree.old) (T.history tree.new)) }
-        // Once it has returned Ok, each crash leaves the state of the actions done.
+        // Once Ok is returned, each crash leaves the state of the actions done.
         ensures settled { IfObservable (T.history tree.old) (λ v. (ignored : List ℕ → Bool)
             (files : Files) → IsDurable (StateDependsOn ignored) v
             → IsCarryingOutActions self.old files v
             → OnOk result (HoldsNow (T.history tree.new) (EachCrashLeavesStateOf ignored files))) }
-        // Once it has returned Ok, the files as read are those that recovery yielded at the call
+        // Once Ok is returned, the files as read are those that recovery yielded at the call
         // (`files`), and no intent is read.
         ensures files { IfObservable (T.history tree.old) (λ v. (files : Files)
             → IsCarryingOutActions self.old files v → OnOk result (HoldsNow (T.history tree.new)
@@ -487,7 +488,7 @@ impl Stage {
         ensures last { IfObservable (T.history tree.old) (λ v. IsSome (v.names intent_name)
             → Since (λ w. w.names intent_name ≡ None → NamesAreDurableExcept (intent_name ∷ []) w)
             (T.history tree.old) (T.history tree.new)) }
-        // Once it has returned Ok, no crash restores the intent.
+        // Once Ok is returned, no crash restores the intent.
         ensures gone { OnOk result (IfObservable (T.history tree.new)
             (IsRestoredByNoCrash intent_name)) }
 
@@ -526,7 +527,7 @@ pub fn apply_all<T: Tree>(stage: &mut Stage, tree: &mut T) -> Result<(), Disk>
     // If the actions that the stage counts as done are done in the tree, the state is unchanged at
     // each moment, and recovery yields the same files.
     ensures actions { CarriesOutActions stage.old (T.history tree.old) (T.history tree.new) }
-    // Once it has returned Ok, all actions that the stage counts as done are done in the tree, and
+    // Once Ok is returned, all actions that the stage counts as done are done in the tree, and
     // recovery yields the same files as at the call.
     ensures acting { IfObservable (T.history tree.old) (λ v. (files : Files)
         → IsCarryingOutActions stage.old files v

@@ -32,7 +32,7 @@ fn check_removals<T: Tree>(stage: &Stage, tree: &mut T) -> Result<(), Disk>
     // The tree is only read: no file changes, no I/O error is hidden, and no call is a misuse.
     ensures tree { OnlyReads (record {}) (T.history tree.old) (T.history tree.new)
         (T.counts tree.old) (T.counts tree.new) result }
-    // Once it has returned Ok, the tree has accepted the removal of each of these names.
+    // Once Ok is returned, the tree has accepted the removal of each of these names.
     ensures accepted { OnOk result (AreRemovalsAccepted T.accepts stage.now.intent.removals) }
 {
     // A law that the proof needs; it computes nothing.
@@ -49,7 +49,7 @@ fn check_writes<T: Tree>(stage: &Stage, tree: &mut T) -> Result<(), Disk>
     // The tree is only read: no file changes, no I/O error is hidden, and no call is a misuse.
     ensures tree { OnlyReads (record {}) (T.history tree.old) (T.history tree.new)
         (T.counts tree.old) (T.counts tree.new) result }
-    // Once it has returned Ok, the tree has accepted each of these renames.
+    // Once Ok is returned, the tree has accepted each of these renames.
     ensures accepted { OnOk result (AreWritesAccepted T.accepts stage.now.intent.writes) }
 {
     // Laws that the proof needs; they compute nothing.

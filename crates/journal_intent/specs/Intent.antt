@@ -20,11 +20,11 @@ use Rattle.adb_view.specs.declared.tables.Which.TheVariants.{Intent as IntentTab
 abbrev pub intent_name : List ℕ
 intent_name = codes "lib/apk/intent"
 
--- the folder of the staging area, in which new files wait to be moved to their names
+-- the folder of the staging area, from which new files are moved to their final names
 abbrev pub stage_folder : List ℕ
 stage_folder = codes "lib/apk/stage"
 
--- whether a name is in the staging area
+-- whether a name is in the staging area, that is, below its folder
 abbrev pub is_staged : List ℕ → Bool
 is_staged name = starts_with nat_eq name (stage_folder ++ codes "/")
 

@@ -66,9 +66,9 @@ pub record RemovesStagedNames {T E : Type 0} (names : List (List ℕ)) (old now 
   -- start, none can at any moment
   pub last : IfObservable old (λ v. AreStagedNames names → NamesOutsideJournalAreDurable v
       → Since NamesOutsideJournalAreDurable old now)
-  -- once it has returned Ok, the names lead to no file, and nothing else has changed
+  -- once Ok is returned, the names lead to no file, and nothing else has changed
   pub cleared : IfObservable old (λ v. OnOk result (HoldsNow now (HasRemovedNames names v)))
-  -- once it has returned Ok, no crash restores an intent, if none could at the start
+  -- once Ok is returned, no crash restores an intent, if none could at the start
   pub gone : IfObservable old (λ v. OnOk result (IsRestoredByNoCrash intent_name v
       → HoldsNow now (IsRestoredByNoCrash intent_name)))
   -- if there are no names to be removed, the history is unchanged

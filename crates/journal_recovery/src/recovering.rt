@@ -48,24 +48,24 @@ pub fn recover<T: Tree>(alloc: Global, tree: &mut T) -> Result<(), RecoverFault>
         Since (HasOldOrNewBytesOutsideJournal (files_of v) (unstaged_files (files_of v)))
         (T.history tree.old) (T.history tree.new)) }
 
-    // Once it has returned Ok, the files as read are those that recovery yields: all actions of the
+    // Once Ok is returned, the files as read are those that recovery yields: all actions of the
     // intent are done, the intent is gone, and nothing is staged.
     ensures files { IfObservable (T.history tree.old) (λ v.
         OnOk result (HoldsNow (T.history tree.new) (λ w. (files_of w ≡ unstaged_files (files_of v))
         × (w.names intent_name ≡ None)))) }
 
-    // If it found an intent in a durable tree: once it has returned Ok, each crash leaves the state
+    // If it found an intent in a durable tree: once Ok is returned, each crash leaves the state
     // of the files that it found.
     ensures settled { IfObservable (T.history tree.old) (λ v. (ignored : List ℕ → Bool)
         → IsDurable (StateDependsOn ignored) v → IsSome (intent_of (files_of v))
         → OnOk result (HoldsNow (T.history tree.new) (EachCrashLeavesStateOf ignored
         (files_of v)))) }
 
-    // Whatever it returns, the intent and the staged files are only removed, and the intent is
+    // Whatever is returned, the intent and the staged files are only removed, and the intent is
     // removed after all its actions are durable.
     ensures journal { RemovesIntentLast (T.history tree.old) (T.history tree.new) }
 
-    // Once it has returned Ok, no crash restores an intent that it found.
+    // Once Ok is returned, no crash restores an intent that it found.
     ensures gone { IfObservable (T.history tree.old) (λ v. IsSome (v.names intent_name)
         → OnOk result (HoldsNow (T.history tree.new) (IsRestoredByNoCrash intent_name))) }
 
@@ -106,10 +106,10 @@ fn replay<T: Tree>(alloc: Global, tree: &mut T) -> Result<(), RecoverFault>
     ensures bytes { IfObservable (T.history tree.old) (λ v.
         Since (HasOldOrNewBytesOutsideJournal (files_of v) (recovered_files (files_of v)))
         (T.history tree.old) (T.history tree.new)) }
-    // Once it has returned Ok, all actions of the intent are done, and no intent is read.
+    // Once Ok is returned, all actions of the intent are done, and no intent is read.
     ensures replayed { IfObservable (T.history tree.old) (λ v.
         OnOk result (HoldsNow (T.history tree.new) (IsIntentReplayed v))) }
-    // From a durable tree with an intent: once it has returned Ok, each crash leaves the state that
+    // From a durable tree with an intent: once Ok is returned, each crash leaves the state that
     // recovery yields.
     ensures settled { IfObservable (T.history tree.old) (λ v. (ignored : List ℕ → Bool)
         → IsDurable (StateDependsOn ignored) v → IsSome (intent_of (files_of v))
@@ -117,7 +117,7 @@ fn replay<T: Tree>(alloc: Global, tree: &mut T) -> Result<(), RecoverFault>
         (EachCrashLeavesStateOf ignored (recovered_files (files_of v))))) }
     // Staged files are only removed, and the intent is removed last.
     ensures journal { RemovesIntentLast (T.history tree.old) (T.history tree.new) }
-    // If an intent was found: once it has returned Ok, no crash restores it.
+    // If an intent was found: once Ok is returned, no crash restores it.
     ensures gone { IfObservable (T.history tree.old) (λ v. IsSome (v.names intent_name)
         → OnOk result (IfObservable (T.history tree.new) (IsRestoredByNoCrash intent_name))) }
     // If there is no intent, the tree's history is unchanged.
@@ -159,10 +159,10 @@ fn replay_file<T: Tree>(alloc: Global, tree: &mut T, file: Vec<u8>) -> Result<()
         ≡ Some file.items
         → Since (HasOldOrNewBytesOutsideJournal (files_of v) (recovered_files (files_of v)))
         (T.history tree.old) (T.history tree.new)) }
-    // Once it has returned Ok, all actions of the intent are done, and no intent is read.
+    // Once Ok is returned, all actions of the intent are done, and no intent is read.
     ensures replayed { IfObservable (T.history tree.old) (λ v. files_of v intent_name
         ≡ Some file.items → OnOk result (HoldsNow (T.history tree.new) (IsIntentReplayed v))) }
-    // From a durable tree with an intent: once it has returned Ok, each crash leaves the state that
+    // From a durable tree with an intent: once Ok is returned, each crash leaves the state that
     // recovery yields.
     ensures settled { IfObservable (T.history tree.old) (λ v. (ignored : List ℕ → Bool)
         → IsDurable (StateDependsOn ignored) v → files_of v intent_name ≡ Some file.items
@@ -170,7 +170,7 @@ fn replay_file<T: Tree>(alloc: Global, tree: &mut T, file: Vec<u8>) -> Result<()
         (EachCrashLeavesStateOf ignored (recovered_files (files_of v))))) }
     // Staged files are only removed, and the intent is removed last.
     ensures journal { RemovesIntentLast (T.history tree.old) (T.history tree.new) }
-    // Once it has returned Ok, no crash restores the intent.
+    // Once Ok is returned, no crash restores the intent.
     ensures gone { OnOk result (IfObservable (T.history tree.new)
         (IsRestoredByNoCrash intent_name)) }
     // If the file is refused, it is no intent container, and nothing has changed.
@@ -215,10 +215,10 @@ fn empty_stage<T: Tree>(alloc: Global, tree: &mut T) -> Result<(), TreeFault>
     // No crash undoes a change of a name outside the journal, if none could at the start.
     ensures last { IfObservable (T.history tree.old) (λ v. NamesOutsideJournalAreDurable v
         → Since NamesOutsideJournalAreDurable (T.history tree.old) (T.history tree.new)) }
-    // Once it has returned Ok, no file is staged, and no other name has changed.
+    // Once Ok is returned, no file is staged, and no other name has changed.
     ensures emptied { IfObservable (T.history tree.old) (λ v.
         OnOk result (HoldsNow (T.history tree.new) (HasEmptiedStage v))) }
-    // Once it has returned Ok, no crash restores an intent, if none could at the start.
+    // Once Ok is returned, no crash restores an intent, if none could at the start.
     ensures gone { IfObservable (T.history tree.old) (λ v. OnOk result
         (IsRestoredByNoCrash intent_name v
         → HoldsNow (T.history tree.new) (IsRestoredByNoCrash intent_name))) }

@@ -13,7 +13,7 @@ pub record IsCarriedTo {A : Type 0} (files : Files) (v : TreeState) (old now : L
     (result : Result A StageFault) : Type 0 where
   -- each moment is one of a change that leads to `files`
   pub run : IsRunOfStagedChange files v old now
-  -- once it has returned Ok, the change is complete
+  -- once Ok is returned, the change is complete
   pub ok : OnOk result (IsStagedChangeComplete files v now)
   -- the only possible error is that of the tree
   pub err : IfErr result (λ fault. fault ≡ Disk)

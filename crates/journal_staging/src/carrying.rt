@@ -38,7 +38,7 @@ fn stage_each<T: Tree>(
     requires none { stage.old.staged ≡ 0 }
     // There are as many sources as writes of the intent.
     requires same { length writes.now ≡ length stage.old.intent.writes }
-    // Whatever it returns, only staged files have changed at each moment.
+    // Whatever is returned, only staged files have changed at each moment.
     ensures run { (v : TreeState) (first : List TreeState)
         → IsRunThatStagedContents stage.old [] None v first (T.history tree.old)
         → IsStagingRun v first (T.history tree.new) }
@@ -110,7 +110,7 @@ pub fn carry_out<T: Tree>(
         → IsCarriedTo (files_after_actions stage.old.intent (files_with_staged 1 contents
         (files_of v)))
         v (T.history tree.old) (T.history tree.new) result) }
-    // Once `carry_out` has returned Ok, whatever the tree has returned, the change is complete,
+    // Once Ok is returned, whatever the tree has returned, the change is complete,
     // with bytes that the sources may denote. So the files of a package have the size and the
     // digest that the package lists.
     ensures listed { IfObservable (T.history tree.old) (λ v.

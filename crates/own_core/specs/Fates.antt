@@ -47,7 +47,7 @@ are_equal_fates gives_way gives_way = true
 are_equal_fates goes_aside goes_aside = true
 are_equal_fates f g = false
 
--- the claims whose marks pass the test; the list of marks has one for each claim, in the same order
+-- the claims whose element of `marks` passes the test; `marks` has one element for each claim, in the same order
 abbrev pub marked_claims : {X : Type 0} → (X → Bool) → List PathClaim → List X → List PathClaim
 marked_claims test [] marks = []
 marked_claims test (c ∷ cs) [] = []

@@ -64,8 +64,8 @@ pub(crate) fn listed_after<'a>(members: &Members<'a>, claim: &Claim<'_>) -> List
 }
 
 /// The entry of the file of the claim, which is that of a package of the database. The argument
-/// `_mark` serves only the borrow checker: it tells it the lifetime of the view of the package,
-/// which is made here.
+/// `_mark` has no effect at run time: it names the type of the view of the package, which is made
+/// here, for the borrow checker.
 #[tactic(auto, unfolding(crate::specs::ClaimEntries::claim_entry))]
 pub(crate) fn listed_before<'a>(
     db: &Db<'a>,

@@ -1,4 +1,4 @@
--- The members that claim a path, and the one that owns it.
+-- Claims, the members that claim a path, and the member that owns it.
 -- The rules are in `docs/commands.md`, "Files that several packages list"; the terms *claim*, *owner*,
 -- *contested* and *rivals* in `docs/names.md`, "The installed database and a change of it".
 use Rattle.std.specs.Prelude.{◌≡◌, ℕ, ◌==◌, Bool, false, List, map, Option, Some, None, is_none, option_map, option_and_then, slice_get, bytes_eq}

@@ -1,4 +1,4 @@
--- The only member that can beat all others.
+-- The only member of a list that may beat all others, found in one pass.
 -- No document has a rule for this: it serves the contract of `last_unbeaten_member` in `src/contest.rt`, by which
 -- *winner* is found with few questions.
 use Rattle.std.specs.Prelude.{ℕ, Bool, if◌then◌else◌, List, [], ◌∷◌}

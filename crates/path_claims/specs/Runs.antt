@@ -1,4 +1,4 @@
--- Adjacent claims of one path.
+-- Adjacent claims that have the same path.
 -- No document has a rule for this: it serves the contracts of `src/claim.rt`, over claims in the order
 -- of their paths.
 use Rattle.std.specs.Prelude.{ℕ, zero, suc, Bool, true, not, List, [], ◌∷◌, Option, Some, None, cond, slice_get, bytes_eq}

@@ -38,7 +38,7 @@ pub struct Owners<'a> {
     /// For each claim, in the order of the given list of all claims, whether its member owns its
     /// path.
     pub owned: Vec<bool>,
-    /// The first path in byte order that no member owns, with its rivals; none if each path has an
+    /// The first path in byte order that no member owns, with its rivals. None if each path has an
     /// owner.
     pub contested: Option<Contested<'a>>,
 }

@@ -26,8 +26,8 @@ enum Question {
     New,
     /// `installed NAME VERSION PRIORITY FILES REPLACES ..`: a package before the change.
     Installed,
-    /// A package after the change, kept or added: `stays NAME`,
-    /// `comes NAME VERSION PRIORITY FILES REPLACES ..`.
+    /// A package after the change: `stays NAME` for a kept one, and
+    /// `comes NAME VERSION PRIORITY FILES REPLACES ..` for an added one.
     PackageAfter,
     /// `file PATH BYTES`: a file is put into the tree.
     File,
