@@ -42,7 +42,7 @@ fn listed_so_far<'o>(
     change: &ClaimChange<'_, 'o, '_>,
     path: &FilePath<'_>,
 ) -> Option<ListedFile<'o>>
-    // `before` and `after` have the claims of the packages before the change and after it.
+    // `change` has the claims of the packages before the change (`before`) and after it (`after`).
     requires { HasClaimsOfPackages change.now }
     // The result describes the old entry, or both are absent.
     ensures { DescribesEntryIfAny result (old_entry (file_change_of change.now)
@@ -61,7 +61,7 @@ fn is_apk_new_name_free(
     change: &ClaimChange<'_, '_, '_>,
     name: &Name,
 ) -> Result<bool, AllocError>
-    // `before` and `after` have the claims of the packages before the change and after it.
+    // `change` has the claims of the packages before the change (`before`) and after it (`after`).
     requires { HasClaimsOfPackages change.now }
     // On Ok, the result says whether `NAME.apk-new` is free.
     ensures { IfOk result (λ free. free
@@ -101,7 +101,7 @@ fn fate_if_user_modified_file(
     new: &ListedFile<'_>,
     old: &Option<ListedFile<'_>>,
 ) -> Result<AddedFileFate, AllocError>
-    // `before` and `after` have the claims of the packages before the change and after it.
+    // `change` has the claims of the packages before the change (`before`) and after it (`after`).
     requires claims { HasClaimsOfPackages change.now }
     // `old` is the entry that the old database has for the name, if there is one.
     requires old { DescribesEntryIfAny old.now (old_entry (file_change_of change.now) name.now) }
@@ -134,7 +134,7 @@ fn guarded_fate<T: Tree>(
     change: &ClaimChange<'_, '_, '_>,
     claim: &Claim<'_>,
 ) -> Result<AddedFileFate, TreeFault>
-    // `before` and `after` have the claims of the packages before the change and after it.
+    // `change` has the claims of the packages before the change (`before`) and after it (`after`).
     requires claims { HasClaimsOfPackages change.now }
     // The claim is of a file of one of the members after the change.
     requires file { IsClaimOf (members_of change.now.members.now) (claim_seen claim.now) }
@@ -168,7 +168,7 @@ fn fate_of<T: Tree>(
     change: &ClaimChange<'_, '_, '_>,
     claim: &Claim<'_>,
 ) -> Result<AddedFileFate, TreeFault>
-    // `before` and `after` have the claims of the packages before the change and after it.
+    // `change` has the claims of the packages before the change (`before`) and after it (`after`).
     requires claims { HasClaimsOfPackages change.now }
     // The claim is of a file of one of the members after the change.
     requires file { IsClaimOf (members_of change.now.members.now) (claim_seen claim.now) }
@@ -201,7 +201,7 @@ pub(crate) fn fates_of<T: Tree>(
     change: &ClaimChange<'_, '_, '_>,
     coming: &[Claim<'_>],
 ) -> Result<Vec<AddedFileFate>, TreeFault>
-    // `before` and `after` have the claims of the packages before the change and after it.
+    // `change` has the claims of the packages before the change (`before`) and after it (`after`).
     requires claims { HasClaimsOfPackages change.now }
     // Each claim is of a file of one of the members after the change.
     requires files { AreClaimsOf (members_of change.now.members.now) (map claim_seen coming.now) }

@@ -88,7 +88,7 @@ fn is_path_left_over(
     path: &FilePath<'_>,
     next: &mut usize,
 ) -> bool
-    // `before` and `after` have the claims of the packages before the change and after it.
+    // `change` has the claims of the packages before the change (`before`) and after it (`after`).
     requires claims { HasClaimsOfPackages change.now }
     // The claims of the files written aside are in byte order of their paths.
     requires sorted { IsSorted claim_cmp (map claim_seen asides.now) }
@@ -109,7 +109,7 @@ fn left_over_claims<'o>(
     change: &ClaimChange<'_, 'o, '_>,
     asides: &[Claim<'_>],
 ) -> Result<Vec<Claim<'o>>, AllocError>
-    // `before` and `after` have the claims of the packages before the change and after it.
+    // `change` has the claims of the packages before the change (`before`) and after it (`after`).
     requires claims { HasClaimsOfPackages change.now }
     // The claims of the files written aside are in byte order of their paths.
     requires sorted { IsSorted claim_cmp (map claim_seen asides.now) }
@@ -247,7 +247,7 @@ pub fn parts_of<'o, 'n, T: Tree>(
     change: &ClaimChange<'_, 'o, 'n>,
     coming: &[Claim<'n>],
 ) -> Result<Parts<'o, 'n>, TreeFault>
-    // `before` and `after` have the claims of the packages before the change and after it.
+    // `change` has the claims of the packages before the change (`before`) and after it (`after`).
     requires claims { HasClaimsOfPackages change.now }
     // Each claim of an added file is of a file of one of the members.
     requires files { AreClaimsOf (members_of change.now.members.now) (map claim_seen coming.now) }

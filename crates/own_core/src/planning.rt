@@ -108,7 +108,7 @@ fn clash_of<T: Tree>(
     parts: &Parts<'_, '_>,
     coming: &[Claim<'_>],
 ) -> Result<Option<Clash>, TreeFault>
-    // `before` and `after` have the claims of the packages before the change and after it.
+    // `change` has the claims of the packages before the change (`before`) and after it (`after`).
     requires claims { HasClaimsOfPackages change.now }
     // Each claim of an added file is of a file of one of the members.
     requires files { AreClaimsOf (members_of change.now.members.now) (map claim_seen coming.now) }
@@ -247,7 +247,7 @@ fn plan_of_claims<T: Tree>(
     contested: &Option<Contested<'_>>,
     owned: Vec<bool>,
 ) -> Result<FilePlan, PlanFault>
-    // `before` and `after` have the claims of the packages before the change and after it.
+    // `change` has the claims of the packages before the change (`before`) and after it (`after`).
     requires claims { HasClaimsOfPackages change.now }
     // `coming` has, for each path with an added owner, the first claim by which this owner lists
     // it.

@@ -43,7 +43,7 @@ impl Writes {
         self.writes.len()
     }
 
-    /// Whether nothing is written.
+    /// Whether there are no writes.
     pub fn is_empty(&self) -> bool
         ensures { result ≡ (length (writes_in self.now) == 0) }
     {
