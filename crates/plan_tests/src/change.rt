@@ -17,7 +17,7 @@ use tree_memory::MemoryTree;
 
 /// A change that rows describe: the packages before it and after it.
 #[derive(Drop)]
-pub struct ChangeOfRows {
+pub struct ToldChange {
     /// The installed packages before the change, each as the words of its row.
     pub before: Vec<Words>,
     /// The packages after the change, each as the words of its row (`stays` or `comes`).
@@ -32,7 +32,7 @@ pub struct ChangeOfRows {
 pub(crate) fn add_plan(
     alloc: Global,
     tree: &mut MemoryTree,
-    change: &ChangeOfRows,
+    change: &ToldChange,
     answer: &mut Vec<u8>,
 ) -> Result<Vec<u8>, AllocError> {
     let file = database_file(alloc, &change.before)?;
@@ -45,7 +45,7 @@ pub(crate) fn add_plan(
 fn add_plan_over<'a>(
     alloc: Global,
     tree: &mut MemoryTree,
-    change: &ChangeOfRows,
+    change: &ToldChange,
     file: &'a [u8],
     fronts: &'a [Front],
     answer: &mut Vec<u8>,
@@ -65,7 +65,7 @@ fn add_plan_over<'a>(
 fn add_plan_of<'a>(
     alloc: Global,
     tree: &mut MemoryTree,
-    change: &ChangeOfRows,
+    change: &ToldChange,
     db: &Db<'a>,
     fronts: &'a [Front],
     answer: &mut Vec<u8>,

@@ -9,7 +9,7 @@ mod package;
 
 use adb_schema::ReadFault;
 use base_core::{Name, Words};
-use change::{ChangeOfRows, add_plan};
+use change::{ToldChange, add_plan};
 use db_core::Db;
 use row_lines::{
     Subject, add_yes_or_no, number_of, run_program, value_named, word_at, words_behind,
@@ -62,7 +62,7 @@ const QUESTIONS: [(&[u8], Question); 10] = [
 #[derive(Drop)]
 struct Planned {
     /// The change that earlier rows describe.
-    change: ChangeOfRows,
+    change: ToldChange,
     /// The tree, with the files that earlier rows have put there.
     tree: MemoryTree,
     /// How many calls on the tree the last plan made.
@@ -75,7 +75,7 @@ impl Planned {
     /// The values before the first row: no packages, an empty tree, and no plan.
     fn new(alloc: Global) -> Planned {
         Planned {
-            change: ChangeOfRows {
+            change: ToldChange {
                 before: Vec::new(alloc),
                 after: Vec::new(alloc),
                 purge: false,
