@@ -20,9 +20,9 @@ use Rattle.root_laws.specs.make_info.Reads.{Reads}
 use Rattle.root_laws.specs.pkg_core.Contents.{Contents}
 use Rattle.root_laws.specs.RootLeft.{IsRootLeftByChange, database_of_members}
 
--- ---- a file that is left different
+-- ---- why a file differs after a change
 
--- an entry of an empty file with the digest of other bytes, which no test of a package compares
+-- the entry is that of an empty file, and has the digest of other bytes, which no test of a package compares
 pub record IsEmptyFileWithOtherDigest (entry : Plain) : Type 0 where
   -- the entry is that of an empty file
   pub no_contents : is_file_with_contents entry ≡ false
@@ -31,13 +31,13 @@ pub record IsEmptyFileWithOtherDigest (entry : Plain) : Type 0 where
   -- an empty file does not agree with the digest of the entry
   pub unlike : is_as_listed entry [] ≡ false
 
--- the file under a path is configuration that the user changed
+-- the path has a configuration file that the user changed
 abbrev pub HasModifiedConfigFile : FileChange → Files → List ℕ → Type 0
 HasModifiedConfigFile change files path = (bytes : List ℕ) × IsModifiedConfigFile change files path bytes
 
--- Why a listed file differs after a change. The file of a kept package differs as it did before. The
--- file of an added package has other bytes: those that the user gave it, or those that the package has
--- for it, which are not as its own entry lists them.
+-- Why the file of the listing `l` differs after a change; `files` are those before it. The flag says whether the
+-- listing's member is added. The file of a kept package differs as it did before. The file of an added package has
+-- other bytes than listed: those that the user gave it, or those of the package, which differ from its own entry.
 abbrev pub ExplainsDifference :
     (ℕ → List Contents) → FileChange → Files → FileDifference → Listing → Bool → Type 0
 ExplainsDifference contents change files d l false = DiffersFromEntry d.difference l.entry (files d.path)
@@ -46,19 +46,21 @@ ExplainsDifference contents change files d l true =
     × (HasModifiedConfigFile change files d.path
     ⊎ (is_as_listed l.entry (listing_bytes contents l) ≡ false))
 
--- a file that differs after a change, of the package that owns its path
+-- the difference `d` is one that the change leaves, and there is a reason for it. `contents` has the contents of the
+-- files of each added package, and `files` are the files before the change.
 pub record IsDifferenceExplainedAfterChange (contents : ℕ → List Contents) (change : FileChange)
     (files : Files)
     (d : FileDifference) : Type 0 where
   -- the listing of the file in the package that owns its path
   pub listing : Listing
+  -- the owner of the path has this listing
   pub owner : owner_listing change d.path ≡ Some listing
   -- the reason for which a change leaves such a difference
   pub left : ExplainsDifference contents change files d listing (is_added listing.member)
 
--- ---- of the root that a command leaves
+-- ---- the change of a command, given the root that it leaves
 
--- the packages after a command, as the next one reads them
+-- the packages after a command's change, as the next command reads them from the database
 abbrev pub packages_left :
     {command : CommandLine} → {read : Reads} → {chosen : Option (List ℕ)} → {done : ChangeDone}
     → IsRootLeftByChange command read chosen done → List Plain
@@ -70,7 +72,7 @@ abbrev pub change_left :
     → IsRootLeftByChange command read chosen done → FileChange
 change_left {command} left = file_change left.selected.inputs (wishes_of command) left.found
 
--- the contents of the files of each package that a command has added
+-- for the index of each added package, the contents of its files
 abbrev pub contents_left :
     {command : CommandLine} → {read : Reads} → {chosen : Option (List ℕ)} → {done : ChangeDone}
     → IsRootLeftByChange command read chosen done → ℕ → List Contents

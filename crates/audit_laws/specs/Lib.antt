@@ -1,2 +1,2 @@
--- what the laws say
+-- the module that the law of this crate cites
 pub mod AfterChange

@@ -1,5 +1,5 @@
-//! What an audit reports after a change. The rules are in `docs/commands.md`, "`audit`" and "What a
-//! change does with files".
+//! A law on what an audit reports after a change. The rules are in `docs/commands.md`, "`audit`"
+//! and "What a change does with files".
 
 ghost use Rattle.audit_core.specs.adb_fields.FirstPair.{IsIn};
 ghost use Rattle.audit_core.specs.Audit.{FileDifference};
@@ -26,12 +26,13 @@ use root_laws::{
     what_is_written_is_not_reserved,
 };
 
-/// After a change these files differ from their records, and no others. Of a kept package: each
-/// file that differed before. Of an added package: each configuration file that the user changed,
-/// since it keeps its bytes. A package can be made with an empty file whose entry has the digest of
-/// other bytes, which no test of a package compares: that file differs too.
+/// A law: after a change exactly these files differ from their entries in the database. Of a kept
+/// package: each file that differed before. Of an added package: each configuration file that the
+/// user changed, since it keeps its bytes; and each empty file whose entry has the digest of other
+/// bytes, which no test of a package compares.
 pub fn after_a_change_an_audit_reports_what_it_left_to_the_user()
-    // Each file that differs, and no other.
+    // `d` is a difference that an audit finds after the change exactly if it is explained by one of
+    // these reasons. `files` are the files before the change.
     ensures each { (command : CommandLine) (read : Reads) (files : Files)
         (chosen : Option (List ℕ)) (clash : Option NamePair) (done : ChangeDone)
         (left : IsRootLeftByChange command read chosen done) (d : FileDifference)
@@ -39,7 +40,8 @@ pub fn after_a_change_an_audit_reports_what_it_left_to_the_user()
         → command.flags.simulate ≡ false
         → IsIn d (file_differences done.files (packages_left left))
         ↔ IsDifferenceExplainedAfterChange (contents_left left) (change_left left) files d }
-    // An added package has bytes unlike its entry for an empty file alone.
+    // If the bytes that an added package has for a file are not as its own entry lists them, the
+    // entry is that of an empty file with another digest.
     ensures empty { (command : CommandLine) (read : Reads) (chosen : Option (List ℕ))
         (done : ChangeDone) (left : IsRootLeftByChange command read chosen done) (path : List ℕ)
         (l : Listing) → added_owner_listing (change_left left) path ≡ Some l

@@ -1,8 +1,8 @@
-//! What an audit reports after a change: the files that the change left to the user. The crate has
-//! a law and no code that runs.
+//! What an audit reports after a change: the files that the change left to the user, and empty
+//! files with the digest of other bytes. The crate has one law, and no code that runs.
 //!
-//! The law cites `AfterChange` of `specs/`. The rules are in `docs/commands.md`, "`audit`" and "What
-//! a change does with files".
+//! The law cites `AfterChange` of `specs/`. The rules are in `docs/commands.md`, "`audit`" and
+//! "What a change does with files".
 #![tactic(auto)]
 
 mod laws;

@@ -6,34 +6,33 @@ use Rattle.adb_view.specs.Plain.{Plain}
 use Rattle.file_owners.specs.db_core.Members.{Listing, Member, listings_of_path, is_added, member_listings, member_of_kept}
 use Rattle.file_owners.specs.Owners.{owner_of_path}
 
--- a change of packages, for their files: the packages of the database before, those after, and whether
--- configuration that the user changed is removed with its package (`--purge`)
+-- a change of packages, as far as it determines what is done with files
 pub record FileChange : Type 0 where
   -- the packages of the database before the change
   pub old : List Plain
   -- the packages that are installed after the change
   pub members : List Member
-  -- whether configuration that the user changed is removed with its package
+  -- whether configuration that the user changed is removed with its package (`--purge`)
   pub purge : Bool
 
--- ---- before
+-- ---- the packages before the change
 
--- the files that the old packages list
+-- the files that the packages before the change list, in the order of packages, folders and files
 unfoldable pub old_listings : FileChange → List Listing
 old_listings change = member_listings (map member_of_kept change.old)
 
--- the entry for a path in the packages before the change; no two of them list one path
+-- the entry for the path in the packages before the change, of which at most one lists the path
 unfoldable pub old_entry : FileChange → List ℕ → Option Plain
 old_entry change path =
     option_map (λ l. l.entry) (find (λ l. bytes_eq l.path path) (old_listings change))
 
--- whether a package before lists the path
+-- whether a package before the change lists the path
 abbrev pub was_listed : FileChange → List ℕ → Bool
 was_listed change path = is_some (old_entry change path)
 
--- ---- after
+-- ---- the packages after the change
 
--- whether a package after lists the path
+-- whether a package after the change lists the path
 unfoldable pub is_listed_after_change : FileChange → List ℕ → Bool
 is_listed_after_change change path = list_any (λ l. bytes_eq l.path path) (member_listings change.members)
 
@@ -43,12 +42,12 @@ owner_listing change path =
     option_and_then (λ place. find (λ l. l.place == place) (listings_of_path change.members path))
     (owner_of_path change.members path)
 
--- a listed file, if its member is added; None if the member is kept, since the files of kept
+-- the listed file, if there is one and its member is added; None if the member is kept, since the files of kept
 -- packages are not written
 abbrev pub if_member_added : Option Listing → Option Listing
 if_member_added None = None
 if_member_added (Some l) = if is_added l.member then Some l else None
 
--- the listing of a path by its owner, if that member is added
+-- the listing of the path by the member that owns it, if this member is added
 abbrev pub added_owner_listing : FileChange → List ℕ → Option Listing
 added_owner_listing change path = if_member_added (owner_listing change path)

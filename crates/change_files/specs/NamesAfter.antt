@@ -13,22 +13,21 @@ abbrev pub added_paths : List Member → List (List ℕ)
 added_paths members =
     map (λ l. l.path) (filter (λ l. is_added l.member) (member_listings members))
 
--- whether a change counts as writing a name: an added package lists it, or it is the name of an
--- `.apk-new` file that is written. The database and the world always count
+-- whether the name counts as written by the change: an added package lists it, or it is that of an `.apk-new` file
+-- that is written, or that of the database or of world. `files` are those before the change
 unfoldable pub counts_as_written : FileChange → Files → List ℕ → Bool
 counts_as_written change files name =
     list_any (bytes_eq name) (database_name ∷ world_name ∷ added_paths change.members)
     || is_some (option_and_then (apk_new_listing_at change files) (path_of_apk_new_name name))
 
--- whether a change releases a name: a package listed it before, none lists it after, and the user's
--- modified file is not kept there
+-- whether the change releases the name: a package listed it before the change, no package lists it after, and no
+-- modified file of the user is kept there
 unfoldable pub is_released : FileChange → Files → List ℕ → Bool
 is_released change files name =
     was_listed change name && not
     (is_listed_after_change change name || is_modified_file_kept change files name)
 
--- what the search for the first clash needs of a change: which names count as written, and which it
--- releases
+-- the change of names, for the search for the first clash: which names count as written, and which are released
 abbrev pub name_change : FileChange → Files → NameChange
 name_change change files =
     record {

@@ -1,4 +1,4 @@
--- What a change removes, writes and keeps, as lists in byte order. The rules are in
+-- The lists of a plan: which names a change removes, writes and keeps, in byte order. The rules are in
 -- `docs/commands.md`, "What a change does with files"; the first test there is that of reserved
 -- names.
 use Rattle.std.specs.Prelude.{ℕ, cond, List, [], ◌∷◌, ◌++◌, map, Option, option_map, is_some, bytes_eq}
@@ -15,54 +15,53 @@ use Rattle.change_files.specs.FilesAfter.{is_modified_file_kept, is_removed, apk
 
 -- ---- names in byte order, each once
 
--- adds a name before names in byte order, unless the first of them is the same
+-- the names, preceded by the name, unless the first of the names is the same
 abbrev pub prepend_unless_repeated : List ℕ → List (List ℕ) → List (List ℕ)
 prepend_unless_repeated name [] = name ∷ []
 prepend_unless_repeated name (x ∷ xs) = cond (bytes_eq name x) (x ∷ xs) (name ∷ x ∷ xs)
 
--- names in byte order, with adjacent equal ones reduced to one
+-- the names, in which adjacent equal ones are replaced by one
 abbrev pub without_repeats : List (List ℕ) → List (List ℕ)
 without_repeats [] = []
 without_repeats (x ∷ xs) = prepend_unless_repeated x (without_repeats xs)
 
--- names in byte order, each once
+-- the names, sorted in byte order, each once
 unfoldable pub sorted_distinct_names : List (List ℕ) → List (List ℕ)
 sorted_distinct_names names = without_repeats (sorted_by bytes_cmp names)
 
--- the paths of the files that the packages before list
+-- the paths of the files that the packages before the change list
 abbrev pub old_paths : FileChange → List (List ℕ)
 old_paths change = map (λ l. l.path) (old_listings change)
 
 -- ---- the lists
 
--- a write of a change: a name, and the file whose contents it gets. The place of the file's member
--- counts from 0, those of the folder and of the file in it from 1
+-- a write of a change: a name, and the file of an added package whose contents it gets
 pub record FileWrite : Type 0 where
   -- the name under which the file is written
   pub name : List ℕ
-  -- the place of the package among the members, counted from 0
+  -- the index of the member whose package has the file
   pub member : ℕ
-  -- the place of the folder in the package, counted from 1
+  -- the position of the folder in the package, counted from 1
   pub folder : ℕ
-  -- the place of the file in the folder, counted from 1
+  -- the position of the file in the folder, counted from 1
   pub file : ℕ
 
--- the write of a listed file under a name, which is its path or its `.apk-new` name
+-- the write of the listed file `l` under this name, which is its path, or this path with `.apk-new`
 abbrev pub file_write_under_name : List ℕ → Listing → FileWrite
 file_write_under_name name l = record { name = name; member = l.place; folder = l.folder; file = l.file }
 
--- the writes of a change, in byte order of their names
+-- the writes of a change, in byte order of their names; `files` are those before the change
 unfoldable pub file_writes_of : FileChange → Files → List FileWrite
 file_writes_of change files =
     filter_map (λ name. option_map (file_write_under_name name)
     (listing_written_under_name change files name))
     (sorted_distinct_names (added_paths change.members ++ map apk_new_name (added_paths change.members)))
 
--- the names that are removed, in byte order
+-- the names that the change removes, in byte order
 unfoldable pub removals_of : FileChange → Files → List (List ℕ)
 removals_of change files = filter (is_removed change files) (sorted_distinct_names (old_paths change))
 
--- the paths at which the user's file is kept, in byte order
+-- the paths at which the user's modified file is kept although no package lists them after the change, in byte order
 unfoldable pub kept_paths_of : FileChange → Files → List (List ℕ)
 kept_paths_of change files =
     filter (is_modified_file_kept change files) (sorted_distinct_names (old_paths change))

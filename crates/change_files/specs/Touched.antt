@@ -1,6 +1,6 @@
--- Classes of names for the laws: those of the database and world, of `.apk-new` files, and of added
--- packages. (This is not *touched* of `docs/names.md`.) It serves the laws of `src/laws.rt`; the
--- rules are in `docs/commands.md`, "What a change does with files".
+-- Which names a change may write: those of the database and of world, of `.apk-new` files, and of files of added
+-- packages. (This is not *touched* of `docs/names.md`.) The laws of `src/laws.rt` cite these definitions; the rules are
+-- in `docs/commands.md`, "What a change does with files".
 use Rattle.std.specs.Prelude.{◌≡◌, ℕ, Bool, true, false, ◌&&◌, ◌||◌, List, Some, is_some, option_and_then, bytes_eq}
 use Rattle.std.specs.List.{list_any}
 use Rattle.base_core.specs.Files.{Files}
@@ -13,13 +13,13 @@ use Rattle.change_files.specs.FilesAfter.{DatabaseAndWorldAfter, database_name, 
 use Rattle.change_files.specs.NamesAfter.{added_paths}
 use Rattle.change_files.specs.PlanLists.{FileWrite, file_write_under_name}
 
--- whether a name is that of the database, of the world, or of a converted text database
+-- whether the name is that of the database, of world, or, if a text database is converted, of the text database
 abbrev pub is_database_or_world_name : DatabaseAndWorldAfter → List ℕ → Bool
 is_database_or_world_name records name =
     bytes_eq name database_name
     || (bytes_eq name world_name || (records.takes_text_over && bytes_eq name text_database_name))
 
--- whether this name is that of an `.apk-new` file that is written
+-- whether the name is that of an `.apk-new` file that the change writes
 abbrev pub is_apk_new_name : FileChange → Files → List ℕ → Bool
 is_apk_new_name change files name =
     is_some (option_and_then (apk_new_listing_at change files) (path_of_apk_new_name name))
@@ -28,8 +28,8 @@ is_apk_new_name change files name =
 abbrev pub is_added_path : FileChange → List ℕ → Bool
 is_added_path change path = list_any (bytes_eq path) (added_paths change.members)
 
--- configuration that the user changed: the file under a protected path is neither as an added package
--- lists it nor as a package listed it before
+-- The path has a configuration file that the user changed, with these bytes: the path is protected, and the bytes are
+-- neither as the added package that owns the path lists them, nor as a package listed them before.
 pub record IsModifiedConfigFile (change : FileChange) (files : Files) (path bytes : List ℕ) : Type 0 where
   -- the path is protected: it is below `etc/`
   pub guarded : is_protected_path path ≡ true
@@ -42,16 +42,16 @@ pub record IsModifiedConfigFile (change : FileChange) (files : Files) (path byte
   pub unlike_old : (entry : Plain) → old_entry change path ≡ Some entry
       → is_as_listed entry bytes ≡ false
 
--- if a package listed the path before, its entry differs from this one
+-- if a package listed the path before the change, its entry describes other bytes than the given entry
 abbrev pub DiffersFromOldEntry : FileChange → List ℕ → Plain → Type 0
 DiffersFromOldEntry change path entry =
     (old : Plain) → old_entry change path ≡ Some old → do_entries_agree old entry ≡ false
 
--- a write is an element of the plan: a listed file is written under its name
+-- the write is one of the change: a listed file is written under its name, and it has the contents of this file
 pub record IsPlannedWrite (change : FileChange) (files : Files) (write : FileWrite) : Type 0 where
-  -- the file as a member lists it
+  -- the listing of the written file by a member
   pub listing : Listing
   -- this listing is written under the name of the write
   pub written : listing_written_under_name change files write.name ≡ Some listing
-  -- the write is that of this listing
+  -- the write has the member, the folder and the file of this listing
   pub shown : write ≡ file_write_under_name write.name listing

@@ -1,5 +1,5 @@
-//! What follows from the definitions, for all changes and files. The rules are in
-//! `docs/commands.md`, "What a change does with files"; the README of this crate lists the laws.
+//! Laws: what follows from the definitions of this crate, for all changes and files. The rules are
+//! in `docs/commands.md`, "What a change does with files"; the README of this crate lists the laws.
 
 ghost use Rattle.std.specs.Prelude.{◌≡◌, ◌≢◌, ◌⊎◌, ◌↔◌, ℕ, Bool, true, false, List, [], None, Some, IsSome, map, is_some, All, Contains};
 ghost use Rattle.file_guard.specs.adb_schema.Reserved.{is_reserved};
@@ -22,55 +22,64 @@ ghost use Rattle.change_files.specs.Touched.{DiffersFromOldEntry, IsModifiedConf
 
 // ---- what is written
 
-/// An added package that owns a path lists it. So does the owner of each file that is written under
-/// that path, or beside it.
+/// A law: an added package that owns a path lists the path. Each file that is written is one of an
+/// added package that owns its path, and is written under this path or aside.
 pub fn what_is_written_is_owned_by_an_added_package()
-    // The owner of a path, if it is added, lists this path.
+    // If `l` is the listing of a path by its owner, which is added, then `l` is one of the listings
+    // of the members, of this path, by an added member, and this member owns the path.
     ensures owner { (change : FileChange) (path : List ℕ) (l : Listing)
         → added_owner_listing change path ≡ Some l
         → (l.path ≡ path) × (is_added l.member ≡ true)
         × Contains (member_listings change.members) l
         × (owner_of_path change.members path ≡ Some l.place) }
-    // A file that is written is one of an added owner, and is written under its path or beside it.
+    // If the listed file `l` is written under a name, its member is added and owns its path. The
+    // name is its path, or this path with `.apk-new`.
     ensures written { (change : FileChange) (files : Files) (name : List ℕ) (l : Listing)
         → listing_written_under_name change files name ≡ Some l
         → (added_owner_listing change l.path ≡ Some l)
         × ((name ≡ l.path) ⊎ (name ≡ apk_new_name l.path)) }
 {}
 
-/// A file of an added owner takes its path, unless the user changed the file there.
+/// A law: a file of an added package that owns its path is written under this path, unless the user
+/// changed a protected configuration file there.
 pub fn an_added_file_takes_its_path()
+    // If `l` is the listing of the path by its added owner, and the path has no configuration file
+    // that the user changed, `l` is written under the path.
     ensures { (change : FileChange) (files : Files) (path : List ℕ) (l : Listing)
         → added_owner_listing change path ≡ Some l
         → ((bytes : List ℕ) → IsModifiedConfigFile change files path bytes → ⊥)
         → listing_written_under_name change files path ≡ Some l }
 {}
 
-/// A new file is written beside one that the user changed, under its `.apk-new` name, exactly if no
-/// package lists that name, and no package listed the path before or the old entry differs.
+/// A law: when a package's file is written aside, as `PATH.apk-new` beside a configuration file
+/// that the user changed. No package may list this name after the change. If a package listed the
+/// path before, its entry must differ from the new one.
 pub fn what_differs_is_written_beside_the_users_file()
-    // When the new file is written beside it.
+    // Under these conditions the file is written aside, if `PATH.apk-new` is not too long for a
+    // name.
     ensures beside { (change : FileChange) (files : Files) (path bytes : List ℕ) (l : Listing)
         → added_owner_listing change path ≡ Some l → IsModifiedConfigFile change files path bytes
         → DiffersFromOldEntry change path l.entry
         → IsName (apk_new_name path) → is_listed_after_change change (apk_new_name path) ≡ false
         → apk_new_listing_at change files path ≡ Some l }
-    // Only then.
+    // The file is written aside only under these conditions.
     ensures only { (change : FileChange) (files : Files) (path : List ℕ) (l : Listing)
         → apk_new_listing_at change files path ≡ Some l
         → ((bytes : List ℕ) × IsModifiedConfigFile change files path bytes)
         × DiffersFromOldEntry change path l.entry
         × (is_listed_after_change change (apk_new_name path) ≡ false) }
-    // It is written under that name.
+    // A file that is written aside is written under the name `PATH.apk-new`.
     ensures located { (change : FileChange) (files : Files) (path : List ℕ) (l : Listing)
         → apk_new_listing_at change files path ≡ Some l
         → listing_written_under_name change files (apk_new_name path) ≡ Some l }
 {}
 
-/// The contents that a package has for a path are as its entry says: a link's text; contents of its
-/// size and its digest; or, if the entry says so, an empty file. For each added member, the
-/// contents are those of a package in which no test fails.
+/// A law: the bytes that an added package has for a file are as its entry lists them. They are the
+/// text of a link, or contents with the listed size and digest, or an empty file. The contents of
+/// the package with the listing's member are those of a package in which no test fails.
 pub fn the_files_of_an_added_package_are_as_listed()
+    // `contents` has the contents of the member's package, which have the listed sizes and digests.
+    // If the entry is that of an empty file, its digest must be that of no bytes.
     ensures { (contents : ℕ → List Contents) (members : List Member) (l : Listing)
         → Contains (member_listings members) l
         → HaveValidDigestLengths (expected_files_of_package l.member.pkg)
@@ -80,7 +89,7 @@ pub fn the_files_of_an_added_package_are_as_listed()
         → is_as_listed l.entry (listing_bytes contents l) ≡ true }
 {}
 
-/// A file that is written has those bytes after the change.
+/// A law: a name under which a listed file is written has the bytes of this file after the change.
 pub fn what_is_written_takes_its_name()
     ensures { (change : FileChange) (bytes_of : Listing → List ℕ) (records : DatabaseAndWorldAfter)
         (files : Files) (name : List ℕ) (l : Listing)
@@ -89,10 +98,11 @@ pub fn what_is_written_takes_its_name()
         → files_after_change change bytes_of records files name ≡ Some (bytes_of l) }
 {}
 
-/// No written name is reserved if no added package lists a reserved path; and the database, the
-/// world and a text database have reserved names.
+/// A law: no name of a written file is reserved, if no added package lists a reserved path. The
+/// names of the database, of world and of a text database are reserved.
 pub fn what_is_written_is_not_reserved()
-    // A name of a listed file that is written is not reserved.
+    // If no added package lists a reserved path, a name under which a listed file is written is not
+    // reserved.
     ensures written { (change : FileChange) (files : Files) (name : List ℕ) (l : Listing)
         → first_reserved_path change.members ≡ None
         → listing_written_under_name change files name ≡ Some l
@@ -105,13 +115,14 @@ pub fn what_is_written_is_not_reserved()
 
 // ---- what is removed
 
-/// A removed path was listed before, and no package lists it after the change; then it is absent.
+/// A law: a package listed a removed path before the change, and no package lists it after. The
+/// path has no file after the change.
 pub fn what_is_removed_was_listed_before()
-    // A removed path was listed before, and is not listed after.
+    // A removed path was listed before the change, and is not listed after it.
     ensures listed { (change : FileChange) (files : Files) (path : List ℕ)
         → is_removed change files path ≡ true
         → (was_listed change path ≡ true) × (is_listed_after_change change path ≡ false) }
-    // A removed path is absent after the change.
+    // A removed path has no file after the change.
     ensures gone { (change : FileChange) (bytes_of : Listing
         → List ℕ) (records : DatabaseAndWorldAfter)
         (files : Files) (path : List ℕ) → is_removed change files path ≡ true
@@ -119,25 +130,26 @@ pub fn what_is_removed_was_listed_before()
         → files_after_change change bytes_of records files path ≡ None }
 {}
 
-/// No removed name is reserved, if the packages before list no reserved path.
+/// A law: no removed name is reserved, if the packages before the change list no reserved path.
 pub fn what_is_removed_is_not_reserved()
     ensures { (change : FileChange) (files : Files) (path : List ℕ)
         → All (λ l. is_reserved l.path ≡ false) (old_listings change)
         → is_removed change files path ≡ true → is_reserved path ≡ false }
 {}
 
-/// A path that was listed before is removed if no package lists it after and nothing is written
-/// there, unless the user changed its file. Each file that is kept so was changed by the user and
-/// is not to be purged.
+/// A law on a path that was listed before the change, that no package lists after it, and at which
+/// nothing is written. It is removed, unless it has a configuration file that the user changed and
+/// `--purge` is not given.
 pub fn what_is_left_over_is_removed_unless_it_is_the_users()
-    // A path that is no longer listed is removed, unless the user changed its file and it is not
-    // purged.
+    // Such a path is removed, if it has no configuration file that the user changed, or if
+    // `--purge` is given.
     ensures goes { (change : FileChange) (files : Files) (path : List ℕ)
         → is_no_longer_listed change files path ≡ true
         → ((bytes : List ℕ) → IsModifiedConfigFile change files path bytes → ⊥) ⊎ (change.purge
         ≡ true)
         → is_removed change files path ≡ true }
-    // A file that is kept was changed by the user, and the change does not purge.
+    // If the file at such a path is kept, it is configuration that the user changed, and `--purge`
+    // is not given.
     ensures kept { (change : FileChange) (files : Files) (path : List ℕ)
         → is_modified_file_kept change files path ≡ true
         → ((bytes : List ℕ) × IsModifiedConfigFile change files path bytes) × (change.purge
@@ -146,14 +158,14 @@ pub fn what_is_left_over_is_removed_unless_it_is_the_users()
 
 // ---- what is unchanged
 
-/// A path with a kept owner is unchanged.
+/// A law: the file at a path is unchanged if the path's owner is a kept package.
 pub fn the_file_of_a_kept_package_is_not_touched()
-    // The plan of the change neither writes nor removes it.
+    // The change neither writes nor removes the file at the path.
     ensures plan { (change : FileChange) (files : Files) (path : List ℕ) (l : Listing)
         → owner_listing change path ≡ Some l → is_added l.member ≡ false
         → (listing_written_under_name change files path ≡ None) × (is_removed change files path
         ≡ false) }
-    // So this file is unchanged after the change.
+    // After the change the path has the same file as before, or none.
     ensures file { (change : FileChange) (bytes_of : Listing
         → List ℕ) (records : DatabaseAndWorldAfter)
         (files : Files) (path : List ℕ) (l : Listing)
@@ -162,8 +174,9 @@ pub fn the_file_of_a_kept_package_is_not_touched()
         → files_after_change change bytes_of records files path ≡ files path }
 {}
 
-/// Configuration that the user changed keeps its bytes, unless it is to be purged and no package
-/// lists it. An `.apk-new` file of an earlier change is replaced by the one that is written now.
+/// A law: a configuration file that the user changed keeps its bytes, unless `--purge` is given and
+/// no package lists its path after the change. An `.apk-new` file of an earlier change is replaced
+/// if a new one is written.
 pub fn configuration_that_the_user_changed_is_kept()
     ensures { (change : FileChange) (bytes_of : Listing → List ℕ) (records : DatabaseAndWorldAfter)
         (files : Files) (path bytes : List ℕ)
@@ -173,7 +186,8 @@ pub fn configuration_that_the_user_changed_is_kept()
         → files_after_change change bytes_of records files path ≡ Some bytes }
 {}
 
-/// A kept file is unchanged.
+/// A law: a user's file that is kept, although no package lists its path after the change, is
+/// unchanged.
 pub fn what_is_kept_is_unchanged()
     ensures { (change : FileChange) (bytes_of : Listing → List ℕ) (records : DatabaseAndWorldAfter)
         (files : Files) (path : List ℕ) → is_modified_file_kept change files path ≡ true
@@ -181,8 +195,8 @@ pub fn what_is_kept_is_unchanged()
         → files_after_change change bytes_of records files path ≡ files path }
 {}
 
-/// A name that no package listed before and that no added package lists is unchanged, unless an
-/// `.apk-new` file is written under it.
+/// A law: a name that no package listed before, and that no added package lists, has the same file
+/// after the change as before, unless an `.apk-new` file is written under it.
 pub fn a_name_that_nobody_lists_is_not_touched()
     ensures { (change : FileChange) (bytes_of : Listing → List ℕ) (records : DatabaseAndWorldAfter)
         (files : Files) (name : List ℕ) → was_listed change name ≡ false
@@ -193,7 +207,8 @@ pub fn a_name_that_nobody_lists_is_not_touched()
 
 // ---- the names
 
-/// Each file after a change has one of the names after.
+/// A law: each name that has a file after a change is present after the change, as the search for
+/// clashes defines this.
 pub fn the_files_after_a_change_are_under_its_names()
     ensures { (change : FileChange) (bytes_of : Listing → List ℕ) (records : DatabaseAndWorldAfter)
         (files : Files) (name : List ℕ)
@@ -201,17 +216,17 @@ pub fn the_files_after_a_change_are_under_its_names()
         → is_present_after_change (name_change change files) files name ≡ true }
 {}
 
-/// A file from before is present after a change that does not release its name. If the change
-/// releases the name and writes nothing there, the file is absent.
+/// A law: if a change does not release the name of a file, the name has a file after the change. If
+/// the change releases the name and writes nothing there, the name has no file.
 pub fn the_names_after_a_change_are_those_of_its_files()
-    // A file from before whose name is not released is present after the change.
+    // A name that has a file before the change, and is not released, has a file after it.
     ensures located { (change : FileChange) (bytes_of : Listing
         → List ℕ) (records : DatabaseAndWorldAfter)
         (files : Files) (name : List ℕ)
         → is_some (files name) ≡ true → is_released change files name ≡ false
         → is_database_or_world_name records name ≡ false
         → is_some (files_after_change change bytes_of records files name) ≡ true }
-    // A released name that is not written is absent after the change.
+    // A released name under which nothing is written has no file after the change.
     ensures gone { (change : FileChange) (bytes_of : Listing
         → List ℕ) (records : DatabaseAndWorldAfter)
         (files : Files) (name : List ℕ)
@@ -220,12 +235,12 @@ pub fn the_names_after_a_change_are_those_of_its_files()
         → files_after_change change bytes_of records files name ≡ None }
 {}
 
-// ---- the records
+// ---- the database and world
 
-/// The new database and the new world are under their names. An absent world that would be empty
-/// stays absent, and a converted text database is absent.
+/// A law: after a change the new database and the new world are under their names. An absent world
+/// that would be empty stays absent, and a converted text database is absent.
 pub fn the_records_of_a_change_are_under_their_names()
-    // The database is under its name.
+    // The new database is under its name.
     ensures database { (change : FileChange) (bytes_of : Listing → List ℕ)
         (records : DatabaseAndWorldAfter)
         (files : Files)
@@ -249,51 +264,54 @@ pub fn the_records_of_a_change_are_under_their_names()
 
 // ---- the lists
 
-/// The lists of a plan have exactly the names that are written, removed and kept, and the paths
-/// beside which an `.apk-new` file is written.
+/// A law: the lists of a plan have exactly the names that are written, removed and kept, and the
+/// paths beside which an `.apk-new` file is written.
 pub fn the_lists_of_a_plan_hold_just_its_names()
-    // A write is in the list if something is written under its name, with that file.
+    // A write is in the list of writes exactly if a listed file is written under its name, and it
+    // has the contents of this file.
     ensures writes { (change : FileChange) (files : Files) (write : FileWrite)
         → Contains (file_writes_of change files) write ↔ IsPlannedWrite change files write }
-    // The list of writes has exactly the written names.
+    // The list of writes has exactly the names under which a listed file is written.
     ensures written { (change : FileChange) (files : Files) (name : List ℕ)
         → Contains (map (λ write. write.name) (file_writes_of change files)) name
         ↔ (is_written change files name ≡ true) }
     // The list of removals has exactly the removed paths.
     ensures removed { (change : FileChange) (files : Files) (path : List ℕ)
         → Contains (removals_of change files) path ↔ (is_removed change files path ≡ true) }
-    // The list of kept paths has exactly those whose modified file is kept.
+    // The list of kept paths has exactly the paths at which the user's modified file is kept
+    // although no package lists them after the change.
     ensures kept { (change : FileChange) (files : Files) (path : List ℕ)
         → Contains (kept_paths_of change files) path ↔ (is_modified_file_kept change files path
         ≡ true) }
-    // The last list has exactly the paths beside which an `.apk-new` file is written.
+    // The list `paths_with_apk_new_file` has exactly the paths beside which an `.apk-new` file is
+    // written.
     ensures aside { (change : FileChange) (files : Files) (path : List ℕ)
         → Contains (paths_with_apk_new_file change files) path
         ↔ (is_some (apk_new_listing_at change files path) ≡ true) }
 {}
 
-/// Each list of a plan is in byte order, and no name is repeated.
+/// A law: each list of a plan is in byte order of names, and no name is repeated.
 pub fn the_lists_of_a_plan_rise()
-    // The writes are in byte order of their names.
+    // The writes are in byte order of their names, each name once.
     ensures writes { (change : FileChange) (files : Files)
         → AreSortedDistinctNames (map (λ write. write.name) (file_writes_of change files)) }
-    // The removed paths are in byte order.
+    // The removed paths are in byte order, each once.
     ensures removals { (change : FileChange) (files : Files)
         → AreSortedDistinctNames (removals_of change files) }
-    // The kept paths are in byte order.
+    // The kept paths are in byte order, each once.
     ensures kept { (change : FileChange) (files : Files)
         → AreSortedDistinctNames (kept_paths_of change files) }
-    // The paths with an `.apk-new` file are in byte order.
+    // The paths beside which an `.apk-new` file is written are in byte order, each once.
     ensures aside { (change : FileChange) (files : Files)
         → AreSortedDistinctNames (paths_with_apk_new_file change files) }
 {}
 
-/// No name is both written and removed, and no kept name is either.
+/// A law: no name is both written and removed, and no kept path is written or removed.
 pub fn a_name_has_one_place_in_a_plan()
     // A written name is not removed.
     ensures removed { (change : FileChange) (files : Files) (name : List ℕ)
         → is_written change files name ≡ true → is_removed change files name ≡ false }
-    // A kept name is neither written nor removed.
+    // A path at which the user's file is kept is neither written nor removed.
     ensures kept { (change : FileChange) (files : Files) (name : List ℕ)
         → is_modified_file_kept change files name ≡ true
         → (is_written change files name ≡ false) × (is_removed change files name ≡ false) }

@@ -1,11 +1,11 @@
 //! The files after a change of packages, name by name. The rules are in `docs/commands.md`, "What a
 //! change does with files".
 //!
-//! This crate consists of definitions. Of `specs/`, `FileChange` says which packages list a path
-//! before and after; `Fate` what is done with an added file if the user changed the one under its
-//! path; `FilesAfter` which file each name has after the change; `NamesAfter` which names are
-//! present then; and `PlanLists` the same as lists of what is removed, written and kept. The
-//! functions are laws.
+//! This crate consists of definitions, and its functions are laws about them. Of `specs/`,
+//! `FileChange` says which packages list a path before and after the change. `Fate` says what is
+//! done with an added file if the user changed the file under its path. `FilesAfter` says which
+//! file each name has after the change, and `NamesAfter` which names are present then. `PlanLists`
+//! has the lists of names that are removed, written and kept.
 #![tactic(auto)]
 
 mod laws;

@@ -1,9 +1,9 @@
-//! Sweeps over small containers: each byte is set to each value, each word (four bytes) to each
-//! other word, and the file is cut at each length. An answer counts the results by their kinds, and
-//! has a digest over all results, which shows a change of any single one. Its stored run has all
-//! rows, whose expected answers `tests/model/verify.py` computes; `tests/lines.md` describes their
-//! form. A container is kept from one row to the next. The README of this crate has a row for each
-//! question.
+//! Tests of damaged containers: each byte of a small container is set to each value, each word
+//! (four bytes) is replaced by each other word, and the file is cut off at each length. An answer
+//! counts the results by their kinds, and has a digest over all results. The rows are in the stored
+//! run of this crate; `tests/model/verify.py` computes their expected answers, and `tests/lines.md`
+//! describes their form. A container is kept from one row to the next. The README of this crate has
+//! a row for each question.
 #![tactic(auto)]
 
 ghost use Rattle.std.specs.Prelude.{◌+◌, ◌≤◌, length};
@@ -22,7 +22,7 @@ use tally::Tally;
 /// The kinds of questions, each with the way in which files are tested.
 #[derive(Clone, Copy)]
 enum Question {
-    /// `container BYTES`: later questions are about the container BYTES.
+    /// `container BYTES`: later questions are about the container with these bytes.
     Container,
     /// The container is tested as it is.
     Itself(Test),
@@ -34,7 +34,7 @@ enum Question {
     Cuts(Test),
 }
 
-// The first word of each question.
+// The first word of the rows of each question.
 #[rattlefmt::skip]
 const QUESTIONS: [(&[u8], Question); 13] = [
     (b"container", Question::Container),
@@ -52,15 +52,15 @@ const QUESTIONS: [(&[u8], Question); 13] = [
     (b"dump_cuts", Question::Cuts(Test::Dump)),
 ];
 
-/// The container of the last question `container`.
+/// The container that the last row `container` has given.
 #[derive(Drop)]
 struct CurrentContainer {
-    /// Its bytes; empty before the first `container`.
+    /// The bytes of the container; empty before the first row `container`.
     bytes: Vec<u8>,
 }
 
 impl Subject for CurrentContainer {
-    /// Answers a question by its first word. `container` keeps the bytes that later questions test.
+    /// Adds the answer to the row with these words, whose first word names the question.
     fn answer(
         &mut self,
         alloc: Global,
@@ -84,8 +84,8 @@ impl Subject for CurrentContainer {
     }
 }
 
-/// Adds the result of a test for each file that differs from this one in at most one byte: offset
-/// by offset, value by value.
+/// Adds to the answer the counts and the digest of the results of a test, over all files that
+/// differ from `file` in at most one byte: offset by offset, value by value.
 fn add_changes(
     alloc: Global,
     test: Test,
@@ -99,8 +99,8 @@ fn add_changes(
     tally.add_to(alloc, answer)
 }
 
-/// Tests the file with each of the 256 values of the byte at an offset, and counts the results. A
-/// line of the digest has the offset, the value and the result.
+/// Tests the file with each of the 256 values of the byte at the offset `at`, and counts the
+/// results. A line of the digest has the offset, the value and the result.
 fn read_values_at(
     alloc: Global,
     test: Test,
@@ -120,9 +120,9 @@ fn read_values_at(
     Ok(())
 }
 
-/// Adds the result of a test for each file in which one word is replaced by another of the file:
-/// offset by offset, and at each offset by each word, from the first to the last. A word is the
-/// four bytes at a multiple of four.
+/// Adds to the answer the counts and the digest of the results of a test, over all files in which
+/// one word of `file` is replaced by one of its words: offset by offset, and at each offset word by
+/// word. A word is the four bytes at an offset that is a multiple of four.
 fn add_words(
     alloc: Global,
     test: Test,
@@ -136,8 +136,8 @@ fn add_words(
     tally.add_to(alloc, answer)
 }
 
-/// Tests the file with the word at an offset, which must end within the file, replaced by each of
-/// its words. A line of the digest has both offsets and the result.
+/// Tests the file with the word at the offset `at` replaced by each word of the file, and counts
+/// the results. A line of the digest has the offsets of both words and the result.
 fn read_words_at(
     alloc: Global,
     test: Test,
@@ -145,6 +145,7 @@ fn read_words_at(
     at: usize,
     tally: &mut Tally,
 ) -> Result<(), AllocError>
+    // The word at this offset ends within the file.
     requires { at + 4 ≤ length file.now }
 {
     for index in 0..file.len() / 4 {
@@ -158,8 +159,8 @@ fn read_words_at(
     Ok(())
 }
 
-/// Adds the result of a test for the file cut off at each length, from 0 to the whole length. A
-/// line of the digest has the length and the result.
+/// Adds to the answer the counts and the digest of the results of a test, over the file cut off at
+/// each length, from 0 to the whole length. A line of the digest has the length and the result.
 fn add_cuts(
     alloc: Global,
     test: Test,
@@ -175,7 +176,7 @@ fn add_cuts(
     tally.add_to(alloc, answer)
 }
 
-/// Answers the rows of standard input.
+/// Answers the rows of standard input, one after another.
 fn main(rt: HostRuntime) -> io::Result<ExitCode> {
     let alloc = rt.alloc();
     let mut container = CurrentContainer {

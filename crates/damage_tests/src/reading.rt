@@ -1,4 +1,5 @@
-//! Tests a container or prints it as text, and gives the result as a line. The tests are in
+//! The ways to test a file: by all tests of a container, or by printing its text. Each adds its
+//! result as a line. The tests are in
 //! `docs/formats.md`, "Tests of a container", and the printed text in "Dump text".
 
 ghost use Rattle.std.specs.Prelude.{IsTrue, is_some};
@@ -19,16 +20,18 @@ use tree_memory::{MemorySink, MemoryTree};
 /// The ways to test a file.
 #[derive(Clone, Copy)]
 pub(crate) enum Test {
-    /// All tests, on a file in memory.
+    /// All tests of a container, on a file in memory.
     Whole,
-    /// Tested to its end as `apk verify` does: a package in pieces, from a tree.
+    /// All tests of a container, as `apk verify` makes them: the file is in a tree, and a package
+    /// is read in pieces.
     Pieces,
-    /// Printed as text, as `apk adbdump` does.
+    /// The file is printed as dump text, as `apk adbdump` does it.
     Dump,
 }
 
 impl Test {
-    /// Adds the result of this test for a file, with a line end, and returns its kind.
+    /// Adds the result of this test for the file to `line`, with a line end, and returns the kind
+    /// of the result.
     pub(crate) fn read(
         self,
         alloc: Global,
@@ -56,7 +59,7 @@ impl Test {
     }
 }
 
-/// The first failed test of a file in memory; None if all tests succeed.
+/// The cause of the first failed test of a file in memory, or None if no test fails.
 fn fault_of(alloc: Global, file: &[u8]) -> Result<Option<Cause>, AllocError> {
     match verify(alloc, file) {
         Ok(()) => Ok(None),
@@ -65,8 +68,8 @@ fn fault_of(alloc: Global, file: &[u8]) -> Result<Option<Cause>, AllocError> {
     }
 }
 
-/// The first failed test of a file (named `p`) of a tree, which is read in pieces if it is a
-/// package; None if all tests succeed.
+/// The cause of the first failed test of a file in a tree, where it has the name `p`, or None if no
+/// test fails. A package is read in pieces.
 fn fault_in_pieces(alloc: Global, file: &[u8]) -> Result<Option<Cause>, AllocError> {
     let Some(name) = Name::read(alloc, b"p")? else {
         return Err(AllocError);
@@ -85,7 +88,7 @@ fn fault_in_pieces(alloc: Global, file: &[u8]) -> Result<Option<Cause>, AllocErr
     }
 }
 
-/// The dump text of a container, or its first failed test.
+/// The dump text of a container, or the cause of its first failed test.
 fn text_of(alloc: Global, file: &[u8]) -> Result<Text, ReadFault> {
     let mut blocks = Blocks::new(file)?;
     let found = blocks.schema();
@@ -95,9 +98,9 @@ fn text_of(alloc: Global, file: &[u8]) -> Result<Text, ReadFault> {
     }
 }
 
-/// The dump text of the blocks of a file whose root value has this table. It must be the table of
-/// one of the kinds of containers.
+/// The dump text of a file with these blocks, whose root value is an object of the table `which`.
 fn text_of_blocks(alloc: Global, blocks: &mut Blocks<'_>, which: Which) -> Result<Text, ReadFault>
+    // The table is that of the root value of some schema of containers.
     requires { IsTrue (is_some (schema_word which)) }
 {
     let Some(block) = blocks.next()? else {
@@ -109,9 +112,9 @@ fn text_of_blocks(alloc: Global, blocks: &mut Blocks<'_>, which: Which) -> Resul
     Ok(text)
 }
 
-/// Tests the kinds and lengths in the headers of the blocks after the first.
+/// Tests the kinds and the lengths in the headers of all blocks after the first one.
 fn check_framing(blocks: &mut Blocks<'_>) -> Result<(), Cause> {
-    // A bound that is never reached: no file has so many blocks.
+    // The loop has a bound that is never reached, since no file has so many blocks.
     for _ in 0..u64::MAX {
         if blocks.next()?.is_none() {
             break;
@@ -120,8 +123,8 @@ fn check_framing(blocks: &mut Blocks<'_>) -> Result<(), Cause> {
     Ok(())
 }
 
-/// Adds the text of a cause, with a line end, as `apk verify` prints it for its first argument, but
-/// without `ERROR: word 1: `.
+/// Adds the text of the cause to `line`, with a line end, as `apk verify` prints it for its first
+/// argument, but without `ERROR: word 1: ` before it.
 fn add_cause(alloc: Global, cause: Cause, line: &mut Vec<u8>) -> Result<(), AllocError> {
     let mut page = MemorySink::new(alloc);
     if write_error(&Refusal::FileBad { place: 1, cause }, &mut page).is_err() {

@@ -1,12 +1,13 @@
-//! Counts results by their kinds, and computes a digest over their lines. The kinds are the rows of
-//! causes in `docs/commands.md`, "Error lines".
+//! Counts the results of tests by their kinds, and computes a digest over their lines. The kinds
+//! are the causes in `docs/commands.md`, "Error lines", and `sound` for a file without a fault.
 
 use base_core::Cause;
 use row_lines::{add_number, add_word};
 use sha2::{Digest, Sha256};
 use std::alloc::{AllocError, Global};
 
-/// The kind of a result: the file is sound, or the kind of its first failed test.
+/// The kind of a result: the file is sound, or its first failed test has a cause of this kind. The
+/// text of each kind is in `KIND_NAMES`.
 #[derive(Clone, Copy, PartialEq, Eq)]
 pub(crate) enum AnswerKind {
     Sound,
@@ -30,7 +31,7 @@ pub(crate) enum AnswerKind {
 /// How many kinds of results there are.
 const KINDS: usize = 16;
 
-/// The kinds with their texts, in the order in which the counts are printed.
+/// Each kind with the text by which answers name it, in the order in which counts are printed.
 #[rattlefmt::skip]
 const KIND_NAMES: [(AnswerKind, &[u8]); KINDS] = [
     (AnswerKind::Sound, b"sound"),
@@ -51,7 +52,8 @@ const KIND_NAMES: [(AnswerKind, &[u8]); KINDS] = [
     (AnswerKind::TextLine, b"bad line"),
 ];
 
-/// The kind of the result of a file with this failed test, or with none.
+/// The kind of the result for a file whose first failed test has this cause; None if no test
+/// failed.
 pub(crate) fn kind_of(fault: Option<Cause>) -> AnswerKind {
     match fault {
         None => AnswerKind::Sound,
@@ -73,13 +75,13 @@ pub(crate) fn kind_of(fault: Option<Cause>) -> AnswerKind {
     }
 }
 
-/// How many results of each kind there are, and the SHA-256 (FIPS 180-4) over all their lines.
+/// How many results of each kind there are so far, and the SHA-256 (FIPS 180-4) of all their lines.
 #[derive(Drop)]
 pub(crate) struct Tally {
     /// How many results of each kind there are, in the order of `KIND_NAMES`.
     counts: [u64; KINDS],
-    /// The digest of all lines so far.
-    lines: Sha256,
+    /// The SHA-256 over the lines of all results so far.
+    digest: Sha256,
 }
 
 impl Tally {
@@ -87,13 +89,13 @@ impl Tally {
     pub(crate) fn new() -> Tally {
         Tally {
             counts: [0; KINDS],
-            lines: Sha256::new(),
+            digest: Sha256::new(),
         }
     }
 
     /// Counts a result of this kind, and adds its line to the digest.
     pub(crate) fn count(&mut self, kind: AnswerKind, line: &[u8]) {
-        self.lines.update(line);
+        self.digest.update(line);
         for i in 0..KINDS {
             if KIND_NAMES[i].0 == kind {
                 self.counts[i] = self.counts[i].saturating_add(1);
@@ -101,7 +103,8 @@ impl Tally {
         }
     }
 
-    /// Adds each kind that has results, with their number, and then the digest in hexadecimal.
+    /// Adds, for each kind that has results, the kind's text and their number; and then the digest
+    /// in hexadecimal.
     pub(crate) fn add_to(self, alloc: Global, text: &mut Vec<u8>) -> Result<(), AllocError> {
         for i in 0..KINDS {
             if self.counts[i] > 0 {
@@ -112,7 +115,7 @@ impl Tally {
             }
         }
         text.push(b' ')?;
-        for byte in self.lines.finalize() {
+        for byte in self.digest.finalize() {
             let digits = format!(in alloc; "{byte:02x}")?;
             text.extend_from_slice(digits.as_bytes())?;
         }

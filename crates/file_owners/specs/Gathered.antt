@@ -1,4 +1,4 @@
--- Claims, to which listed files are added.
+-- Lists of claims to which the claims of listed files are added.
 -- No document has a rule for this: it serves the contracts of `src/gather.rt`, which adds one file
 -- after the other.
 use Rattle.std.specs.Prelude.{List, [], ◌∷◌, ◌++◌, length}
@@ -6,8 +6,7 @@ use Rattle.db_core.specs.Members.{Listing}
 use Rattle.path_claims.specs.Claims.{PathClaim}
 use Rattle.file_owners.specs.Owners.{claim_of_listing}
 
--- the claims followed by those of some listings; the number of a claim is how many claims are
--- before it
+-- the claims, followed by the claims of the listings; the number of each added claim is how many claims are before it
 abbrev pub claims_with_listings : List PathClaim → List Listing → List PathClaim
 claims_with_listings claims [] = claims
 claims_with_listings claims (l ∷ listings) =

@@ -1,13 +1,13 @@
 -- The definitions of this crate, whose rules are in `docs/commands.md`, "Files that several
 -- packages list".
 
--- passed on: a crate above that names this one need not name these
+-- definitions of other crates, passed on: a crate that imports this module need not import theirs
 pub use Rattle.db_core.specs as db_core
 pub use Rattle.path_claims.specs as path_claims
--- what the contract of `apk` says
+-- modules that the contract of `apk` cites
 pub mod Replaces
 pub mod Owners
--- what only inner contracts and proofs use
+-- modules that only contracts of inner functions and proofs cite
 pub mod Gathered
 pub mod NamedPlaces
 pub mod Questions

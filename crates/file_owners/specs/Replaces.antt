@@ -12,35 +12,35 @@ use Rattle.dep_core.specs.Meets.{meets}
 use Rattle.db_core.specs.adb_schema.Dependencies.{dependency_in}
 use Rattle.base_core.specs.ByteOrder.{precedes}
 
--- the version of a package, as the text in its information
+-- the text of the version in the information of a package
 abbrev pub package_version_text : Plain → List ℕ
 package_version_text pkg = text_in (entry_in (entry_in pkg PACKAGE_INFO) INFO_VERSION)
 
--- whether a package with this name and version meets the dependency; false if there is no
--- dependency or if it is a conflict
+-- whether a package with this name and version meets the dependency, which is that of an entry of `replaces`; false
+-- if there is no dependency, or if it is a conflict
 abbrev pub is_package_met_by_replaces_entry : Option Dependency → List ℕ → List ℕ → Bool
 is_package_met_by_replaces_entry None name version = false
 is_package_met_by_replaces_entry (Some d) name version = not d.conflict && meets d name (Some version)
 
--- whether an entry of `replaces` names the package y: the entry is no conflict, and the name and
--- the version of y meet it
+-- whether the entry of a `replaces` names the package y: the entry is no conflict, and the name and the version of y,
+-- which is valid, meet it
 abbrev pub does_replaces_entry_name_package : Plain → Plain → Bool
 does_replaces_entry_name_package entry y =
     is_version (package_version_text y)
     && is_package_met_by_replaces_entry (dependency_in entry) (package_name y) (package_version_text y)
 
--- whether the package x names the package y: an entry of the `replaces` of x does
+-- whether the package x names the package y: an entry of the field `replaces` of x names y
 unfoldable pub does_first_list_second_in_replaces : Plain → Plain → Bool
 does_first_list_second_in_replaces x y =
     list_any (λ entry. does_replaces_entry_name_package entry y)
     (entries_at INFO_REPLACES (entry_in x PACKAGE_INFO))
 
--- the priority of a package in replacing: 0 if the package gives none
+-- the field `replaces-priority` of a package; 0 if the package has none
 abbrev pub replacing_priority : Plain → ℕ
 replacing_priority pkg = int_in (entry_in pkg PACKAGE_REPLACES_PRIORITY)
 
--- whether the first of two packages that name each other is preferred: it has the greater priority,
--- or at equal priority the name that is the later in byte order
+-- whether x, of two packages that name each other, is preferred: x has the greater priority, or both have the same
+-- priority and the name of x is later in byte order
 unfoldable pub is_preferred_replacer : Plain → Plain → Bool
 is_preferred_replacer x y =
     nat_lt (replacing_priority y) (replacing_priority x)

@@ -1,4 +1,4 @@
-//! The files that the packages of a database list, as claims.
+//! `claims_in_database`: the files that the packages of a database list, as claims.
 //! `docs/formats.md`, "Schemas", tables 4, 5, 7 and 9, says what a database lists;
 //! `docs/commands.md`, "Files that several packages list", that a kept package claims those files.
 
@@ -17,14 +17,14 @@ use path_claims::{Claim, sort_claims};
 use std::alloc::{AllocError, Global};
 use std::marker::PhantomData;
 
-/// Gathers the files that the packages of a database list, as those of members that are all kept:
-/// the claims in the order of their paths, and those of one path in the order of the packages. It
-/// takes a few words for each file, and compares paths as a sort does.
+/// The claims of the packages of a database, as if they were members that are all kept, in byte
+/// order of the paths. Claims of the same path are in the order of the packages.
 ///
 /// # Errors
 ///
-/// Out of memory.
+/// The program is out of memory.
 pub fn claims_in_database<'a>(alloc: Global, db: &Db<'a>) -> Result<Vec<Claim<'a>>, AllocError>
+    // On Ok, these are the claims of the packages as kept members, in byte order of their paths.
     ensures { IfOk result (λ claims. map claim_seen claims.items
         ≡ sorted_by claim_cmp (claims_in (map member_of_kept (packages_of db.now)))) }
 {
@@ -33,7 +33,7 @@ pub fn claims_in_database<'a>(alloc: Global, db: &Db<'a>) -> Result<Vec<Claim<'a
     Ok(sorted)
 }
 
-/// How many files the packages of a database list.
+/// How many files all packages of the database list.
 fn count_listed(db: &Db<'_>) -> usize {
     let mut count: usize = 0;
     for i in 0..db.len() {
@@ -42,22 +42,24 @@ fn count_listed(db: &Db<'_>) -> usize {
     count
 }
 
-/// How many files the package at a place of the database, counted from 0, lists. The mark serves
-/// only the borrow checker, as in `add_package`.
+/// How many files the package with the index `i` in the database lists. The argument `_mark` has no
+/// effect at run time, as in `add_package`.
 fn count_in_package<'a>(db: &Db<'a>, i: usize, _mark: PhantomData<PackageView<'a>>) -> usize
-    // The index is one of the database's packages.
+    // The index is that of one of the database's packages.
     requires { i < length (packages_of db.now) }
 {
     let package = db.package(i);
     count_files(&package.paths())
 }
 
-/// The files of a database as claims, in the order of packages, folders and files.
+/// The claims of the packages of a database, in the order of packages, folders and files.
 fn listed_files<'a>(alloc: Global, db: &Db<'a>) -> Result<Vec<Claim<'a>>, AllocError>
+    // On Ok, these are the claims of the packages as kept members, in the order of the members.
     ensures { IfOk result (λ claims. map claim_seen claims.items
         ≡ claims_with_listings [] (member_listings (map member_of_kept (packages_of db.now)))) }
 {
-    // A list that grows would leave smaller copies of itself in memory.
+    // The memory for all claims is asked for at once: a list that grows would leave smaller copies
+    // of itself in memory.
     let mut claims = Vec::with_capacity(alloc, count_listed(db))?;
     for i in 0..db.len() {
         add_package(&mut claims, db, i, PhantomData)?;
@@ -65,23 +67,24 @@ fn listed_files<'a>(alloc: Global, db: &Db<'a>) -> Result<Vec<Claim<'a>>, AllocE
     Ok(claims)
 }
 
-/// Adds the files of the package at a place of the database, counted from 0, to the claims. The
-/// argument `PhantomData` serves only the borrow checker: it does not know the parts of a view that
-/// is made and lent here unless the signature names the view as an argument.
+/// Adds the claims of the package with the index `i` in the database. The argument `_mark` has no
+/// effect at run time: it names the type of the view of the package, which is made here, for the
+/// borrow checker.
 fn add_package<'a>(
     claims: &mut Vec<Claim<'a>>,
     db: &Db<'a>,
     i: usize,
     _mark: PhantomData<PackageView<'a>>,
 ) -> Result<(), AllocError>
-    // The index is one of the database's packages.
+    // The index is that of one of the database's packages.
     requires { i < length (packages_of db.now) }
+    // On Ok, the claims of this package, as a kept member m, are added at the end.
     ensures { IfOk result (λ _. (m : Member)
         → slice_get (map member_of_kept (packages_of db.now)) i ≡ Some m
         → map claim_seen claims.new.items
         ≡ claims_with_listings (map claim_seen claims.old.items) (listings_of_member i m)) }
 {
-    // Never so, by the contract; `len` says that places are below 2^32.
+    // This never happens, by the contract. The contract of `len` says that indexes are below 2^32.
     if i >= db.len() {
         unreachable!();
     }

@@ -1,10 +1,10 @@
 //! Who owns the files that packages list after a change (apk-package(5), "replaces").
 //!
-//! `owners_of_files` takes the kept and added packages after a change. It returns for each file
-//! that one of them lists whether that package owns it. `claims_in_database` gathers the files that
-//! the packages of a database list. The contracts cite `Replaces` (which package takes over the
-//! files of another) and `Owners` of `specs/`.
-//! The rules are in `docs/commands.md`, "Files that several packages list"; the terms in
+//! `owners_of_files` takes the members, that is, the kept and added packages after a change. It
+//! returns, for each file that a member lists, whether this member owns it. `claims_in_database`
+//! returns the claims of the packages of a database, that is, their entries for files. The
+//! contracts cite `Replaces` (which package takes over the files of another) and `Owners` of
+//! `specs/`. The rules are in `docs/commands.md`, "Files that several packages list"; the terms in
 //! `docs/names.md`, "The installed database and a change of it".
 #![tactic(auto)]
 

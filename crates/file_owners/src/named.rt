@@ -1,4 +1,4 @@
-//! Which members the `replaces` of each member names.
+//! `places_of_each`: for each member, which members its field `replaces` names.
 //! The rule is in `docs/commands.md`, "Files that several packages list": "One package *names*
 //! another where an entry of its `replaces` that is no conflict is met by the other's name and
 //! version." Since no two members have one name, an entry names one at most.
@@ -26,18 +26,21 @@ use db_core::{Members, PackageView, PkgInfo};
 use path_claims::objects_field;
 use std::alloc::{AllocError, Global};
 
-/// The field `replaces` of an info.
+/// The number of the field `replaces` in the information of a package.
 const REPLACES: usize = 16;
 
-/// For each member, in its order, the places of those that it names, in rising order. Each entry of
-/// `replaces` is read once, and a version that entries share is compared once for each member.
+/// For each member, in order, the indexes of the members that its `replaces` names, in rising
+/// order. Each entry of `replaces` is read once, and a version that entries share is compared once
+/// for each member and operator.
 pub(crate) fn places_of_each(
     alloc: Global,
     members: &Members<'_>,
 ) -> Result<Vec<Vec<u32>>, AllocError>
+    // On Ok, there is one list for each member, with the indexes of the members that it names.
     ensures { IfOk result (λ named.
         ArePlacesNamedByEachMember (members_of members.now) (map (λ v. v.items) named.items)) }
 {
+    // A law that the proof needs; it computes nothing.
     members.packages_are_sound();
     let mut named = Vec::with_capacity(alloc, members.len())?;
     for i in 0..members.len() {
@@ -47,16 +50,17 @@ pub(crate) fn places_of_each(
     Ok(named)
 }
 
-/// The places of the members that the entries of a package's `replaces` name, in rising order. A
-/// place may be repeated. A member is a package that is installed after the change.
+/// The indexes of the members that the entries of the `replaces` of `pkg` name, in rising order. An
+/// index may be repeated. A member is a package that is installed after the change.
 fn places_named(
     alloc: Global,
     members: &Members<'_>,
     pkg: &PackageView<'_>,
 ) -> Result<Vec<u32>, AllocError>
-    // The entries obey the rules of dependencies.
+    // The entries of `replaces` obey the rules of dependencies.
     requires { Each IsSoundDependency (entries_in
         (entry_in (entry_in (package_value pkg.now) PACKAGE_INFO) INFO_REPLACES)) }
+    // On Ok, these are the indexes of the members that the package names.
     ensures { IfOk result (λ places.
         ArePlacesOfNamedMembers (members_of members.now) (package_value pkg.now) places.items) }
 {
@@ -66,12 +70,12 @@ fn places_named(
     Ok(places)
 }
 
-/// The entries of a package's `replaces`.
+/// The entries of the field `replaces` in the information of a package.
 fn replaced_entries<'a>(info: &PkgInfo<'a>) -> Arr<'a>
-    // Each word of the result has a plain value of its kind.
+    // Each word of the result leads to a value with the shape of a dependency.
     ensures sound { are_all_sound (payload_of info.now.adb) (Kinds.Obj Tables.Dep)
         (array_entries result) ≡ true }
-    // The values of these words are the entries of the field.
+    // The plain values of these words are the entries of the field.
     ensures value { array_at (payload_of info.now.adb) (Kinds.Obj Tables.Dep)
         (array_entries result) ≡ entry_in (info_value info.now) INFO_REPLACES }
 {
@@ -84,9 +88,9 @@ fn replaced_entries<'a>(info: &PkgInfo<'a>) -> Arr<'a>
     )
 }
 
-/// Whether a place is among places in rising order, by binary search.
+/// Whether the index `place` is among the indexes `places`, by a binary search.
 pub(crate) fn is_among(places: &[u32], place: u32) -> bool
-    // The places are in rising order.
+    // The indexes are in rising order.
     requires { IsSorted nat_cmp places.now }
     ensures { result ≡ list_any (λ p. p == place) places.now }
 {

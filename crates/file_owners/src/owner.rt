@@ -28,23 +28,25 @@ use path_claims::{Contest, Owners, owners_of};
 use std::alloc::{AllocError, Global};
 use version_core::Version;
 
-/// Members, with the places of the members that each one names.
+/// Members, with the indexes of the members that each of them names. It is the `Contest` by which
+/// `owners_of` finds the owners of paths.
 #[derive(Drop)]
 struct Claimants<'m, 'a> {
-    /// The packages after the change.
+    /// The members: the packages that are installed after the change.
     members: &'m Members<'a>,
-    /// For each member the places of those that it names, in rising order.
+    /// For each member, the indexes of the members that its `replaces` names, in rising order.
     named: Vec<Vec<u32>>,
-    // These are the places of the members that each names.
+    // `named` has, for each member, the indexes of the members that it names.
     ghost each: { ArePlacesNamedByEachMember (members_of members.now) (map
         (λ v. v.items) named.items) },
 }
 
 impl<'m, 'a> Contest for Claimants<'m, 'a> {
+    // The test as a definition for contracts: whether one member takes over the files of another.
     ghost beats = { λ claimants. member_beats (members_of claimants.members.now) };
 
-    /// Whether the member at the first place beats that at the second. A place after the last
-    /// member neither beats nor is beaten.
+    /// Whether the member with the index `one` beats the member with the index `other`. False if
+    /// there is no member with one of these indexes.
     fn beats(&self, one: u32, other: u32) -> bool {
         if one as usize >= self.members.len() {
             return false;
@@ -56,18 +58,20 @@ impl<'m, 'a> Contest for Claimants<'m, 'a> {
     }
 }
 
-/// Whether the member at the first place takes over the files of that at the second; `named` has
-/// the places that each member names.
+/// Whether the member with the index `one` takes over the files of the member with the index
+/// `other`. `named` has, for each member, the indexes of the members that it names.
 fn member_beats(members: &Members<'_>, named: &[Vec<u32>], one: u32, other: u32) -> bool
-    // The first place is one of the members,
+    // `one` is the index of a member.
     requires one { one < length (members_of members.now) }
-    // and so is the second.
+    // `other` is the index of a member.
     requires other { other < length (members_of members.now) }
-    // `named` has, for each member, the places of the members that it names.
+    // `named` has, for each member, the indexes of the members that it names.
     requires each { ArePlacesNamedByEachMember (members_of members.now) (map
         (λ v. v.items) named.now) }
     ensures { result ≡ member_beats (members_of members.now) one other }
 {
+    // Only a package that names the other one can take over its files. If both name each other, the
+    // preferred one does.
     if !is_among(&named[one as usize], other) {
         return false;
     }
@@ -77,24 +81,25 @@ fn member_beats(members: &Members<'_>, named: &[Vec<u32>], one: u32, other: u32)
     is_preferred(members.view(one as usize), members.view(other as usize))
 }
 
-/// Finds who owns the files that members list. It takes a few words for each file and each entry of
-/// `replaces`, reads each entry once, and compares paths as a sort does.
+/// Finds the owners of the files that members list.
 ///
 /// # Errors
 ///
-/// Out of memory.
+/// The program is out of memory.
 pub fn owners_of_files<'a>(alloc: Global, members: &Members<'a>) -> Result<Owners<'a>, AllocError>
-    // The files in the order of their paths, each with the places at which it is listed.
+    // On Ok, `claims` has the claims of all members, in byte order of their paths.
     ensures claims { IfOk result (λ found. map claim_seen found.claims.items
         ≡ sorted_by claim_cmp (claims_in (members_of members.now))) }
-    // For each of these the place of the member that owns its path, or none.
+    // On Ok, `owners` has, for each of these claims, the index of the member that owns its path, or
+    // None.
     ensures owners { IfOk result (λ found. found.owners.items
         ≡ map (λ c. owner_of_path (members_of members.now) c.path)
         (map claim_seen found.claims.items)) }
-    // For each file, in the order of members, folders and files, whether its member owns it.
+    // On Ok, `owned` says of each listed file, in the order of members, folders and files, whether
+    // its member owns it.
     ensures owned { IfOk result (λ found. found.owned.items
         ≡ owned_flags_of (members_of members.now)) }
-    // The first path in byte order that nobody owns, with its rivals.
+    // On Ok, `contested` is the first path in byte order that no member owns, with its rivals.
     ensures contested { IfOk result (λ found. option_map contested_seen found.contested
         ≡ first_contested_path_of_members (members_of members.now)) }
 {
@@ -103,7 +108,8 @@ pub fn owners_of_files<'a>(alloc: Global, members: &Members<'a>) -> Result<Owner
     owners_of(alloc, &Claimants { members, named }, claims)
 }
 
-/// Whether an entry of a `replaces` is no conflict, and is met by a name and a version.
+/// Whether the entry `dep` of a `replaces` is no conflict, and a package with this name and version
+/// meets it.
 fn is_replaced(dep: &DepView<'_>, name: &[u8], version: &Version<'_>) -> bool
     // The entry obeys the rules of a dependency.
     requires { IsSoundDependency (dependency_value dep.now) }
@@ -117,13 +123,13 @@ fn is_replaced(dep: &DepView<'_>, name: &[u8], version: &Version<'_>) -> bool
     }
 }
 
-/// Whether an entry of `replaces` names another package: the entry is no conflict, and the name and
-/// the version of that package meet it. Name and version are not validated, since the packages are
-/// from sound containers.
+/// Whether the entry of a `replaces` names the package `pkg`: the entry is no conflict, and the
+/// name and the version of `pkg` meet it. They are not validated, since packages are from sound
+/// containers.
 pub(crate) fn does_replaces_entry_name_package(entry: &DepView<'_>, pkg: &PackageView<'_>) -> bool
     // The entry obeys the rules of a dependency.
     requires entry { IsSoundDependency (dependency_value entry.now) }
-    // The package's version is valid.
+    // The version of `pkg` is valid.
     requires version { is_version (package_version_text (package_value pkg.now)) ≡ true }
     ensures { result ≡ does_replaces_entry_name_package (dependency_value entry.now)
         (package_value pkg.now) }
@@ -133,8 +139,8 @@ pub(crate) fn does_replaces_entry_name_package(entry: &DepView<'_>, pkg: &Packag
     is_replaced(entry, info.name(), &version)
 }
 
-/// Whether the first of two packages that name each other is preferred: it has the greater priority
-/// in replacing, or at equal priority the later name.
+/// Whether `one`, of two packages that name each other, is preferred: its field `replaces-priority`
+/// is greater, or it is equal and the name of `one` is later in byte order.
 #[tactic(auto, unfolding(crate::specs::Replaces::is_preferred_replacer))]
 pub(crate) fn is_preferred<'a, 'b>(one: &PackageView<'a>, other: &PackageView<'b>) -> bool
     ensures { result ≡ is_preferred_replacer (package_value one.now) (package_value other.now) }
@@ -145,14 +151,15 @@ pub(crate) fn is_preferred<'a, 'b>(one: &PackageView<'a>, other: &PackageView<'b
     other.info().name().cmp(&one.info().name()).is_lt()
 }
 
-/// Of two packages at most one takes over the files of the other.
+/// A law: of two packages at most one takes over the files of the other.
 pub fn no_two_packages_take_over_from_each_other()
     ensures { (x y : Plain) → takes_over x y ≡ true → takes_over y x ≡ false }
 {}
 
-/// No two members own files of one path: so the flags that say who owns what may be written into a
-/// database.
+/// A law: no two members own files of the same path. So the flags that say whether a member owns
+/// its files can be stored in a database.
 pub fn no_path_is_owned_by_two_members()
+    // Of the listings with the same path, the flags mark at most one member's.
     ensures { (members : List Member)
         → HaveAtMostOneOwner (owned_listings (member_listings members) (owned_flags_of members)) }
 {}

@@ -1,5 +1,6 @@
-//! The questions whether entries of `replaces` name a member. Many entries may share the text of a
-//! version, so entries that ask the same of one member are answered once.
+//! `places_in`: which members the entries of a `replaces` name. Each entry asks a question: does it
+//! name the member that has its name? Many entries may share the text of a version, so equal
+//! questions are answered once.
 //! `docs/commands.md`, "Files that several packages list", says when an entry names a package. To
 //! answer a question once is this crate's own choice; it only saves time.
 
@@ -28,24 +29,25 @@ use path_claims::field_word;
 use std::alloc::{AllocError, Global};
 use std::cmp::Ordering;
 
-/// The field of a dependency with its version.
+/// The number of the field `version` in a dependency.
 const VERSION: usize = 1;
 
-/// What an entry asks: whether it names the member that has its name.
+/// What an entry of `replaces` asks: whether it names the member that has the entry's name.
 #[derive(Clone, Copy)]
 pub(crate) struct Question {
-    /// The member's place, counted from 0.
+    /// The index of the member with the entry's name.
     pub(crate) place: u32,
-    /// The word of the required version, in the payload of the entry.
+    /// The word (32-bit reference) of the entry's version, in the payload of the entry.
     pub(crate) version: u32,
-    /// How that version is compared.
+    /// The match bits of the entry: which results of a comparison with this version it accepts.
     pub(crate) matching: u64,
-    /// The word of the entry.
+    /// The word (32-bit reference) of the entry itself.
     pub(crate) word: Val,
 }
 
 impl Question {
-    /// An order in which equal questions are adjacent.
+    /// An order of questions, by member, word of the version, and match bits. Equal questions are
+    /// adjacent in it.
     fn compare(&self, other: &Question) -> Ordering {
         let by_place = self.place.cmp(&other.place);
         let by_version = self.version.cmp(&other.version);
@@ -53,7 +55,7 @@ impl Question {
         by_place.then(by_version.then(by_matching))
     }
 
-    /// Whether two questions are the same. Only words are compared, no bytes of texts.
+    /// Whether two questions are the same. Words of versions are compared, and not the texts.
     fn is_same(&self, other: &Question) -> bool
         ensures { result ≡ true → AreSameQuestion self.now other.now }
     {
@@ -63,48 +65,51 @@ impl Question {
     }
 }
 
-/// The places of the members that the entries of a `replaces` name. It takes time in proportion to
-/// k log k for k entries; a text that several of them share is compared once for each member and
-/// operator.
+/// The indexes of the members that the entries of a `replaces` name. The entries are words in the
+/// container `adb`. A text of a version that several entries share is compared once for each member
+/// and operator.
 pub(crate) fn places_in<'a>(
     alloc: Global,
     members: &Members<'_>,
     adb: Adb<'a>,
     entries: Arr<'a>,
 ) -> Result<Vec<u32>, AllocError>
-    // Each word has a plain value of its kind.
+    // Each word of an entry leads to a value with the shape of a dependency.
     requires sound { are_all_sound (payload_of adb) (Kinds.Obj Tables.Dep) (array_entries entries)
         ≡ true }
     // The entries obey the rules of dependencies.
     requires texts { Each IsSoundDependency (entries_in
         (array_at (payload_of adb) (Kinds.Obj Tables.Dep) (array_entries entries))) }
+    // On Ok, the index y of a member m is in the result exactly if one of the entries names m.
     ensures { IfOk result (λ places. (y : ℕ) (m : Member)
         → slice_get (members_of members.now) y ≡ Some m
         → list_any (λ place. place == y) places.items
         ≡ list_any (λ entry. does_replaces_entry_name_package entry m.pkg) (list_of (entries_in
         (array_at (payload_of adb.entry) (Kinds.Obj Tables.Dep) (array_entries entries.entry))))) }
 {
+    // Sorting makes equal questions adjacent, so that each is answered once.
     let mut questions = questions_of(alloc, members, adb, entries)?;
     questions.sort_by(|one, other| one.compare(other))?;
     let places = places_asked(alloc, members, adb, &questions)?;
     Ok(places)
 }
 
-/// The questions of entries, in their order; an entry asks none if no member has its name.
+/// The questions of the entries, in the order of the entries. An entry asks none if no member has
+/// its name.
 fn questions_of<'a>(
     alloc: Global,
     members: &Members<'_>,
     adb: Adb<'a>,
     entries: Arr<'a>,
 ) -> Result<Vec<Question>, AllocError>
-    // Each word has a plain value of its kind.
+    // Each word of an entry leads to a value with the shape of a dependency.
     requires sound { are_all_sound (payload_of adb) (Kinds.Obj Tables.Dep) (array_entries entries)
         ≡ true }
     // The entries obey the rules of dependencies.
     requires texts { Each IsSoundDependency (entries_in
         (array_at (payload_of adb) (Kinds.Obj Tables.Dep) (array_entries entries))) }
-    // For a member, the answer to one of the questions is yes exactly if one of the entries names
-    // it.
+    // For each member, one of the questions about it has the answer yes exactly if one of the
+    // entries names the member.
     ensures asked { IfOk result (λ questions. (y : ℕ) (m : Member)
         → slice_get (members_of members.now) y ≡ Some m
         → list_any (question_names_package (payload_of adb.entry) y m.pkg) questions.items
@@ -124,8 +129,9 @@ fn questions_of<'a>(
     Ok(questions)
 }
 
-/// Adds a question to others, if there is one.
+/// Adds the question at the end of the list, if there is one.
 fn add_question(questions: &mut Vec<Question>, question: Option<Question>) -> Result<(), AllocError>
+    // On Ok, the question, if there is one, is added at the end.
     ensures { IfOk result (λ _. questions.new.items
         ≡ with_question questions.old.items question) }
 {
@@ -135,13 +141,14 @@ fn add_question(questions: &mut Vec<Question>, question: Option<Question>) -> Re
     Ok(())
 }
 
-/// The question of an entry, if a member has its name.
+/// The question of the entry whose word is `entry`, if a member has the entry's name.
 fn question_of(members: &Members<'_>, adb: Adb<'_>, entry: Val) -> Option<Question>
-    // The word has a plain value of its kind.
+    // The word leads to a value with the shape of a dependency.
     requires sound { is_sound (payload_of adb) (Kinds.Obj Tables.Dep) entry ≡ true }
-    // The entries obey the rules of dependencies.
+    // The entry obeys the rules of a dependency.
     requires texts { IsSoundDependency (value_at (payload_of adb) (Kinds.Obj Tables.Dep) entry) }
-    // For a member, the answer to the question is yes exactly if the entry names it.
+    // For each member, there is a question about it whose answer is yes exactly if the entry names
+    // the member.
     ensures asked { (y : ℕ) (m : Member) → slice_get (members_of members.now) y ≡ Some m
         → question_names_if_any (payload_of adb.entry) y m.pkg result
         ≡ does_replaces_entry_name_package (value_at (payload_of adb.entry)
@@ -162,8 +169,8 @@ fn question_of(members: &Members<'_>, adb: Adb<'_>, entry: Val) -> Option<Questi
     }
 }
 
-/// The places of the members for which the answer is yes, in the order of the questions. Adjacent
-/// equal questions are answered once.
+/// The indexes of the members of those questions whose answer is yes, in the order of the
+/// questions. Adjacent equal questions are answered once.
 fn places_asked(
     alloc: Global,
     members: &Members<'_>,
@@ -172,6 +179,8 @@ fn places_asked(
 ) -> Result<Vec<u32>, AllocError>
     // Each question is about one of the members.
     requires { All (IsQuestionIn (members_of members.now) (payload_of adb)) questions.now }
+    // On Ok, the index y of a member m is in the result exactly if one of the questions is about m
+    // and has the answer yes.
     ensures { IfOk result (λ places. (y : ℕ) (m : Member)
         → slice_get (members_of members.now) y ≡ Some m
         → list_any (λ place. place == y) places.items
@@ -184,8 +193,9 @@ fn places_asked(
     Ok(places)
 }
 
-/// Adds a place to a list of places, if there is one.
+/// Adds the index `place` of a member at the end of the list, if there is one.
 fn add_place(places: &mut Vec<u32>, place: Option<u32>) -> Result<(), AllocError>
+    // On Ok, an index y is in the new list exactly if it was in the old one, or is the given one.
     ensures { IfOk result (λ _. (y : ℕ) → list_any (λ p. p == y) places.new.items
         ≡ (list_any (λ p. p == y) places.old.items || is_found_place y place)) }
 {
@@ -195,13 +205,16 @@ fn add_place(places: &mut Vec<u32>, place: Option<u32>) -> Result<(), AllocError
     Ok(())
 }
 
-/// The place of the question's member, if the answer is yes and the question before is another one.
+/// The index of the member of the question with the index `i`, if the answer is yes, and the
+/// question before it is not the same.
 fn place_asked(members: &Members<'_>, adb: Adb<'_>, questions: &[Question], i: usize) -> Option<u32>
     // The index is that of one of the questions.
     requires within { i < length questions.now }
     // Each question is about one of the members.
     requires questions { All (IsQuestionIn (members_of members.now) (payload_of adb))
         questions.now }
+    // The index y of a member m is that of an earlier question with the answer yes, or the result,
+    // exactly if one of the questions up to this one is about m and has the answer yes.
     ensures { (y : ℕ) (m : Member) → slice_get (members_of members.now) y ≡ Some m
         → (list_any (question_names_package (payload_of adb.entry) y m.pkg) (take i questions.now)
         || is_found_place y result)
@@ -214,12 +227,13 @@ fn place_asked(members: &Members<'_>, adb: Adb<'_>, questions: &[Question], i: u
     place_if_named(members, adb, &questions[i])
 }
 
-/// Whether a question is the same as the one before it.
+/// Whether the question with the index `i` is the same as the one before it.
 fn repeats_the_one_before(questions: &[Question], i: usize) -> bool
-    // The index is that of an element.
+    // The index is that of one of the questions.
     requires { i < length questions.now }
+    // The first question is not a repeated one.
     ensures first { result ≡ true → 0 < i }
-    // If the result is true, the question and the one before it are the same.
+    // If the result is true, this question and the one before it are the same.
     ensures same { result ≡ true → (one other : AskedQuestion)
         → slice_get questions.now (i - 1) ≡ Some one → slice_get questions.now i ≡ Some other
         → AreSameQuestion one other }
@@ -230,15 +244,18 @@ fn repeats_the_one_before(questions: &[Question], i: usize) -> bool
     questions[i - 1].is_same(&questions[i])
 }
 
-/// The place of the member that a question is about, if the question's entry of `replaces` names
-/// the package of this member. The entry is a value in `adb`.
+/// The index of the member that the question is about, if the question's entry of `replaces` names
+/// the package of this member. The entry is a value in the container `adb`.
 fn place_if_named(members: &Members<'_>, adb: Adb<'_>, question: &Question) -> Option<u32>
     // The question is about one of the members.
     requires { IsQuestionIn (members_of members.now) (payload_of adb) question.now }
+    // The result is the index y of a member m exactly if the question is about m and its entry
+    // names the package of m.
     ensures { (y : ℕ) (m : Member) → slice_get (members_of members.now) y ≡ Some m
         → is_found_place y result
         ≡ question_names_package (payload_of adb.entry) y m.pkg question.now }
 {
+    // A law that the proof needs; it computes nothing.
     members.packages_are_sound();
     let place = question.place;
     let entry = DepView::of(adb, question.word);

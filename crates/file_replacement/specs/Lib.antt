@@ -1,5 +1,5 @@
 -- The definitions of this crate. Each file names the document with its rule.
--- what the contract of `replace` says, beside definitions of `journal_core`
+-- the module that the contract of `replace` cites, beside definitions of `journal_core`
 pub mod Lengths
--- what the contracts of `NewFile` say
+-- the module that the contracts of `NewFile` cite
 pub mod Pieces

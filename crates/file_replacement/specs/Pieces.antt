@@ -8,24 +8,27 @@ use Rattle.base_core.specs.Tree.{TreeState, File}
 use Rattle.journal_core.specs.Filling.{MayHaveChangedOnly, HasChangedOnlyByNewFile, HasOneMoreName}
 use Rattle.journal_core.specs.Kept.{KeepsCrashMapsExcept}
 
--- Since the history was `first`, only the file of the scratch name has changed. An unobservable history
--- is still unobservable.
+-- Since the tree's history was `first`, only the file under the scratch name has changed; the history is now `now`.
+-- A tree that was not observable is still not observable.
 pub record OnlyScratchHasChanged (scratch : List ℕ) (first now : List TreeState) : Type 0 where
-  -- at each moment only this file may have changed
+  -- at each moment only the file under the scratch name may have changed
   pub moments : IfObservable first (λ v. Since (MayHaveChangedOnly scratch v) first now)
-  -- at each moment a crash leaves every other name as it might have left it before
+  -- at each moment a crash leaves every other name as a crash at the start might have left it
   pub others : IfObservable first (λ v. Since (KeepsCrashMapsExcept (scratch ∷ []) v) first now)
+  -- a tree that was not observable is still not observable: its history is empty
   pub unobservable : first ≡ [] → now ≡ []
 
 -- a file with these bytes that is not synced
 abbrev pub unsynced_file : List ℕ → File
 unsynced_file bytes = record { bytes = bytes; synced = false }
 
--- since the history was `first`, a new file was made under the scratch name, and has these bytes so far
+-- since the tree's history was `first`, a new file was made under the scratch name; it has these bytes so far, and
+-- is not synced
 pub record IsNewFile (scratch bytes : List ℕ) (first now : List TreeState) : Type 0 where
+  -- only the file under the scratch name has changed
   pub only : OnlyScratchHasChanged scratch first now
-  -- the file is there, and under no other name
+  -- the scratch name leads to the new file, and no other name leads to it in any map that a crash may leave
   pub file : IfObservable first
       (λ v. HoldsNow now (HasChangedOnlyByNewFile scratch (unsynced_file bytes) v))
-  -- the other names lead to the same files as before
+  -- the scratch name leads to a file, and the other names lead to the same files as at the start
   pub names : IfObservable first (λ v. HoldsNow now (HasOneMoreName scratch v))

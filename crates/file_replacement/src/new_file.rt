@@ -1,4 +1,5 @@
-//! A new file that is made piece by piece, and then replaces another.
+//! `NewFile`: a new file that is made piece by piece under a scratch name, and then replaces the
+//! file of another name. `replace`, and crates that write outputs piece by piece, use it.
 //! The rules are in `docs/crash-safety.md`, "A whole file replaced", the five steps of
 //! `replace`.
 ghost use Rattle.std.specs.Prelude.{◌≡◌, ◌⊎◌, ◌≢◌, ◌≤◌, ◌++◌, [], ◌∷◌, ℕ, List, Some, length, IfOk, OnOk, IsErrOf};
@@ -35,11 +36,12 @@ impl<'a> Model for NewFile<'a> {
     ghost use Rattle.std.specs.Prelude.{◌≡◌, ℕ, List};
     ghost use Rattle.journal_core.specs.Replacing.{scratch_name_of};
 
-    // The name of the file that is replaced.
+    // Contracts see a new file as the name of the file that it replaces.
     ghost Value = { List ℕ };
 
     ghost view = { λ file. file.name.now };
 
+    // The scratch name is that name, followed by `.apk-tmp`.
     ghost invariant = { λ file. file.scratch ≡ scratch_name_of file.name.now };
 }
 
@@ -48,36 +50,35 @@ impl<'a> NewFile<'a> {
     ///
     /// # Errors
     ///
-    /// `Disk` if a call of the tree failed. If the tree can never take the file it fails before
-    /// anything is written. `Memory` before any call of the tree.
+    /// `Disk` if a call on the tree failed, or if the tree can never accept the file under the
+    /// name; in the latter case nothing is written. `Memory` before any call on the tree.
     pub fn begin<T: Tree>(
         alloc: Global,
         tree: &mut T,
         name: &'a Name,
     ) -> Result<NewFile<'a>, TreeFault>
-        // The scratch name, which is longer, has to be a name too.
+        // The scratch name, which is eight bytes longer, is not too long for a name.
         requires { length name.now ≤ most_replaceable_name_bytes }
-        // The new file is to replace the file of this name.
+        // On Ok, the new file is to replace the file of this name.
         ensures name { IfOk result (λ file. file ≡ name.now) }
-        // The file is made, and has no bytes.
+        // On Ok, a new file was made under the scratch name, and has no bytes.
         ensures begun { OnOk result (IsNewFile (scratch_name_of name.now) [] (T.history tree.old)
             (T.history tree.new)) }
-        // Whatever it returns, only the file under the scratch name has changed.
+        // Whatever is returned, only the file under the scratch name has changed.
         ensures only { OnlyScratchHasChanged (scratch_name_of name.now) (T.history tree.old)
             (T.history tree.new) }
 
-        // The name is asked for first: either nothing has happened, or the tree accepts that a file
-        // is renamed to it from the scratch name. Ok is returned only if it does.
+        // The tree is asked for the name first: either nothing has changed, or the tree has
+        // accepted that the file under the scratch name is renamed to this name.
         ensures asked { (T.history tree.new ≡ T.history tree.old)
             ⊎ T.accepts (Some (scratch_name_of name.now)) name.now }
-        // Ok is returned only if the tree accepts the target.
+        // Ok is returned only if the tree has accepted this rename.
         ensures accepted { OnOk result (T.accepts (Some (scratch_name_of name.now)) name.now) }
 
-        // If there is no memory, no call of the tree was made.
+        // If the program is out of memory, no call on the tree was made.
         ensures memory { IsErrOf result TreeFault.Memory → tree.new ≡ tree.old }
 
-        // No count of faults falls; a fault of the tree is returned only if that count rose, and Ok
-        // only if it did not.
+        // No count of the tree's faults falls.
         ensures goes_on { CountsOnlyRise (T.counts tree.old) (T.counts tree.new) }
         // An I/O error is returned only if a fault was counted.
         ensures disk { IsErrOf result TreeFault.Disk
@@ -85,7 +86,8 @@ impl<'a> NewFile<'a> {
         // Ok is returned only if no fault was counted.
         ensures kept { OnOk result (CountsNoNewFault (T.counts tree.old) (T.counts tree.new)) }
 
-        // If the scratch name may have a file, no call is a misuse.
+        // No call is a misuse, if the scratch name can be added without one name being a folder of
+        // another.
         ensures proper { IfObservable (T.history tree.old) (λ v.
             CanAddName (scratch_name_of name.now) v
             → (T.counts tree.new).misuses ≡ (T.counts tree.old).misuses) }
@@ -97,19 +99,20 @@ impl<'a> NewFile<'a> {
 
     /// Adds a piece at the end of the file.
     pub fn append<T: Tree>(&self, tree: &mut T, piece: &[u8]) -> Result<(), Disk>
-        // `first` is the tree's history when the file was begun, and `bytes` the pieces so far.
+        // On Ok, the piece is added to the bytes so far (`bytes`). `first` is the tree's history
+        // when the file was begun.
         ensures appended { (bytes : List ℕ) (first : List TreeState)
             → IsNewFile (scratch_name_of self.now) bytes first (T.history tree.old)
             → OnOk result (IsNewFile (scratch_name_of self.now) (bytes ++ piece.now) first
             (T.history tree.new)) }
-        // Whatever it returns, only the file under the scratch name has changed.
+        // Whatever is returned, only the file under the scratch name has changed.
         ensures only { (bytes : List ℕ) (first : List TreeState)
             → IsNewFile (scratch_name_of self.now) bytes first (T.history tree.old)
             → OnlyScratchHasChanged (scratch_name_of self.now) first (T.history tree.new) }
         // How the tree's counts explain the result.
         ensures counts { IsResultExplainedByCounts (T.counts tree.old) (T.counts tree.new) result }
 
-        // The call is no misuse.
+        // The call is no misuse, if the file was begun.
         ensures proper { (bytes : List ℕ) (first : List TreeState)
             → IsNewFile (scratch_name_of self.now) bytes first (T.history tree.old)
             → IfObservable first (λ v.
@@ -118,21 +121,25 @@ impl<'a> NewFile<'a> {
         append(tree, &self.scratch, piece)
     }
 
-    /// Syncs the file and moves it to its name: only a synced file may be moved there.
+    /// Syncs the new file and moves it from its scratch name to the name of the file that it
+    /// replaces.
     pub fn finish<T: Tree>(&self, tree: &mut T) -> Result<(), Disk>
+        // The name is not that of the intent.
         requires { self.now ≢ intent_name }
-        // `first` is the tree's history when the file was begun, and `bytes` are all its bytes.
+        // At each moment since the file was begun (`first` is the tree's history then), each crash
+        // leaves an old state or the new one, whose file has all the `bytes`.
         ensures moments { (bytes : List ℕ) (first : List TreeState)
             → IsNewFile (scratch_name_of self.now) bytes first (T.history tree.old)
             → IfObservable first (λ v. Since (IsNewFileReadyToMove
             (scratch_name_of self.now) self.now bytes v)
             first (T.history tree.new)) }
-        // Once it has returned Ok, the new file has its name, and no crash undoes this.
+        // Once Ok is returned, the new file has its name, and no crash undoes this.
         ensures moved { OnOk result ((bytes : List ℕ) (first : List TreeState)
             → IsNewFile (scratch_name_of self.now) bytes first (T.history tree.old)
             → IfObservable first (λ v. HoldsNow (T.history tree.new)
             (IsNewFileDurablyMoved (scratch_name_of self.now) self.now bytes v))) }
-        // At each moment a crash leaves every other name as it might have left it before.
+        // At each moment a crash leaves every name except these two as a crash at the start might
+        // have left it.
         ensures others { (bytes : List ℕ) (first : List TreeState)
             → IsNewFile (scratch_name_of self.now) bytes first (T.history tree.old)
             → IfObservable first (λ v. Since
@@ -141,7 +148,8 @@ impl<'a> NewFile<'a> {
         // How the tree's counts explain the result.
         ensures counts { IsResultExplainedByCounts (T.counts tree.old) (T.counts tree.new) result }
 
-        // If each of the names may have a file, no call is a misuse.
+        // No call is a misuse, if the two names can be added without one name being a folder of
+        // another.
         ensures proper { (bytes : List ℕ) (first : List TreeState)
             → IsNewFile (scratch_name_of self.now) bytes first (T.history tree.old)
             → IfObservable first (λ v. CanAddBothNames (scratch_name_of self.now) self.now v
@@ -157,6 +165,7 @@ impl<'a> NewFile<'a> {
 /// The scratch name of an output, under which the new file is made: the output's own name and
 /// `.apk-tmp`.
 fn scratch_name(alloc: Global, name: &Name) -> Result<Name, AllocError>
+    // The scratch name is not too long for a name.
     requires { length name.now ≤ most_replaceable_name_bytes }
     ensures { IfOk result (λ scratch. scratch ≡ scratch_name_of name.now) }
 {
@@ -165,22 +174,23 @@ fn scratch_name(alloc: Global, name: &Name) -> Result<Name, AllocError>
     Name::of(alloc, &bytes)
 }
 
-/// Asks for the name, and then makes an empty file under the scratch name. The clauses are those of
-/// `begin`, for any scratch name.
+/// Asks the tree whether a file can be renamed from the scratch name to the name, and then makes an
+/// empty file under the scratch name. The clauses are those of `begin`, for any scratch name.
 fn begin_scratch<T: Tree>(tree: &mut T, scratch: &Name, name: &Name) -> Result<(), Disk>
-    // Once it has returned Ok, an empty new file is under the name.
+    // Once Ok is returned, an empty new file is under the scratch name.
     ensures begun { OnOk result (IsNewFile scratch.now [] (T.history tree.old)
         (T.history tree.new)) }
-    // Whatever it returns, only the file under the scratch name has changed.
+    // Whatever is returned, only the file under the scratch name has changed.
     ensures only { OnlyScratchHasChanged scratch.now (T.history tree.old) (T.history tree.new) }
-    // Either nothing has happened, or the tree accepts the target.
+    // Either nothing has changed, or the tree has accepted the rename.
     ensures asked { (T.history tree.new ≡ T.history tree.old)
         ⊎ T.accepts (Some scratch.now) name.now }
-    // Ok is returned only if the tree accepts the target.
+    // Ok is returned only if the tree has accepted the rename.
     ensures accepted { OnOk result (T.accepts (Some scratch.now) name.now) }
     // How the tree's counts explain the result.
     ensures counts { IsResultExplainedByCounts (T.counts tree.old) (T.counts tree.new) result }
-    // If the scratch name may have a file, no call is a misuse.
+    // No call is a misuse, if the scratch name can be added without one name being a folder of
+    // another.
     ensures proper { IfObservable (T.history tree.old) (λ v. CanAddName scratch.now v
         → (T.counts tree.new).misuses ≡ (T.counts tree.old).misuses) }
 {
@@ -190,16 +200,16 @@ fn begin_scratch<T: Tree>(tree: &mut T, scratch: &Name, name: &Name) -> Result<(
     create_anew(tree, scratch)
 }
 
-/// Makes an empty file under a name on which no state depends, replacing any file there.
+/// Makes an empty file under `name`, which is a scratch name. A file that was there is removed.
 fn create_anew<T: Tree>(tree: &mut T, name: &Name) -> Result<(), Disk>
-    // Once it has returned Ok, an empty new file is under the name.
+    // Once Ok is returned, an empty new file is under this name.
     ensures begun { OnOk result (IsNewFile name.now [] (T.history tree.old)
         (T.history tree.new)) }
-    // Whatever it returns, only the file under the scratch name has changed.
+    // Whatever is returned, only the file under this name has changed.
     ensures only { OnlyScratchHasChanged name.now (T.history tree.old) (T.history tree.new) }
     // How the tree's counts explain the result.
     ensures counts { IsResultExplainedByCounts (T.counts tree.old) (T.counts tree.new) result }
-    // If the scratch name may have a file, no call is a misuse.
+    // No call is a misuse, if this name can be added without one name being a folder of another.
     ensures proper { IfObservable (T.history tree.old) (λ v. CanAddName name.now v
         → (T.counts tree.new).misuses ≡ (T.counts tree.old).misuses) }
 {
@@ -209,30 +219,33 @@ fn create_anew<T: Tree>(tree: &mut T, name: &Name) -> Result<(), Disk>
     create(tree, name)
 }
 
-/// Moves a synced file to its name, and makes the names durable before and after. Without the first
-/// a crash could keep the move and undo an older change of a name: a state that is neither an old
-/// one nor the new one. Without the second it could restore the old file after an Ok.
+/// Moves a synced file to its name, and syncs all names before and after the move. Without the sync
+/// before, a crash could keep the move and undo an older change of a name: a state that is neither
+/// an old one nor the new one. Without the sync after, a crash could restore the old file after Ok.
 fn settle<T: Tree>(tree: &mut T, from: &Name, to: &Name) -> Result<(), Disk>
+    // The target is not the intent's name.
     requires { to.now ≢ intent_name }
-    // From a durable tree on, a crash at any moment leaves an old state, or that of the new files.
+    // If only the synced file under `from` has changed since the start: at each moment each crash
+    // leaves an old state or the new one.
     ensures moments { IfObservable (T.history tree.old) (λ v. (bytes : List ℕ) (start : TreeState)
         → HasChangedOnlyByNewFile from.now (synced_file bytes) start v
         → Since (IsNewFileReadyToMove from.now to.now bytes start) (T.history tree.old) (T.history
         tree.new)) }
-    // Once it has returned Ok, the new file has its name, and no crash undoes this.
+    // Once Ok is returned, the new file has its name, and no crash undoes this.
     ensures settled { IfObservable (T.history tree.old) (λ v. (bytes : List ℕ) (start : TreeState)
         → HasChangedOnlyByNewFile from.now (synced_file bytes) start v
         → OnOk result (IfObservable (T.history tree.new)
         (IsNewFileDurablyMoved from.now to.now bytes
         start))) }
-    // At each moment a crash leaves every other name as it might have left it before.
+    // At each moment a crash leaves every name except these two as a crash at the call might have
+    // left it.
     ensures others { IfObservable (T.history tree.old) (λ v.
         Since (KeepsCrashMapsExcept (to.now ∷ from.now ∷ []) v) (T.history tree.old)
         (T.history tree.new)) }
     // How the tree's counts explain the result.
     ensures counts { IsResultExplainedByCounts (T.counts tree.old) (T.counts tree.new) result }
 
-    // If the file may be moved, no call is a misuse.
+    // No call is a misuse, if the tree's state allows the move of the file.
     ensures proper { IfObservable (T.history tree.old) (λ v. CanRename from.now to.now v
         → (T.counts tree.new).misuses ≡ (T.counts tree.old).misuses) }
 {

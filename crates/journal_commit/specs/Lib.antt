@@ -1,7 +1,7 @@
--- passed on: a crate above that names this one need not name these
+-- definitions of other crates, passed on: a crate that imports this module need not import theirs
 pub use Rattle.journal_core.specs as journal_core
--- what the contract of `apk` says
+-- modules that the contract of `apk` cites
 pub mod StageRun
 pub mod Asked
--- what only inner contracts and proofs use
+-- modules that only contracts of inner functions and proofs cite
 pub mod StagingCalls

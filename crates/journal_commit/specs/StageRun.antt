@@ -15,7 +15,7 @@ use Rattle.journal_core.specs.Staged.{HasNoStagedNames, IsOldUntilCommit, HasSta
 
 -- ---- what is read
 
--- the files as read are `files`, except for staged files
+-- the files as read are `files`, except for names in the staging area
 abbrev pub HasSameFilesExceptStaged : Files → TreeState → Type 0
 HasSameFilesExceptStaged files w = (q : List ℕ) → is_staged q ≡ false → files_of w q ≡ files q
 
@@ -29,33 +29,34 @@ pub record RecoversToNewByIntentFromOld (new old : Files) (w : TreeState) : Type
   -- each name outside the staging area has its old bytes or its new ones
   pub bytes : HasOldOrNewBytesOutsideJournal old new w
 
--- the files as read are the old ones, except for staged files; or an intent that is read leads to the
--- new ones; or they are the new ones
+-- the files as read are the old ones, except for staged files; or an intent is read, and recovery leaves the new
+-- files; or the files as read are the new ones
 abbrev pub IsStateDuringChangeToNewFromOld : Files → Files → TreeState → Type 0
 IsStateDuringChangeToNewFromOld new old w =
     HasSameFilesExceptStaged old w ⊎ (RecoversToNewByIntentFromOld new old w ⊎ (files_of w ≡ new))
 
--- if no intent is read, a crash undoes no change of a name outside the staging area
+-- if no intent is read, no crash undoes a change of a name outside the staging area (and other than the intent's)
 abbrev pub NamesAreDurableWithoutIntent : TreeState → Type 0
 NamesAreDurableWithoutIntent w = w.names intent_name ≡ None → NamesOutsideJournalAreDurable w
 
 -- ---- a change
 
--- a change that leads to these files, from a state v on: what holds at each of its moments
+-- What holds at each moment of a change that leads to `files`. The change begins at the tree `v`, the newest state of
+-- the history `old`; `now` is the history since.
 pub record IsRunOfStagedChange (files : Files) (v : TreeState) (old now : List TreeState) : Type 0 where
   -- A tree that was durable is durable, and a crash leaves a state from before or that of the files.
   -- Until an intent of this change has been under its name, a crash leaves a state from before.
   pub moments : (ignored : List ℕ → Bool) → IsDurable (StateDependsOn ignored) v
       → SinceGivenEarlier (IsOldUntilCommit ignored files v) old now
-  -- the files as read are the old ones, except for staged files, or an intent leads to the new ones, or
-  -- they are the new ones
+  -- at each moment the files as read are the old ones, except for staged files; or recovery by an intent leaves the
+  -- new ones; or they are the new ones
   pub reads : Since (IsStateDuringChangeToNewFromOld files (files_of v)) old now
-  -- if no intent is read, a crash undoes no change of a name outside the staging area, if none could be
-  -- undone at the start
+  -- if at the start no crash could undo a change of a name outside the journal, the same holds at each moment at
+  -- which no intent is read
   pub last : NamesOutsideJournalAreDurable v → Since NamesAreDurableWithoutIntent old now
 
--- a change that leads to these files is complete: no intent is read, and no crash restores one, or
--- undoes a change of a name
+-- A change that leads to `files` is complete in the newest state of the history `now`; it began at the tree `v`. No
+-- intent is read, and no crash restores one, or undoes a change of a name outside the journal.
 pub record IsStagedChangeComplete (files : Files) (v : TreeState) (now : List TreeState) : Type 0 where
   -- the files as read are the new ones, and no intent is read
   pub reads : HoldsNow now (λ w. (files_of w ≡ files) × (w.names intent_name ≡ None))
@@ -67,21 +68,21 @@ pub record IsStagedChangeComplete (files : Files) (v : TreeState) (now : List Tr
   -- no crash restores the intent
   pub gone : HoldsNow now (IsRestoredByNoCrash intent_name)
 
--- ---- its first part
+-- ---- the staging of files, the first part of a change
 
--- Files are staged, from a state v on. At each moment the tree is durable, the state is unchanged, and
--- only staged files have changed.
+-- A run that only stages files. It begins at the tree `v`, the newest state of the history `old`; `now` is the
+-- history since.
 pub record IsStagingRun (v : TreeState) (old now : List TreeState) : Type 0 where
   -- from a durable tree on, each moment is durable and has the same state
   pub moments : (ignored : List ℕ → Bool) → IsDurable (StateDependsOn ignored) v
       → Since (StateIsUnchanged ignored v) old now
-  -- at each moment the files as read are the same, except for staged files
+  -- at each moment the files as read are those of `v`, except for staged files
   pub reads : Since (HasSameFilesExceptStaged (files_of v)) old now
-  -- no crash undoes a change of a name outside the journal, if none could at the start
+  -- if at the start no crash could undo a change of a name outside the journal, none can at any moment
   pub last : NamesOutsideJournalAreDurable v → Since NamesOutsideJournalAreDurable old now
 
--- a staging run that began with an empty staging area. Now files with the bytes `contents` are
--- staged, and, if there is a file that is begun, one with its bytes
+-- A staging run that began at the tree `v` with an empty staging area. Now there is a staged file for each element of
+-- `contents`, with these bytes, and, if `begun` has bytes, a further one with these, which is not yet ended.
 pub record IsRunThatStagedContents (stage : Staging) (contents : List (List ℕ)) (begun : Option (List ℕ))
     (v : TreeState) (old now : List TreeState) : Type 0 where
   -- `v` is the newest state at the start of staging

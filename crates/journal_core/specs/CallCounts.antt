@@ -4,12 +4,13 @@
 use Rattle.std.specs.Prelude.{Result, OnOk, OnErr}
 use Rattle.base_core.specs.Faults.{Counts, CountsOnlyRise, IsFaultCountedWithCause, CountsNoNewFault}
 
--- how the counts explain a result whose only error is a fault of the tree
+-- How the tree's counts before a call (`before`) and after it (`now`) explain the call's result, whose only error is
+-- a fault of the tree.
 pub record IsResultExplainedByCounts {T E : Type 0} (before now : Counts)
     (result : Result T E) : Type 0 where
   -- no count of faults falls
   pub goes_on : CountsOnlyRise before now
-  -- a fault of the tree is returned only if that count rose
+  -- an error is returned only if the count of faults rose, and the counts give the fault a cause
   pub cause : OnErr result (IsFaultCountedWithCause before now)
-  -- Ok is returned only if that count did not rise
+  -- Ok is returned only if the count of faults did not rise
   pub kept : OnOk result (CountsNoNewFault before now)

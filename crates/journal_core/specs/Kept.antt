@@ -11,12 +11,12 @@ use Rattle.journal_intent.specs.FreeNames.{IsNoneOf}
 
 -- ---- the files as read: the files that calls on the tree return now, without a crash
 
--- the files as read are unchanged under each name except these
+-- the files as read are the same in `v` as in `start`, under each name except those of which `these` holds
 abbrev pub KeepsFilesExcept : (List ℕ → Type 0) → TreeState → TreeState → Type 0
 KeepsFilesExcept these start v = (q : List ℕ) → (these q → ⊥) → files_of v q ≡ files_of start q
 
--- the names that the next action of an intent changes, if this many of its actions are done: the
--- name that it removes, or the name that it writes and that of the staged file
+-- `q` is a name that the next action of the intent changes, if its first `acted` actions are done: the name to be
+-- removed; or the name to be written, or that of the staged file
 abbrev pub IsNameOfNextAction : Intent → ℕ → List ℕ → Type 0
 IsNameOfNextAction intent acted q =
     (slice_get intent.removals acted ≡ Some q)
@@ -31,63 +31,63 @@ RecoversTo files v = recovered_files (files_of v) ≡ files
 abbrev pub IsJournalName : List ℕ → Type 0
 IsJournalName name = (name ≡ intent_name) ⊎ (is_staged name ≡ true)
 
--- the intent, and each file in the staging area, is as it was at the start or is gone
+-- in the files as read, the intent and each file in the staging area are as they were in `start`, or are gone
 abbrev pub JournalOnlyShrinks : TreeState → TreeState → Type 0
 JournalOnlyShrinks start v = (q : List ℕ) → IsJournalName q
     → (files_of v q ≡ None) ⊎ (files_of v q ≡ files_of start q)
 
--- each name that is no name of the journal has the bytes of the old files or those of the new ones
+-- each name outside the journal has, as read, the bytes that it has in the files `old`, or those in the files `new`
 abbrev pub HasOldOrNewBytesOutsideJournal : Files → Files → TreeState → Type 0
 HasOldOrNewBytesOutsideJournal old new v =
     (q : List ℕ) → (IsJournalName q → ⊥) → (files_of v q ≡ old q) ⊎ (files_of v q ≡ new q)
 
--- at each added moment each name that is no name of the journal has the bytes of `base` or those of
--- `files`. `base` is any files for which this held at the start
+-- At each moment added to the history `old`, each name outside the journal has the bytes of `base` or those of
+-- `files`. Here `base` are any files for which this held at the start `v`.
 abbrev pub KeepsOldOrNewBytes : Files → TreeState → List TreeState → List TreeState → Type 0
 KeepsOldOrNewBytes files v old new =
     (base : Files) → HasOldOrNewBytesOutsideJournal base files v
     → Since (HasOldOrNewBytesOutsideJournal base files) old new
 
--- the intent is as it was at the start, and each staged file is unchanged or gone
+-- the intent's name leads to the same file as in `start`, and each staged file is unchanged or gone
 pub record KeepsIntentWhileStageShrinks (start v : TreeState) : Type 0 where
   -- the intent's name leads to the same file as at the start
   pub intent : v.names intent_name ≡ start.names intent_name
-  -- each file of the journal and the staging area is unchanged or gone
+  -- in the files as read, the intent and each file in the staging area are unchanged or gone
   pub waiting : JournalOnlyShrinks start v
 
 -- ---- the maps of names
 
--- each name except these leads in every map to the same file as in the newest, so no crash undoes its
--- change
+-- in each map of names that a crash may leave, each name except `these` leads to the same file as in the newest map;
+-- so no crash undoes a change of such a name
 abbrev pub NamesAreDurableExcept : List (List ℕ) → TreeState → Type 0
 NamesAreDurableExcept these v =
     (map : NameMap) → IsCrashMap v map → (q : List ℕ) → IsNoneOf q these → map q ≡ v.names q
 
--- each name except the intent's and those in the staging area leads in every map to the same file as in
--- the newest, so no crash undoes its change
+-- in each map of names that a crash may leave, each name except the intent's and those in the staging area leads to
+-- the same file as in the newest map; so no crash undoes a change of such a name
 abbrev pub NamesOutsideJournalAreDurable : TreeState → Type 0
 NamesOutsideJournalAreDurable v = (map : NameMap) → IsCrashMap v map → (q : List ℕ) → q ≢ intent_name
     → is_staged q ≡ false → map q ≡ v.names q
 
--- the names `these`, the intent's and those in the staging area are excepted. Each other name leads
--- in every map to the same file as in the newest, so no crash undoes its change
+-- In each map of names that a crash may leave, each name except `these`, the intent's and those in the staging area
+-- leads to the same file as in the newest map. So no crash undoes a change of such a name.
 abbrev pub NamesOutsideJournalAreDurableExcept : List (List ℕ) → TreeState → Type 0
 NamesOutsideJournalAreDurableExcept these v = (map : NameMap) → IsCrashMap v map → (q : List ℕ)
     → IsNoneOf q these
     → q ≢ intent_name → is_staged q ≡ false → map q ≡ v.names q
 
--- no map of names that a crash may leave has the name
+-- in no map of names that a crash may leave the name leads to a file
 abbrev pub IsRestoredByNoCrash : List ℕ → TreeState → Type 0
 IsRestoredByNoCrash name v = (map : NameMap) → IsCrashMap v map → map name ≡ None
 
--- each map that a crash may leave agrees with one that a crash might have left at the start, except
--- for these names
+-- each map of names that a crash of `v` may leave agrees, except for the names `these`, with one that a crash of
+-- `start` might have left
 abbrev pub KeepsCrashMapsExcept : List (List ℕ) → TreeState → TreeState → Type 0
 KeepsCrashMapsExcept these start v = (map : NameMap) → IsCrashMap v map
     → (was : NameMap) × IsCrashMap start was × ((q : List ℕ) → IsNoneOf q these → map q ≡ was q)
 
--- there is one map of names, so no crash undoes a change of them; and the file under this name is
--- synced
+-- the tree has no older map of names, so no crash undoes a change of names; and the file under this name, if there
+-- is one, is synced
 pub record IsSyncedAt (name : List ℕ) (v : TreeState) : Type 0 where
   -- there is no older map of names
   pub one_map : v.older ≡ []

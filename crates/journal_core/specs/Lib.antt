@@ -1,14 +1,14 @@
--- passed on: a crate above that names this one need not name these
+-- definitions of other crates, passed on: a crate that imports this module need not import theirs
 pub use Rattle.journal_intent.specs as journal_intent
 pub use Rattle.journal_intent.specs.adb_schema as adb_schema
 -- The definitions of this crate. Each file names the document with its rule.
--- what the contract of `apk` says
+-- modules that the contract of `apk` cites
 pub mod Recovery
 pub mod Replacing
 pub mod Quiet
 pub mod Staged
 pub mod Kept
--- what only inner contracts and proofs use
+-- modules that only contracts of inner functions and proofs cite
 pub mod Targets
 pub mod Reading
 pub mod Filling

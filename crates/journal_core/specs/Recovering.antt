@@ -1,4 +1,4 @@
--- How a recovery changes the tree, and its faults.
+-- How a recovery changes the tree, and which fault it returns for a failed read or a failed call.
 -- The rules are in `docs/crash-safety.md`, "Recovery". It serves the contracts of `journal_recovery`.
 use Rattle.std.specs.Prelude.{◌≡◌, ℕ, true, if◌then◌else◌, List, Option, None, All}
 use Rattle.std.specs.List.{list_any}
@@ -12,18 +12,18 @@ use Rattle.journal_core.specs.declared.fault.RecoverFault.{RecoverFault}
 use Rattle.journal_core.specs.declared.fault.RecoverFault.TheVariants.{Disk, IntentBad, Memory}
 use Rattle.journal_core.specs.Recovery.{recovered_files, intent_name, is_staged}
 
--- the fault of a recovery for a failed read of an intent
+-- the fault that a recovery returns if the read of the intent failed with this fault
 abbrev pub recover_fault_of : ReadFault → RecoverFault
 recover_fault_of (Bad cause) = IntentBad cause
 recover_fault_of NoMemoryToRead = Memory
 
--- the fault of a recovery for that of a tree
+-- the fault that a recovery returns if a call on the tree failed with this fault
 abbrev pub recover_fault_of_tree : TreeFault → RecoverFault
 recover_fault_of_tree TreeFailed = Disk
 recover_fault_of_tree NoMemory = Memory
 
--- a moment after all actions of an intent: the files as read are those that recovery of the files
--- at the start yields, and no intent is read
+-- a moment `v` after the intent of the tree `start` was carried out: the files as read are those that recovery of
+-- the files of `start` yields, and no intent is read
 pub record IsIntentReplayed (start v : TreeState) : Type 0 where
   -- the files as read are those that recovery yields
   pub reads : files_of v ≡ recovered_files (files_of start)
@@ -38,19 +38,19 @@ without_staged_names map q = if is_staged q then None else map q
 abbrev pub AreStagedNames : List (List ℕ) → Type 0
 AreStagedNames names = All (λ name. is_staged name ≡ true) names
 
--- the tree `v` is the tree `start` without these names: they lead nowhere, and all others to the
--- same files. No file has changed
+-- the tree `v` is the tree `start` without these names: none of them leads to a file, and each other name leads to
+-- the same file. No file has changed
 pub record HasRemovedNames (names : List (List ℕ)) (start v : TreeState) : Type 0 where
-  -- each of the names leads nowhere, and each other name to the same file as before
+  -- none of the names leads to a file, and each other name leads to the same file as in `start`
   pub map : (q : List ℕ) → v.names q
       ≡ (if list_any (bytes_eq q) names then None else start.names q)
   -- no file's bytes have changed, nor whether it is synced
   pub files : v.files ≡ start.files
 
--- the tree `v` is the tree `start` without staged files: no name in the staging area leads
--- anywhere. No file has changed
+-- the tree `v` is the tree `start` without staged files: no name in the staging area leads to a file. No file has
+-- changed
 pub record HasEmptiedStage (start v : TreeState) : Type 0 where
-  -- no staged name leads anywhere, and each other name leads to the same file as before
+  -- no name in the staging area leads to a file, and each other name leads to the same file as in `start`
   pub map : (q : List ℕ) → v.names q ≡ without_staged_names start.names q
   -- no file's bytes have changed, nor whether it is synced
   pub files : v.files ≡ start.files

@@ -1,5 +1,5 @@
--- What files stand for, that is, what recovery yields, even in the middle of a change: the intent that
--- is still to be done, and the names that are no part of a state.
+-- What files stand for, that is, what recovery yields, even if a change was interrupted: all actions of the intent
+-- are done, and hidden names are left out.
 -- The rules are in `docs/crash-safety.md`, "What files stand for", the table.
 use Rattle.std.specs.Prelude.{◌≡◌, ◌⊎◌, ◌≤◌, ◌<◌, ℕ, ◌+◌, Bool, false, ◌||◌, if◌then◌else◌, List, [], ◌∷◌, length, Option, Some, None}
 use Rattle.std.specs.Str.{bytes_eq}
@@ -24,18 +24,18 @@ intent_of files = intent_in_file (files intent_name)
 
 -- ---- its actions
 
--- the files without those of some names
+-- the files without those under the names of the list
 abbrev pub files_without_names : List (List ℕ) → Files → Files
 files_without_names names files q = if list_any (bytes_eq q) names then None else files q
 
--- the files after the file at `from` is moved to `to`, given its bytes; unchanged if there is no
--- file at `from`
+-- the files after the file under the name `from` is moved to `to`; the option has its bytes. Without bytes there is
+-- no such file, and the files are unchanged
 abbrev pub move_if_present : Files → List ℕ → List ℕ → Option (List ℕ) → Files
 move_if_present files from to None = files
 move_if_present files from to (Some bytes) = move_name files from to bytes
 
--- the files after the staged files from the number k on are moved to the names of a list, one by
--- one; a staged file that is absent was moved before
+-- the files after the staged files with the numbers k, k + 1 and so on are moved to the names of the list, one by
+-- one. A staged file that is absent was moved before
 abbrev pub files_after_staged_moves_from : ℕ → List (List ℕ) → Files → Files
 files_after_staged_moves_from k [] files = files
 files_after_staged_moves_from k (name ∷ names) files =
@@ -50,47 +50,46 @@ files_after_actions intent files =
 
 -- ---- what recovery yields
 
--- the files after all actions of this intent and the removal of the intent; unchanged without an
--- intent
+-- the files after all actions of the intent are done, and the intent is removed. They are unchanged without an intent
 abbrev pub files_after_intent : Option Intent → Files → Files
 files_after_intent None files = files
 files_after_intent (Some intent) files = drop_name (files_after_actions intent files) intent_name
 
--- the files that recovery yields: those after all actions of their intent and its removal. They are
--- unchanged if there is no intent, or if its file is no intent container
+-- the files that recovery yields, before it removes staged files: those after all actions of the intent among them,
+-- and its removal. They are unchanged without an intent, or if its file is no intent container
 abbrev pub recovered_files : Files → Files
 recovered_files files = files_after_intent (intent_of files) files
 
--- whether a name is no part of a state: it is that of a staged file, or is ignored
+-- whether a state leaves a name out: the name is in the staging area, or `ignored` is true of it
 abbrev pub is_hidden : (List ℕ → Bool) → List ℕ → Bool
 is_hidden ignored name = is_staged name || ignored name
 
--- the state that files stand for, apart from the names ignored: what recovery yields, without an
--- intent, but with a file under its name that is no intent container
+-- the state of files: what recovery yields, without hidden names. An intent is no part of it, but a file under the
+-- intent's name that is no intent container is
 abbrev pub state_of : (List ℕ → Bool) → Files → Files
 state_of ignored files q = if is_hidden ignored q then None else recovered_files files q
 
 -- ---- order
 
--- the name of a file that is staged for an action of this intent
+-- the name is that of a file that is staged for a write of this intent; there is none without an intent
 abbrev pub IsStagedNameOf : Option Intent → List ℕ → Type 0
 IsStagedNameOf None q = ⊥
 IsStagedNameOf (Some intent) q = (k : ℕ) × (1 ≤ k) × (k < 1 + length intent.writes) × (q ≡ stage_name k)
 
--- the state of the files depends on the file under this name: it is the intent's, or not hidden, or
--- that of a file staged for an action of the intent
+-- the state of the files depends on the file under the name `q`: this name is the intent's, or is not hidden, or is
+-- that of a file that is staged for a write of the intent among the files
 abbrev pub StateDependsOn : (List ℕ → Bool) → Files → List ℕ → Type 0
 StateDependsOn ignored files q =
     (q ≡ intent_name) ⊎ ((is_hidden ignored q ≡ false) ⊎ IsStagedNameOf (intent_of files) q)
 
 -- ---- what a crash leaves, as states
 
--- each crash leaves the state of these files
+-- each crash of the tree `v` leaves files whose state is that of `files`
 abbrev pub EachCrashLeavesStateOf : (List ℕ → Bool) → Files → TreeState → Type 0
 EachCrashLeavesStateOf ignored files v =
     (image : Files) → IsCrashImage v image → state_of ignored image ≡ state_of ignored files
 
--- each crash leaves a state that a crash at the start might have left, or the state of these files
+-- each crash of the tree `v` leaves a state that a crash of the tree `start` might have left, or the state of `files`
 abbrev pub EachCrashLeavesOldOrNew : (List ℕ → Bool) → TreeState → Files → TreeState → Type 0
 EachCrashLeavesOldOrNew ignored start files v = (image : Files) → IsCrashImage v image
     → ((was : Files) × IsCrashImage start was × (state_of ignored image ≡ state_of ignored was))

@@ -1,4 +1,5 @@
-//! The actions of an intent, one after another: first its removals, then its moves.
+//! Functions that do the actions of an intent, one after another: first its removals, then its
+//! moves. `Stage::apply_one` calls `act`.
 //! The rules are in `docs/crash-safety.md`, "A change of several files": the lines of `apply_one`
 //! in the example, and the text on actions.
 ghost use Rattle.std.specs.Prelude.{◌≡◌, ◌≤◌, ◌<◌, ◌+◌, length, IfOk, OnOk, IsSome};
@@ -15,17 +16,19 @@ use crate::calls::{remove, rename};
 use base_core::{Disk, Name, Tree};
 use journal_intent::PreparedIntent;
 
-/// Does the next action of an intent, of which `acted` are done and one is left, and returns how
-/// many are done then. The clauses are those of `Stage::apply_one`, for a stage with this intent.
+/// Does the next action of the intent, of which the first `acted` are done. Returns how many are
+/// done then, which is `acted` if none was left. The clauses are those of `Stage::apply_one`.
 pub(crate) fn act<T: Tree>(
     intent: &PreparedIntent,
     acted: usize,
     tree: &mut T,
 ) -> Result<usize, Disk>
-    // If the actions that are counted are done at the start, the state is unchanged at each moment.
+    // If the actions that count as done are done in the tree, the state is unchanged at each
+    // moment, and recovery yields the same files.
     ensures actions { CarriesOutActions (stage_with_actions_done intent.now acted)
         (T.history tree.old) (T.history tree.new) }
-    // Once it has returned Ok, the count of actions done is true of the tree again.
+    // Once Ok is returned, the actions that then count as done are done in the tree, and
+    // recovery yields the same files as at the call.
     ensures acting { IfObservable (T.history tree.old) (λ v. (files : Files)
         → IsCarryingOutActions (stage_with_actions_done intent.now acted) files v
         → IfOk result (λ next. HoldsNow (T.history tree.new)
@@ -33,19 +36,19 @@ pub(crate) fn act<T: Tree>(
     // At each moment the intent is unchanged, and each staged file is unchanged or gone.
     ensures waiting { IfObservable (T.history tree.old) (λ v.
         Since (KeepsIntentWhileStageShrinks v) (T.history tree.old) (T.history tree.new)) }
-    // Whatever it returns, only the names of this action have changed.
+    // Whatever is returned, in the newest state only the names of this action have changed.
     ensures others { IfObservable (T.history tree.old) (λ v.
         HoldsNow (T.history tree.new) (KeepsFilesExcept (IsNameOfNextAction intent.now acted) v)) }
-    // If an action was left, it counts as done.
+    // If an action was left, the returned count is one more than `acted`.
     ensures more { acted < action_count intent.now → IfOk result (λ next. next ≡ acted + 1) }
-    // If no action was left, no call is made.
+    // If no action was left, `acted` is returned, and no call on the tree is made.
     ensures none_left { action_count intent.now ≤ acted
         → IfOk result (λ next. next ≡ acted) × (tree.new ≡ tree.old) }
     // How the tree's counts explain the result.
     ensures counts { IsResultExplainedByCounts (T.counts tree.old) (T.counts tree.new) result }
 
-    // If the intent and the staged files have free paths beside the files of the actions done, no
-    // call is a misuse.
+    // No call is a misuse, if the paths of the intent and of the staged files are free among
+    // `files`, which recovery yields.
     ensures proper { IfObservable (T.history tree.old) (λ v. (files : Files)
         → IsCarryingOutActions (stage_with_actions_done intent.now acted) files v
         → AreJournalPathsFree files
@@ -65,15 +68,17 @@ pub(crate) fn act<T: Tree>(
     Ok(acted)
 }
 
-/// Does the removal with this index, if the removals before it are done. The clauses are those of
-/// `act`, for a removal.
+/// Does the removal with the index `i`, given that the removals before it are done. The clauses are
+/// those of `act`, for a removal.
 fn remove_one<T: Tree>(intent: &PreparedIntent, i: usize, tree: &mut T) -> Result<(), Disk>
-    // The index is that of an element.
+    // The index is that of one of the removals.
     requires { i < length intent.now.removals }
-    // If the actions that are counted are done at the start, the state is unchanged at each moment.
+    // If the actions that count as done are done in the tree, the state is unchanged at each
+    // moment, and recovery yields the same files.
     ensures actions { CarriesOutActions (stage_with_actions_done intent.now i)
         (T.history tree.old) (T.history tree.new) }
-    // Once it has returned Ok, the count of actions done is true of the tree again.
+    // Once Ok is returned, the actions that then count as done are done in the tree, and
+    // recovery yields the same files as at the call.
     ensures acting { IfObservable (T.history tree.old) (λ v. (files : Files)
         → IsCarryingOutActions (stage_with_actions_done intent.now i) files v
         → OnOk result (HoldsNow (T.history tree.new)
@@ -81,7 +86,7 @@ fn remove_one<T: Tree>(intent: &PreparedIntent, i: usize, tree: &mut T) -> Resul
     // At each moment the intent is unchanged, and each staged file is unchanged or gone.
     ensures waiting { IfObservable (T.history tree.old) (λ v.
         Since (KeepsIntentWhileStageShrinks v) (T.history tree.old) (T.history tree.new)) }
-    // Whatever it returns, only the names of this action have changed.
+    // Whatever is returned, in the newest state only the names of this action have changed.
     ensures others { IfObservable (T.history tree.old) (λ v.
         HoldsNow (T.history tree.new) (KeepsFilesExcept (IsNameOfNextAction intent.now i) v)) }
     // How the tree's counts explain the result.
@@ -91,12 +96,13 @@ fn remove_one<T: Tree>(intent: &PreparedIntent, i: usize, tree: &mut T) -> Resul
     ensures proper { IfObservable (T.history tree.old)
         (λ v. (T.counts tree.new).misuses ≡ (T.counts tree.old).misuses) }
 {
+    // A law that the proof needs; it computes nothing.
     intent.names_are_free();
     remove(tree, intent.removal(i))
 }
 
-/// Does the move of the write with this index, if the removals and the moves before it are done.
-/// The clauses are those of `act`, for a move.
+/// Moves the staged file of the write with the index `j` to its name. All removals, and the moves
+/// before it, are done, `acted` in all. The clauses are those of `act`, for a move.
 fn move_one<T: Tree>(
     intent: &PreparedIntent,
     j: usize,
@@ -107,10 +113,12 @@ fn move_one<T: Tree>(
     requires within { j < length intent.now.writes }
     // `acted` counts all removals and the first `j` writes.
     requires behind { acted ≡ length intent.now.removals + j }
-    // If the actions that are counted are done at the start, the state is unchanged at each moment.
+    // If the actions that count as done are done in the tree, the state is unchanged at each
+    // moment, and recovery yields the same files.
     ensures actions { CarriesOutActions (stage_with_actions_done intent.now acted)
         (T.history tree.old) (T.history tree.new) }
-    // Once it has returned Ok, the count of actions done is true of the tree again.
+    // Once Ok is returned, the actions that then count as done are done in the tree, and
+    // recovery yields the same files as at the call.
     ensures acting { IfObservable (T.history tree.old) (λ v. (files : Files)
         → IsCarryingOutActions (stage_with_actions_done intent.now acted) files v
         → OnOk result (HoldsNow (T.history tree.new)
@@ -118,24 +126,26 @@ fn move_one<T: Tree>(
     // At each moment the intent is unchanged, and each staged file is unchanged or gone.
     ensures waiting { IfObservable (T.history tree.old) (λ v.
         Since (KeepsIntentWhileStageShrinks v) (T.history tree.old) (T.history tree.new)) }
-    // Whatever it returns, only the names of this action have changed.
+    // Whatever is returned, in the newest state only the names of this action have changed.
     ensures others { IfObservable (T.history tree.old) (λ v.
         HoldsNow (T.history tree.new) (KeepsFilesExcept (IsNameOfNextAction intent.now acted) v)) }
     // How the tree's counts explain the result.
     ensures counts { IsResultExplainedByCounts (T.counts tree.old) (T.counts tree.new) result }
 
-    // If the intent and the staged files have free paths beside the files of the actions done, no
-    // call is a misuse.
+    // No call is a misuse, if the paths of the intent and of the staged files are free among
+    // `files`, which recovery yields.
     ensures proper { IfObservable (T.history tree.old) (λ v. (files : Files)
         → IsCarryingOutActions (stage_with_actions_done intent.now acted) files v
         → AreJournalPathsFree files
         → (T.counts tree.new).misuses ≡ (T.counts tree.old).misuses) }
 {
+    // A law that the proof needs; it computes nothing. The staged files are numbered from 1.
     intent.names_are_free();
     move_waiting(tree, intent.stage_name(j + 1), intent.write(j))
 }
 
-/// Moves the staged file at a place to its name; if it is absent, it was moved before.
+/// Moves the staged file under the name `place` to `name`. If there is no such file, it was moved
+/// before, and nothing is done.
 fn move_waiting<T: Tree>(tree: &mut T, place: &Name, name: &Name) -> Result<(), Disk>
     // How the tree changes: the file is moved, or nothing happens.
     ensures moves { MovesIfPresent place.now name.now (T.history tree.old) (T.history tree.new)
@@ -143,7 +153,7 @@ fn move_waiting<T: Tree>(tree: &mut T, place: &Name, name: &Name) -> Result<(), 
     // How the tree's counts explain the result.
     ensures counts { IsResultExplainedByCounts (T.counts tree.old) (T.counts tree.new) result }
 
-    // If the file may be moved, no call is a misuse.
+    // No call is a misuse, if the tree's state allows the move of a file that is there.
     ensures proper { IfObservable (T.history tree.old) (λ v.
         (IsSome (v.names place.now) → CanRename place.now name.now v)
         → (T.counts tree.new).misuses ≡ (T.counts tree.old).misuses) }

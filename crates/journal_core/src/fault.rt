@@ -1,5 +1,6 @@
-//! Why a root is not recovered, and the errors of a read and of a tree as such faults. The rule is
-//! in `docs/crash-safety.md`, "Recovery", the row of a bad intent.
+//! The error type of a recovery, and the conversions to it from the errors of a failed read and of
+//! a failed call on the tree. The rule is in `docs/crash-safety.md`, "Recovery", the row of a bad
+//! intent.
 ghost use Rattle.std.specs.Prelude.{◌≡◌};
 ghost use Rattle.journal_core.specs.declared.fault.RecoverFault.TheVariants.{Disk as DiskFault, Memory as MemoryFault};
 
@@ -10,8 +11,8 @@ use std::alloc::AllocError;
 /// Why a root is not recovered.
 #[derive(Clone, Copy, Drop)]
 pub enum RecoverFault {
-    /// The journal is corrupt: the intent is no intent container, for the first test that failed.
-    /// Nothing has changed.
+    /// The journal is corrupt: the file of the intent is no intent container. The cause is the
+    /// first test that failed. Nothing has changed.
     IntentBad(Cause),
     /// An I/O error of the tree.
     Disk,
@@ -20,6 +21,7 @@ pub enum RecoverFault {
 }
 
 impl From<Disk> for RecoverFault {
+    // The result of the conversion: the I/O error of a recovery.
     ghost from_gives = { λ _ fault. fault ≡ DiskFault };
 
     /// A failed call of the tree as the reason why a root is not recovered.
@@ -29,6 +31,7 @@ impl From<Disk> for RecoverFault {
 }
 
 impl From<AllocError> for RecoverFault {
+    // The result of the conversion: a recovery is out of memory.
     ghost from_gives = { λ _ fault. fault ≡ MemoryFault };
 
     /// Out of memory as the reason why a root is not recovered.
@@ -40,6 +43,7 @@ impl From<AllocError> for RecoverFault {
 impl From<ReadFault> for RecoverFault {
     ghost use Rattle.journal_core.specs.Recovering.{recover_fault_of};
 
+    // The result of the conversion, given the fault of the read.
     ghost from_gives = { λ given fault. fault ≡ recover_fault_of given };
 
     /// A failed read of the intent as the reason why a root is not recovered: the intent is
@@ -55,9 +59,11 @@ impl From<ReadFault> for RecoverFault {
 impl From<TreeFault> for RecoverFault {
     ghost use Rattle.journal_core.specs.Recovering.{recover_fault_of_tree};
 
+    // The result of the conversion, given the fault of the tree.
     ghost from_gives = { λ given fault. fault ≡ recover_fault_of_tree given };
 
-    /// A failed listing as the reason why a root is not recovered: an I/O error, or out of memory.
+    /// A failed listing or read as the reason why a root is not recovered: an I/O error, or out of
+    /// memory.
     fn from(fault: TreeFault) -> RecoverFault {
         match fault {
             TreeFault::Disk => RecoverFault::Disk,

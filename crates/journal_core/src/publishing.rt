@@ -1,4 +1,5 @@
-//! The commit of a stage's intent: it is moved to its name.
+//! The commit of a stage's intent, which is written as a staged file and moved to its name
+//! `lib/apk/intent`. `Stage::publish` calls `publish_intent`.
 //! The rules are in `docs/crash-safety.md`, "A change of several files": the lines of `publish` in
 //! the example, and in the table of syncs those before and after the rename of the intent.
 ghost use Rattle.std.specs.Prelude.{◌≡◌, ◌∷◌, [], ℕ, Bool, List, None, IsSome, OnOk};
@@ -27,7 +28,7 @@ pub(crate) fn publish_intent<T: Tree>(tree: &mut T, intent: &PreparedIntent) -> 
     // What holds at each moment of the commit, and after it.
     ensures publishing { PublishesIntent (fully_staged_stage intent.now)
         (T.history tree.old) (T.history tree.new) result }
-    // Once it has returned Ok, the intent is committed, and none of its actions is done.
+    // Once Ok is returned, the intent is committed, and none of its actions is done.
     ensures acting { IfObservable (T.history tree.old) (λ v. (contents : List (List ℕ))
         (base : Files) → HasStagedContents (fully_staged_stage intent.now) contents None base v
         → OnOk result (HoldsNow (T.history tree.new)
@@ -36,7 +37,8 @@ pub(crate) fn publish_intent<T: Tree>(tree: &mut T, intent: &PreparedIntent) -> 
     // How the tree's counts explain the result.
     ensures counts { IsResultExplainedByCounts (T.counts tree.old) (T.counts tree.new) result }
 
-    // If the paths of the stage are free, no call is a misuse.
+    // No call is a misuse, if nothing was staged when the staging began (`base`), and the paths of
+    // the intent and of the staged files were free.
     ensures proper { IfObservable (T.history tree.old) (λ v. (contents : List (List ℕ))
         (base : Files) → HasStagedContents (fully_staged_stage intent.now) contents None base v
         → AreStagingPathsFree base → (T.counts tree.new).misuses ≡ (T.counts tree.old).misuses) }
@@ -47,8 +49,8 @@ pub(crate) fn publish_intent<T: Tree>(tree: &mut T, intent: &PreparedIntent) -> 
     enter(tree, intent.stage_name(0), intent.name())
 }
 
-/// Makes the staged file 0 with these bytes, and syncs it, so that no crash leaves other bytes
-/// under the intent's name.
+/// Makes the staged file 0 with these bytes, and syncs it. It is the intent's file before it is
+/// moved to the intent's name; so no crash leaves other bytes under that name.
 fn write_waiting<T: Tree>(tree: &mut T, place: &Name, bytes: &[u8]) -> Result<(), Disk>
     // The name is that of the staged file 0.
     requires { place.now ≡ stage_name 0 }
@@ -56,28 +58,29 @@ fn write_waiting<T: Tree>(tree: &mut T, place: &Name, bytes: &[u8]) -> Result<()
     ensures moments { IfObservable (T.history tree.old) (λ v. (ignored : List ℕ → Bool)
         → IsDurable (StateDependsOn ignored) v → files_of v intent_name ≡ None
         → Since (StateIsUnchanged ignored v) (T.history tree.old) (T.history tree.new)) }
-    // If no intent was read: once it has returned Ok, only the synced file with these bytes is
-    // added.
+    // If no intent was read at the call: once Ok is returned, the only change of the tree is
+    // the new file with these bytes, which is synced.
     ensures written { IfObservable (T.history tree.old) (λ v. files_of v intent_name ≡ None
         → OnOk result (HoldsNow (T.history tree.new)
         (HasOnlyAddedFile place.now (synced_file bytes.now) v))) }
     // If no intent was read at the start, none is read at any moment.
     ensures unread { IfObservable (T.history tree.old) (λ v. v.names intent_name ≡ None
         → Since (λ w. w.names intent_name ≡ None) (T.history tree.old) (T.history tree.new)) }
-    // At each moment every other name has the same bytes as read.
+    // At each moment the files as read are unchanged under every name except that of this file.
     ensures others { IfObservable (T.history tree.old) (λ v.
         Since (KeepsFilesExcept (λ q. q ≡ place.now) v) (T.history tree.old) (T.history tree.new)) }
-    // At each moment a crash leaves every other name as it might have left it before.
+    // At each moment a crash leaves every name except that of this file as a crash at the call
+    // might have left it.
     ensures maps { IfObservable (T.history tree.old) (λ v.
         Since (KeepsCrashMapsExcept (stage_name 0 ∷ []) v) (T.history tree.old)
         (T.history tree.new)) }
-    // Ok is returned only if no file was there.
+    // Ok is returned only if no file was under the name at the call.
     ensures absent { OnOk result
         (IfObservable (T.history tree.old) (λ v. v.names place.now ≡ None)) }
     // How the tree's counts explain the result.
     ensures counts { IsResultExplainedByCounts (T.counts tree.old) (T.counts tree.new) result }
 
-    // If the file may be made, no call is a misuse.
+    // No call is a misuse, if the tree's state allows that the file is made.
     ensures proper { IfObservable (T.history tree.old) (λ v. CanCreate place.now v
         → (T.counts tree.new).misuses ≡ (T.counts tree.old).misuses) }
 {
@@ -94,37 +97,39 @@ fn enter<T: Tree>(tree: &mut T, place: &Name, name: &Name) -> Result<(), Disk>
     requires place { place.now ≡ stage_name 0 }
     // The target is the intent's name.
     requires name { name.now ≡ intent_name }
-    // From a tree that is ready to publish on, each moment is one of the commit.
+    // If the durable tree is ready to publish the intent, at each moment a crash leaves an old
+    // state, or the state with all actions done.
     ensures moments { IfObservable (T.history tree.old) (λ v. (ignored : List ℕ → Bool)
         (intent : Intent) (base : Files) (made : ℕ) → IsDurable (StateDependsOn ignored) v
         → IsReadyToPublish intent base made v
         → Since (IsCommitting ignored (files_after_actions intent base) made v) (T.history tree.old)
         (T.history tree.new)) }
-    // From a durable tree: once it has returned Ok, no crash undoes the commit.
+    // If the tree was durable: once Ok is returned, each crash leaves the state with all
+    // actions done.
     ensures entered { IfObservable (T.history tree.old) (λ v. (ignored : List ℕ → Bool)
         (intent : Intent) (base : Files) (made : ℕ) → IsDurable (StateDependsOn ignored) v
         → IsReadyToPublish intent base made v → OnOk result (HoldsNow (T.history tree.new)
         (HasCommittedIntent ignored (files_after_actions intent base) made))) }
-    // Once it has returned Ok, the intent is committed, and none of its actions is done.
+    // Once Ok is returned, the intent is committed, and none of its actions is done.
     ensures acting { IfObservable (T.history tree.old) (λ v. (intent : Intent) (base : Files)
         (made : ℕ) → IsReadyToPublish intent base made v
         → OnOk result (HoldsNow (T.history tree.new)
         (IsCarryingOutActions (stage_with_actions_done intent 0)
         (files_after_actions intent base)))) }
-    // Only the intent's name and that of the staged file 0 have changed.
+    // Only the names of the intent and of the staged file 0 have changed.
     ensures names { ChangesOnlyIntentNames (T.history tree.old) (T.history tree.new) }
-    // As soon as the intent is read, recovery yields the files of the actions done.
+    // As soon as the intent is read, recovery yields the files after all its actions.
     ensures reads { IfObservable (T.history tree.old) (λ v. (intent : Intent) (base : Files)
         (made : ℕ) → IsReadyToPublish intent base made v → Since (λ w. IsSome (w.names intent_name)
         → RecoversTo (files_after_actions intent base) w) (T.history tree.old)
         (T.history tree.new)) }
-    // Once it has returned Ok, the staged file 0 is gone.
+    // Once Ok is returned, the staged file 0 is gone.
     ensures moved { OnOk result
         (IfObservable (T.history tree.new) (λ w. w.names (stage_name 0) ≡ None)) }
     // How the tree's counts explain the result.
     ensures counts { IsResultExplainedByCounts (T.counts tree.old) (T.counts tree.new) result }
 
-    // If the file may be moved, no call is a misuse.
+    // No call is a misuse, if the tree's state allows the move of the file.
     ensures proper { IfObservable (T.history tree.old) (λ v. CanRename place.now name.now v
         → (T.counts tree.new).misuses ≡ (T.counts tree.old).misuses) }
 {

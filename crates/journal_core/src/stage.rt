@@ -1,4 +1,5 @@
-//! A stage: new files wait in the staging area until one step commits all of them.
+//! `Stage`, the object that carries out a change of several files: it stages the new files, commits
+//! the intent (journal entry) in one step, and then does its actions. `journal_commit` calls it.
 //! The rules are in `docs/crash-safety.md`, "A change of several files".
 ghost use Rattle.std.specs.Prelude.{◌≡◌, ◌≤◌, ◌<◌, ◌+◌, ◌++◌, ◌∷◌, [], ◌^◌, ℕ, Bool, true, false, List, Some, None, length, IfOk, OnOk, OnErr, IsErrOf, IsSome, nat_lt};
 ghost use Rattle.journal_intent.specs.adb_schema.Soundness.{container_fault_except_contents};
@@ -30,24 +31,24 @@ use journal_intent::{PreparedIntent, WriteFault, copy_of_names};
 use std::alloc::Global;
 use std::marker::Model;
 
-/// Staged files, and the actions to be done once all files are staged: names are removed, and the
-/// staged files are moved to their names.
+/// A change of several files, and how far it is carried out. First the new files are staged. After
+/// the commit the actions are done: names are removed, and staged files are moved to their names.
 ///
-/// `begin` and `of_names` allocate all the memory that a stage needs. Each write's file is then begun, appended
-/// to and ended, in the order of the writes; `publish` commits all actions in one step; and
-/// `apply_one` and `finish` do them. After a fault a stage may only be dropped, and the root is
-/// recovered.
+/// `begin` and `of_names` allocate all the memory that a stage needs. Each write's file is then
+/// begun, appended to and ended, in the order of the writes; `publish` commits all actions in one
+/// step; and `apply_one` and `finish` do them. After a fault a stage may only be dropped, and the
+/// root is recovered.
 #[derive(Drop)]
 pub struct Stage {
     /// The intent (journal entry) of the change.
     pub(crate) intent: PreparedIntent,
-    /// How many writes have their staged files.
+    /// How many writes have a staged file that is ended, that is, complete and synced.
     pub(crate) staged: usize,
-    /// Whether the file of the next write is begun.
+    /// Whether the staged file of the next write is begun and not yet ended.
     pub(crate) is_open: bool,
-    /// Whether the intent is published.
+    /// Whether the intent is published, that is, under its final name `lib/apk/intent`.
     pub(crate) published: bool,
-    /// How many actions are done.
+    /// How many of the intent's actions are done: first the removals, then the moves.
     pub(crate) acted: usize,
 }
 
@@ -65,7 +66,7 @@ impl Model for Stage {
       acted = s.acted;
     } };
 
-    // A file is begun only for a write that is left.
+    // If a staged file is begun and not yet ended, it is that of a write whose file is not staged.
     ghost invariant = { λ s. s.is_open ≡ true → s.staged < length s.intent.writes };
 }
 
@@ -132,12 +133,14 @@ impl Stage {
         ensures intent { IfOk result (λ stage. read_intent file.items ≡ Some stage.intent) }
         // On Ok, the intent counts as committed.
         ensures published { IfOk result (λ stage. stage.published ≡ true) }
+        // On Ok, no action counts as done.
         ensures none { IfOk result (λ stage. stage.acted ≡ 0) }
         // The cause of a refusal is the first failed test of the intent's container.
         ensures bad { (cause : Cause) → IsErrOf result (RecoverFault.IntentBad cause)
             → container_fault_except_contents IntentTable file.items ≡ Some cause }
         // Ok is returned only if the intent's container passes all tests.
         ensures good { OnOk result (container_fault_except_contents IntentTable file.items ≡ None) }
+        // An I/O error is never returned, since no tree is called.
         ensures only { IsErrOf result RecoverFault.Disk → ⊥ }
     {
         let intent = PreparedIntent::of_file(alloc, file)?;
@@ -151,7 +154,7 @@ impl Stage {
         })
     }
 
-    /// Whether an action is not done yet.
+    /// Whether an action of the intent is not done yet.
     pub(crate) fn has_more(&self) -> bool
         ensures { result ≡ nat_lt self.now.acted (action_count self.now.intent) }
     {
@@ -160,10 +163,12 @@ impl Stage {
         self.acted < self.intent.removals_len() + self.intent.writes_len()
     }
 
-    /// The names of the stage's actions are free, and no write is repeated. There are fewer than
-    /// 2^63 actions, so that their number and the next one have 64 bits.
+    /// A law: the names of the stage's actions are free, and no write is repeated. There are fewer
+    /// than 2^63 actions.
     pub fn names_are_free(&self)
+        // No name belongs to the journal, no write is repeated, and no written name is removed.
         ensures free { HasFreeDistinctNames self.now.intent }
+        // The actions can be counted in 64 bits.
         ensures few { action_count self.now.intent < 2 ^ 63 }
     {
         // A law that the proof needs; it computes nothing.
@@ -181,9 +186,9 @@ impl Stage {
         self.intent.stage_name(self.staged + 1)
     }
 
-    /// The name of the staged file that is begun.
+    /// The name of the staged file that is begun and not yet ended.
     fn open_name(&self) -> &Name
-        // A staged file is begun.
+        // A staged file is begun and not yet ended.
         requires { self.now.is_open ≡ true }
         ensures { IsNextStagedName result.now self.now }
     {
@@ -192,14 +197,14 @@ impl Stage {
         self.intent.stage_name(self.staged + 1)
     }
 
-    /// Before the first file is made, the names are synced. So no crash restores the intent of an
-    /// older change, by which that file would be a staged file of its own.
+    /// Syncs all names of the tree before the stage's first file is made. So no crash restores the
+    /// intent of an older change, which would count that file as one of its own staged files.
     fn sync_before_first<T: Tree>(&self, tree: &mut T) -> Result<(), Disk>
         // From a durable tree on, each moment is durable, and the state is unchanged.
         ensures moments { IfObservable (T.history tree.old) (λ v. (ignored : List ℕ → Bool)
             → IsDurable (StateDependsOn ignored) v
             → Since (StateIsUnchanged ignored v) (T.history tree.old) (T.history tree.new)) }
-        // Once it has returned Ok, the staged files are as before, and no crash restores an intent.
+        // Once Ok is returned, the staged files are as before, and no crash restores an intent.
         ensures staged { IfObservable (T.history tree.old) (λ v. (contents : List (List ℕ))
             (base : Files) → HasStagedContents self.now contents None base v
             → OnOk result (HoldsNow (T.history tree.new)
@@ -208,7 +213,7 @@ impl Stage {
         // At each moment the files as read are unchanged.
         ensures reads { IfObservable (T.history tree.old) (λ v.
             Since (λ w. files_of w ≡ files_of v) (T.history tree.old) (T.history tree.new)) }
-        // A crash leaves each name that is not listed here as it might have left it before.
+        // At each moment a crash leaves the names as a crash at the call might have left them.
         ensures maps { IfObservable (T.history tree.old) (λ v.
             Since (KeepsCrashMapsExcept [] v) (T.history tree.old) (T.history tree.new)) }
         // How the tree's counts explain the result.
@@ -226,40 +231,42 @@ impl Stage {
 
     /// Makes an empty file for the next write.
     pub fn file_begin<T: Tree>(&mut self, tree: &mut T) -> Result<(), Disk>
-        // No staged file is begun.
+        // No staged file is begun and not yet ended.
         requires closed { self.old.is_open ≡ false }
         // A write is left whose file is not staged.
         requires more { self.old.staged < length self.old.intent.writes }
 
-        // From a durable tree on, each moment is durable, and the state is unchanged. Once it has
-        // returned Ok, an empty file is staged for the next write.
+        // If files with the bytes `contents` are staged in a durable tree, each moment is durable,
+        // and the state is unchanged.
         ensures moments { IfObservable (T.history tree.old) (λ v. (ignored : List ℕ → Bool)
             (contents : List (List ℕ)) (base : Files) → IsDurable (StateDependsOn ignored) v
             → HasStagedContents self.old contents None base v
             → Since (StateIsUnchanged ignored v) (T.history tree.old) (T.history tree.new)) }
-        // Once it has returned Ok, the staged files are as before, and the begun one is empty.
+        // Once Ok is returned, the staged files are as before, and the begun one is empty.
         ensures staged { IfObservable (T.history tree.old) (λ v. (contents : List (List ℕ))
             (base : Files) → HasStagedContents self.old contents None base v
             → OnOk result (HoldsNow (T.history tree.new)
             (HasStagedContents self.new contents (Some []) base))) }
 
-        // At each moment, whatever it returns, the files as read are unchanged under every other
-        // name, and so is what a crash leaves of the names.
+        // At each moment, whatever is returned, the files as read are unchanged under every name
+        // except that of the new staged file.
         ensures others { IfObservable (T.history tree.old) (λ v.
             Since (KeepsFilesExcept (λ q. q ≡ stage_name (self.old.staged + 1)) v)
             (T.history tree.old) (T.history tree.new)) }
-        // A crash leaves each name that is not listed here as it might have left it before.
+        // At each moment a crash leaves every name except that of the new staged file as a crash at
+        // the call might have left it.
         ensures maps { IfObservable (T.history tree.old) (λ v.
             Since (KeepsCrashMapsExcept (stage_name (self.old.staged + 1) ∷ []) v)
             (T.history tree.old) (T.history tree.new)) }
-        // How the stage changes on Ok.
+        // On Ok, the stage has a staged file that is begun and not yet ended; nothing else changes.
         ensures view { OnOk result (self.new ≡ record self.old { is_open = true }) }
         // An error leaves the stage as it was.
         ensures err { OnErr result (self.new ≡ self.old) }
         // How the tree's counts explain the result.
         ensures counts { IsResultExplainedByCounts (T.counts tree.old) (T.counts tree.new) result }
 
-        // If the paths of the stage are free, no call is a misuse.
+        // No call is a misuse, if nothing was staged when the staging began (`base`), and the paths
+        // of the intent and of the staged files were free.
         ensures proper { IfObservable (T.history tree.old) (λ v. (contents : List (List ℕ))
             (base : Files) → HasStagedContents self.old contents None base v
             → AreStagingPathsFree base
@@ -271,35 +278,35 @@ impl Stage {
         Ok(())
     }
 
-    /// Adds bytes to the file that is begun.
+    /// Adds bytes at the end of the staged file that is begun and not yet ended.
     pub fn file_append<T: Tree>(&mut self, tree: &mut T, piece: &[u8]) -> Result<(), Disk>
-        // A staged file is begun.
+        // A staged file is begun and not yet ended.
         requires { self.old.is_open ≡ true }
 
-        // From a durable tree on, each moment is durable, and the state is unchanged. Once it has
-        // returned Ok, the piece is added to the bytes so far.
+        // If the staged file that is begun has the bytes `so_far` in a durable tree, each moment is
+        // durable, and the state is unchanged.
         ensures moments { IfObservable (T.history tree.old) (λ v. (ignored : List ℕ → Bool)
             (contents : List (List ℕ)) (so_far : List ℕ) (base : Files)
             → IsDurable (StateDependsOn ignored) v
             → HasStagedContents self.old contents (Some so_far) base v
             → Since (StateIsUnchanged ignored v) (T.history tree.old) (T.history tree.new)) }
-        // Once it has returned Ok, the begun file has the bytes so far and then these.
+        // Once Ok is returned, the begun file has the bytes `so_far`, followed by the piece.
         ensures staged { IfObservable (T.history tree.old) (λ v. (contents : List (List ℕ))
             (so_far : List ℕ) (base : Files)
             → HasStagedContents self.old contents (Some so_far) base v
             → OnOk result (HoldsNow (T.history tree.new)
             (HasStagedContents self.new contents (Some (so_far ++ piece.now)) base))) }
 
-        // If the file is under no other name, the files as read are unchanged under each, at each
-        // moment; and no name changes.
+        // If the begun file is under no other name, the files as read are unchanged, at each
+        // moment, under every name except its own.
         ensures others { IfObservable (T.history tree.old) (λ v.
             IsOnlyNameOfFile (stage_name (self.old.staged + 1)) v
             → Since (KeepsFilesExcept (λ q. q ≡ stage_name (self.old.staged + 1)) v)
             (T.history tree.old) (T.history tree.new)) }
-        // A crash leaves each name that is not listed here as it might have left it before.
+        // At each moment a crash leaves the names as a crash at the call might have left them.
         ensures maps { IfObservable (T.history tree.old) (λ v.
             Since (KeepsCrashMapsExcept [] v) (T.history tree.old) (T.history tree.new)) }
-        // How the stage changes on Ok.
+        // On Ok, the stage is as it was.
         ensures view { OnOk result (self.new ≡ self.old) }
         // An error leaves the stage as it was.
         ensures err { OnErr result (self.new ≡ self.old) }
@@ -315,33 +322,32 @@ impl Stage {
         append(tree, self.open_name(), piece)
     }
 
-    /// Ends the file that is begun: its bytes are made durable.
+    /// Ends the staged file that is begun: its bytes are synced, so that no crash changes them.
     pub fn file_end<T: Tree>(&mut self, tree: &mut T) -> Result<(), Disk>
-        // A staged file is begun.
+        // A staged file is begun and not yet ended.
         requires { self.old.is_open ≡ true }
 
-        // From a durable tree on, each moment is durable, and the state is unchanged. Once it has
-        // returned Ok, the bytes so far are staged for this write, synced.
+        // If the staged file that is begun has the bytes `so_far` in a durable tree, each moment is
+        // durable, and the state is unchanged.
         ensures moments { IfObservable (T.history tree.old) (λ v. (ignored : List ℕ → Bool)
             (contents : List (List ℕ)) (so_far : List ℕ) (base : Files)
             → IsDurable (StateDependsOn ignored) v
             → HasStagedContents self.old contents (Some so_far) base v
             → Since (StateIsUnchanged ignored v) (T.history tree.old) (T.history tree.new)) }
-        // Once it has returned Ok, the begun file is one of the staged files.
+        // Once Ok is returned, the begun file is ended: it is the last of the staged files.
         ensures staged { IfObservable (T.history tree.old) (λ v. (contents : List (List ℕ))
             (so_far : List ℕ) (base : Files)
             → HasStagedContents self.old contents (Some so_far) base v
             → OnOk result (HoldsNow (T.history tree.new)
             (HasStagedContents self.new (contents ++ so_far ∷ []) None base))) }
 
-        // At each moment, whatever it returns, the files as read are unchanged, and no name
-        // changes.
+        // At each moment, whatever is returned, the files as read are unchanged.
         ensures others { IfObservable (T.history tree.old) (λ v.
             Since (λ w. files_of w ≡ files_of v) (T.history tree.old) (T.history tree.new)) }
-        // A crash leaves each name that is not listed here as it might have left it before.
+        // At each moment a crash leaves the names as a crash at the call might have left them.
         ensures maps { IfObservable (T.history tree.old) (λ v.
             Since (KeepsCrashMapsExcept [] v) (T.history tree.old) (T.history tree.new)) }
-        // How the stage changes on Ok.
+        // On Ok, one more write has its staged file, and no staged file is begun.
         ensures view { OnOk result
             (self.new ≡ record self.old { staged = self.old.staged + 1; is_open = false }) }
         // An error leaves the stage as it was.
@@ -361,31 +367,32 @@ impl Stage {
         Ok(())
     }
 
-    /// The commit, which cannot be taken back: the intent is written as a staged file of its own,
-    /// and moved to its name. No action is done yet.
+    /// Publishes (commits) the intent: it is written as the staged file 0, and moved to its name
+    /// `lib/apk/intent`. No action of the intent is done yet.
     pub fn publish<T: Tree>(&mut self, tree: &mut T) -> Result<(), Disk>
-        // No staged file is begun.
+        // No staged file is begun and not yet ended.
         requires closed { self.old.is_open ≡ false }
         // All writes have their staged files.
         requires all { self.old.staged ≡ length self.old.intent.writes }
 
-        // At each moment a crash leaves an old state or the one with all actions done; once it has
-        // returned Ok, it leaves the latter.
+        // At each moment a crash leaves an old state or the state with all actions done. Once
+        // Ok is returned, each crash leaves the state with all actions done.
         ensures publishing { PublishesIntent self.old (T.history tree.old)
             (T.history tree.new) result }
-        // Once it has returned Ok, the intent is committed, and none of its actions is done.
+        // Once Ok is returned, the intent is committed, and none of its actions is done.
         ensures acting { IfObservable (T.history tree.old) (λ v. (contents : List (List ℕ))
             (base : Files) → HasStagedContents self.old contents None base v
             → OnOk result (HoldsNow (T.history tree.new)
             (IsCarryingOutActions self.new (files_after_actions self.old.intent (files_of v))))) }
-        // How the stage changes on Ok.
+        // On Ok, the stage's intent counts as published, and no action counts as done.
         ensures view { OnOk result (self.new ≡ record self.old { published = true; acted = 0 }) }
         // An error leaves the stage as it was.
         ensures err { OnErr result (self.new ≡ self.old) }
         // How the tree's counts explain the result.
         ensures counts { IsResultExplainedByCounts (T.counts tree.old) (T.counts tree.new) result }
 
-        // If the paths of the stage are free, no call is a misuse.
+        // No call is a misuse, if nothing was staged when the staging began (`base`), and the paths
+        // of the intent and of the staged files were free.
         ensures proper { IfObservable (T.history tree.old) (λ v. (contents : List (List ℕ))
             (base : Files) → HasStagedContents self.old contents None base v
             → AreStagingPathsFree base
@@ -397,15 +404,16 @@ impl Stage {
         Ok(())
     }
 
-    /// Does the next action; returns true exactly if one was left.
+    /// Does the next action of the intent. Returns true exactly if an action was left.
     pub fn apply_one<T: Tree>(&mut self, tree: &mut T) -> Result<bool, Disk>
         // The intent is committed.
         requires { self.old.published ≡ true }
 
-        // The state is unchanged at each moment. Once it has returned Ok, the stage's count of
-        // actions done is true of the tree.
+        // If the actions that the stage counts as done are done in the tree, the state is unchanged
+        // at each moment, and recovery yields the same files.
         ensures actions { CarriesOutActions self.old (T.history tree.old) (T.history tree.new) }
-        // Once it has returned Ok, the count of actions done is true of the tree again.
+        // Once Ok is returned, all actions that the stage counts as done are done in the tree,
+        // and recovery yields the same files as at the call.
         ensures acting { IfObservable (T.history tree.old) (λ v. (files : Files)
             → IsCarryingOutActions self.old files v
             → OnOk result (HoldsNow (T.history tree.new) (IsCarryingOutActions self.new files))) }
@@ -414,12 +422,12 @@ impl Stage {
         ensures waiting { IfObservable (T.history tree.old) (λ v.
             Since (KeepsIntentWhileStageShrinks v) (T.history tree.old) (T.history tree.new)) }
 
-        // Whatever it returns, it changes only the names of its action.
+        // Whatever is returned, in the newest state only the names of its action have changed: the
+        // removed name, or the written name and that of its staged file.
         ensures others { IfObservable (T.history tree.old) (λ v. HoldsNow (T.history tree.new)
             (KeepsFilesExcept (IsNameOfNextAction self.old.intent self.old.acted) v)) }
 
-        // True is returned exactly if an action was left, which then counts as done; if none was
-        // left, no call is made. A call that fails leaves the stage as it was.
+        // On Ok, true is returned exactly if an action was left at the call.
         ensures answer { IfOk result
             (λ was_left. was_left ≡ nat_lt self.old.acted (action_count self.old.intent)) }
         // If an action is left, Ok counts one more action as done.
@@ -433,8 +441,8 @@ impl Stage {
         // How the tree's counts explain the result.
         ensures counts { IsResultExplainedByCounts (T.counts tree.old) (T.counts tree.new) result }
 
-        // If the intent and the staged files have free paths beside the files of the actions done,
-        // no call is a misuse.
+        // No call is a misuse, if the paths of the intent and of the staged files are free among
+        // `files`, which recovery yields.
         ensures proper { IfObservable (T.history tree.old) (λ v. (files : Files)
             → IsCarryingOutActions self.old files v → AreJournalPathsFree files
             → (T.counts tree.new).misuses ≡ (T.counts tree.old).misuses) }
@@ -445,56 +453,56 @@ impl Stage {
         Ok(was_left)
     }
 
-    /// After the last action: makes the names durable, and removes the intent.
+    /// Makes all changes of names durable after the last action, and then removes the intent.
     pub fn finish<T: Tree>(&mut self, tree: &mut T) -> Result<(), Disk>
         // The intent is committed.
         requires published { self.old.published ≡ true }
         // All actions are done.
         requires all { self.old.acted ≡ action_count self.old.intent }
 
-        // From a durable tree on, each moment is durable, and the state is unchanged. Once it has
-        // returned Ok, each crash leaves the state of the actions done, the files as read are
-        // these, and no intent is read.
+        // If the tree is durable and the stage's actions are done in it, each moment is durable,
+        // and the state is unchanged.
         ensures moments { IfObservable (T.history tree.old) (λ v. (ignored : List ℕ → Bool)
             (files : Files) → IsDurable (StateDependsOn ignored) v
             → IsCarryingOutActions self.old files v
             → Since (StateIsUnchanged ignored v) (T.history tree.old) (T.history tree.new)) }
-        // Once it has returned Ok, each crash leaves the state of the actions done.
+        // Once Ok is returned, each crash leaves the state of the actions done.
         ensures settled { IfObservable (T.history tree.old) (λ v. (ignored : List ℕ → Bool)
             (files : Files) → IsDurable (StateDependsOn ignored) v
             → IsCarryingOutActions self.old files v
             → OnOk result (HoldsNow (T.history tree.new) (EachCrashLeavesStateOf ignored files))) }
-        // Once it has returned Ok, the files as read have all actions done, and no intent is read.
+        // Once Ok is returned, the files as read are those that recovery yielded at the call
+        // (`files`), and no intent is read.
         ensures files { IfObservable (T.history tree.old) (λ v. (files : Files)
             → IsCarryingOutActions self.old files v → OnOk result (HoldsNow (T.history tree.new)
             (λ w. (files_of w ≡ files) × (w.names intent_name ≡ None)))) }
 
-        // Whether the tree is durable or not, recovery of the files as read yields the same at each
-        // moment.
+        // Whether the tree is durable or not, recovery of the files as read yields the same files
+        // at each moment.
         ensures reads { IfObservable (T.history tree.old) (λ v. (files : Files)
             → IsCarryingOutActions self.old files v
             → Since (RecoversTo files) (T.history tree.old) (T.history tree.new)) }
 
-        // As soon as no intent is read, every other change of names is durable; and once it has
-        // returned Ok, no crash restores the intent.
+        // If an intent is read at the call: as soon as none is read, no crash undoes a change of
+        // another name than the intent's.
         ensures last { IfObservable (T.history tree.old) (λ v. IsSome (v.names intent_name)
             → Since (λ w. w.names intent_name ≡ None → NamesAreDurableExcept (intent_name ∷ []) w)
             (T.history tree.old) (T.history tree.new)) }
-        // Once it has returned Ok, no crash restores the intent.
+        // Once Ok is returned, no crash restores the intent.
         ensures gone { OnOk result (IfObservable (T.history tree.new)
             (IsRestoredByNoCrash intent_name)) }
 
-        // At each moment the intent and the staged files are unchanged or gone, and no other name
-        // has changed; the stage is unchanged, whatever it returns.
+        // At each moment the intent and each staged file are unchanged or gone.
         ensures waiting { IfObservable (T.history tree.old) (λ v.
             Since (JournalOnlyShrinks v) (T.history tree.old) (T.history tree.new)) }
-        // In the newest state, each file except the intent's is unchanged.
+        // In the newest state, the file as read under each name except the intent's is unchanged.
         ensures others { IfObservable (T.history tree.old) (λ v. HoldsNow (T.history tree.new)
             (KeepsFilesExcept (λ q. q ≡ intent_name) v)) }
-        // At each moment, each file except the intent's is unchanged.
+        // At each moment, the file as read under each name except the intent's is unchanged.
         ensures shown { IfObservable (T.history tree.old) (λ v.
             Since (KeepsFilesExcept (λ q. q ≡ intent_name) v)
             (T.history tree.old) (T.history tree.new)) }
+        // The stage is unchanged, whatever is returned.
         ensures view { self.new ≡ self.old }
         // How the tree's counts explain the result.
         ensures counts { IsResultExplainedByCounts (T.counts tree.old) (T.counts tree.new) result }
@@ -509,31 +517,33 @@ impl Stage {
     }
 }
 
-/// Does all actions of a published stage that are left. The clauses are those of `apply_one`, for
-/// all of them.
+/// Does all actions that are left of a stage whose intent is published. The clauses are those of
+/// `Stage::apply_one`, for all these actions.
 pub fn apply_all<T: Tree>(stage: &mut Stage, tree: &mut T) -> Result<(), Disk>
     // The intent is committed.
     requires published { stage.old.published ≡ true }
     // No more actions count as done than there are.
     requires within { stage.old.acted ≤ action_count stage.old.intent }
-    // If the actions that are counted are done at the start, the state is unchanged at each moment.
+    // If the actions that the stage counts as done are done in the tree, the state is unchanged at
+    // each moment, and recovery yields the same files.
     ensures actions { CarriesOutActions stage.old (T.history tree.old) (T.history tree.new) }
-    // Once it has returned Ok, the count of actions done is true of the tree again.
+    // Once Ok is returned, all actions that the stage counts as done are done in the tree, and
+    // recovery yields the same files as at the call.
     ensures acting { IfObservable (T.history tree.old) (λ v. (files : Files)
         → IsCarryingOutActions stage.old files v
         → OnOk result (HoldsNow (T.history tree.new) (IsCarryingOutActions stage.new files))) }
     // At each moment the intent is unchanged, and each staged file is unchanged or gone.
     ensures waiting { IfObservable (T.history tree.old) (λ v.
         Since (KeepsIntentWhileStageShrinks v) (T.history tree.old) (T.history tree.new)) }
-    // Once it has returned Ok, all actions are done.
+    // On Ok, all actions of the intent count as done.
     ensures all { OnOk result (stage.new.acted ≡ action_count stage.new.intent) }
     // On Ok, the intent still counts as committed.
     ensures published { OnOk result (stage.new.published ≡ true) }
     // How the tree's counts explain the result.
     ensures counts { IsResultExplainedByCounts (T.counts tree.old) (T.counts tree.new) result }
 
-    // If the intent and the staged files have free paths beside the files of the actions done, no
-    // call is a misuse.
+    // No call is a misuse, if the paths of the intent and of the staged files are free among
+    // `files`, which recovery yields.
     ensures proper { IfObservable (T.history tree.old) (λ v. (files : Files)
         → IsCarryingOutActions stage.old files v → AreJournalPathsFree files
         → (T.counts tree.new).misuses ≡ (T.counts tree.old).misuses) }

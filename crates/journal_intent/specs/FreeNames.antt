@@ -9,22 +9,24 @@ use Rattle.adb_view.specs.Values.{text_in}
 use Rattle.adb_view.specs.Plain.{Plains, none, more}
 use Rattle.journal_intent.specs.Intent.{Intent, intent_name, is_staged, stage_name}
 
--- the name is one of these
+-- the name is an element of the list
 abbrev pub IsOneOf : List ℕ → List (List ℕ) → Type 0
 IsOneOf name names = list_any (bytes_eq name) names ≡ true
 
--- the name is none of these
+-- the name is no element of the list
 abbrev pub IsNoneOf : List ℕ → List (List ℕ) → Type 0
 IsNoneOf name names = list_any (bytes_eq name) names ≡ false
 
--- a free name: it is neither the intent's own nor in the staging area. So it is no name of a staged
--- file either
+-- a free name, which the journal does not use: it is neither the intent's own nor in the staging area
 pub record IsFreeName (name : List ℕ) : Type 0 where
+  -- the name is not the intent's
   pub no_intent : name ≢ intent_name
+  -- the name is not in the staging area
   pub unstaged : is_staged name ≡ false
+  -- the name is not that of a staged file, whatever its number
   pub no_place : (k : ℕ) → name ≢ stage_name k
 
--- a name that the journal uses: the intent's own, or that of a staged file
+-- a name that the journal uses: the intent's own, or that of a staged file with some number
 abbrev pub IsUsedByJournal : List ℕ → Type 0
 IsUsedByJournal name = (name ≡ intent_name) ⊎ ((k : ℕ) × (name ≡ stage_name k))
 
@@ -38,21 +40,24 @@ abbrev pub HaveNoRepeats : List (List ℕ) → Type 0
 HaveNoRepeats [] = Unit {0}
 HaveNoRepeats (name ∷ names) = IsNoneOf name names × HaveNoRepeats names
 
--- the names of an intent are free, no write is repeated, and no name is both written and removed
+-- the names of an intent are free, no written name is repeated, and no name is both written and removed; a removed
+-- name may be repeated
 pub record HasFreeDistinctNames (intent : Intent) : Type 0 where
+  -- no removed name is used by the journal
   pub removals : AreFreeNames intent.removals
+  -- no written name is used by the journal
   pub writes : AreFreeNames intent.writes
   -- no name is written twice
   pub once : HaveNoRepeats intent.writes
   -- no name is both written and removed
   pub apart : (name : List ℕ) → IsOneOf name intent.writes → IsNoneOf name intent.removals
 
--- the names of this many staged files, from number k on
+-- the names of the staged files from the number k on, as many as the second argument says
 abbrev pub stage_names_from : ℕ → ℕ → List (List ℕ)
 stage_names_from k zero = []
 stage_names_from k (suc n) = stage_name k ∷ stage_names_from (k + 1) n
 
--- each of these values is a text that is a name
+-- each of these plain values is a text that is a valid name of a tree
 abbrev pub AllAreNames : Plains → Type 0
 AllAreNames none = Unit {0}
 AllAreNames (more v vs) = IsName (text_in v) × AllAreNames vs

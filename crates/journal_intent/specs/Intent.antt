@@ -16,15 +16,15 @@ use Rattle.adb_view.specs.declared.tables.Which.TheVariants.{Intent as IntentTab
 
 -- ---- names
 
--- the name of the intent, the journal entry that says what a change has still to do
+-- the name of the file of the intent, the journal entry that lists all removals and moves of a change
 abbrev pub intent_name : List ℕ
 intent_name = codes "lib/apk/intent"
 
--- the folder of the staging area, in which new files wait to be moved to their names
+-- the folder of the staging area, from which new files are moved to their final names
 abbrev pub stage_folder : List ℕ
 stage_folder = codes "lib/apk/stage"
 
--- whether a name is in the staging area
+-- whether a name is in the staging area, that is, below its folder
 abbrev pub is_staged : List ℕ → Bool
 is_staged name = starts_with nat_eq name (stage_folder ++ codes "/")
 
@@ -34,31 +34,34 @@ stage_name k = stage_folder ++ (codes "/" ++ decimal k)
 
 -- ---- the intent
 
--- an intent: the names to be removed, and the names to be written, whose new files are staged as number
--- 1, 2, and so on
+-- an intent: the actions of a change
 pub record Intent : Type 0 where
+  -- the names to be removed
   pub removals : List (List ℕ)
+  -- the names to be written; their new files are staged with the numbers 1, 2 and so on, in this order
   pub writes : List (List ℕ)
 
--- the two lists of an intent container's plain value
+-- the intent whose two lists are in this plain value of an intent container
 abbrev pub intent_of_value : Plain → Intent
 intent_of_value v = record {
   removals = map text_in (entries_at INTENT_REMOVALS v);
   writes = map text_in (entries_at INTENT_WRITES v);
 }
 
--- the intent of a plain value; None if a test of its container failed, for this cause
+-- the intent of a plain value, unless a test of the value's container failed; the option has the cause of a failure
 abbrev pub intent_unless_fault : Option Cause → Plain → Option Intent
 intent_unless_fault None v = Some (intent_of_value v)
 intent_unless_fault (Some cause) v = None
 
--- the intent that a file's bytes encode, or none if they are no intent container
+-- the intent that the bytes of a file encode; None if they are no intent container
 unfoldable pub read_intent : List ℕ → Option Intent
 read_intent file = intent_unless_fault (container_fault_except_contents IntentTable file)
     (root_value IntentTable (payload_in file))
 
--- the names of a change: each is one that a change may have, which excludes the intent's and those in
--- the staging area, and none is repeated
+-- the names of a change, removed and written ones, can be those of an intent: each is allowed, which excludes the
+-- intent's and those in the staging area, and none is repeated
 pub record AreDistinctNamesAllowedInIntent (names : List (List ℕ)) : Type 0 where
+  -- each name is allowed in an intent
   pub each : All (λ name. is_name_allowed_in_intent name ≡ true) names
+  -- no name is repeated
   pub once : AllPairs (λ a b. bytes_eq a b ≡ false) names

@@ -1,5 +1,5 @@
-//! An intent is written as a container, and read back. The rules are in `docs/formats.md`,
-//! "Schemas", table 10, and "Canonical layout".
+//! Writes an intent as a container, for `PreparedIntent`; a law says that it is read back. The
+//! rules are in `docs/formats.md`, "Schemas", table 10, and "Canonical layout".
 ghost use Rattle.std.specs.Prelude.{◌≡◌, ◌++◌, ◌<◌, ◌+◌, ◌^◌, ℕ, List, Some, None, length, IfOk, OnOk, IsErrOf};
 ghost use Rattle.adb_sound.specs.adb_schema.declared.read.TheConstants.{INTENT_WORD};
 ghost use Rattle.adb_values.specs.Drafts.{draft_with};
@@ -20,7 +20,7 @@ use adb_write::{WriteFault, a_file_is_spelled, a_value_overflows_exactly_past_a_
 use base_core::Names;
 use std::alloc::{AllocError, Global};
 
-/// The container of an intent with these actions.
+/// The file of an intent with these removals and writes: a container that encodes it.
 ///
 /// # Errors
 ///
@@ -30,19 +30,24 @@ pub(crate) fn intent_file(
     removals: &Names,
     writes: &Names,
 ) -> Result<Vec<u8>, WriteFault>
+    // The names are allowed in an intent, and none is repeated.
     requires { AreDistinctNamesAllowedInIntent (removals.now ++ writes.now) }
+    // On Ok, the file is read as the intent of these lists.
     ensures spelled { IfOk result
         (λ file. read_intent file.items ≡ Some (intent_of_lists removals.now writes.now)) }
+    // The error for a payload that is too large has the counts at which a limit is exceeded.
     ensures large { (bytes values : ℕ) → IsErrOf result (WriteFault.TooLarge bytes values)
         → overflow_of (value_of_intent (intent_of_lists removals.now writes.now))
         ≡ Some (bytes, values) }
+    // Ok is returned only if the payload exceeds no limit.
     ensures fits { OnOk result
         (overflow_of (value_of_intent (intent_of_lists removals.now writes.now)) ≡ None) }
-    // The number of names, and the next number, have 64 bits.
+    // The intent has fewer than 2^63 names, so that they can be counted in 64 bits.
     ensures few { OnOk result (length removals.now + length writes.now < 2 ^ 63) }
 {
     // A law that the proof needs; it computes nothing.
     an_intent_is_read_back();
+    // The payload is an object of two arrays: the removals, then the writes.
     let mut draft = Draft::new(alloc);
     draft.open_list()?;
     write_names(&mut draft, removals)?;
@@ -53,15 +58,18 @@ pub(crate) fn intent_file(
     Ok(file)
 }
 
-/// The container of an intent's canonical payload is read as this intent, and the intent has fewer
-/// than 2^63 names.
+/// A law: the container of the canonical payload of an intent is read as this intent, and the
+/// intent has fewer than 2^63 names.
 fn an_intent_is_read_back()
+    // If the names are allowed, and the payload exceeds no limit, the container is read as the
+    // intent of these lists.
     ensures read { (removals writes : List (List ℕ))
         → AreDistinctNamesAllowedInIntent (removals ++ writes)
         → overflow_of (value_of_intent (intent_of_lists removals writes)) ≡ None
         → read_intent
         (file_of INTENT_WORD (canonical (value_of_intent (intent_of_lists removals writes))))
         ≡ Some (intent_of_lists removals writes) }
+    // If the payload exceeds no limit, the intent has fewer than 2^63 names.
     ensures few { (removals writes : List (List ℕ))
         → overflow_of (value_of_intent (intent_of_lists removals writes)) ≡ None
         → length removals + length writes < 2 ^ 63 }
@@ -70,15 +78,16 @@ fn an_intent_is_read_back()
     a_file_is_spelled();
     what_is_spelled_is_read();
     a_value_overflows_exactly_past_a_limit();
-    // Laws that the proof needs; they compute nothing.
+    // Laws that say that the container passes all tests, and that its values are read back.
     no_text_is_bad_where_each_keeps_its_rule();
     no_repeated_name_is_reported_if_there_is_none();
     a_container_of_a_good_value_is_sound();
     what_a_container_is_made_of_is_read_back();
 }
 
-/// Writes names into a draft, as an array of texts.
+/// Writes the names into the draft of a payload, as an array of texts.
 fn write_names(draft: &mut Draft, names: &Names) -> Result<(), AllocError>
+    // On Ok, the draft has this array as a further value.
     ensures { OnOk result
         (draft.new ≡ draft_with (array_or_null (plains_of_texts names.now)) draft.old) }
 {
@@ -89,8 +98,9 @@ fn write_names(draft: &mut Draft, names: &Names) -> Result<(), AllocError>
     draft.close_array()
 }
 
-/// A copy of names.
+/// A copy of the list of names and of each name in it.
 pub fn copy_of_names(alloc: Global, names: &Names) -> Result<Names, AllocError>
+    // On Ok, the copy has the same names.
     ensures { IfOk result (λ copy. copy ≡ names.now) }
 {
     let mut copy = Names::new(alloc);

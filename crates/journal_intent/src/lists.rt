@@ -1,4 +1,4 @@
-//! Reads the lists of an intent from its container.
+//! Reads the two lists of an intent from its container, for `PreparedIntent`.
 //! The rules are in `docs/formats.md`, "Schemas", table 10, and "Tests of a container".
 ghost use Rattle.std.specs.Prelude.{◌≡◌, ◌<◌, ◌+◌, ◌^◌, Some, None, length, map, IfOk, IfErr, OnOk};
 ghost use Rattle.adb_sound.specs.adb_fields.ListValue.{list_value};
@@ -15,7 +15,7 @@ use adb_schema::{List, ReadFault, Which, read_adb, sound_containers_hold_sound_v
 use base_core::{Name, Names};
 use std::alloc::{AllocError, Global};
 
-/// The two lists of an intent.
+/// The two lists of an intent, as they are read from its container.
 #[derive(Drop)]
 pub(crate) struct IntentLists {
     /// The names to be removed.
@@ -24,18 +24,21 @@ pub(crate) struct IntentLists {
     pub(crate) writes: Names,
 }
 
-/// The two lists of an intent's container.
+/// The two lists of the intent that the container `file` encodes.
 ///
 /// # Errors
 ///
 /// `Bad` exactly if the file is no intent container, with the first test that failed; or `Memory`.
 pub(crate) fn read_lists(alloc: Global, file: &[u8]) -> Result<IntentLists, ReadFault>
+    // On Ok, the file is read as the intent of these lists.
     ensures intent { IfOk result
         (λ lists. read_intent file.now ≡ Some (intent_of_lists lists.removals lists.writes)) }
-    // The number of names, and the next number, have 64 bits.
+    // The intent has fewer than 2^63 names, so that they can be counted in 64 bits.
     ensures few { IfOk result (λ lists. length lists.removals + length lists.writes < 2 ^ 63) }
+    // An error reports the first failed test of the container, or a lack of memory.
     ensures bad { IfErr result (λ fault. IsReadFault fault
         (container_fault_except_contents IntentTable file.now)) }
+    // Ok is returned only if the container passes all tests.
     ensures good { OnOk result (container_fault_except_contents IntentTable file.now ≡ None) }
 {
     // A law that the proof needs; it computes nothing.
@@ -47,9 +50,11 @@ pub(crate) fn read_lists(alloc: Global, file: &[u8]) -> Result<IntentLists, Read
     Ok(IntentLists { removals, writes })
 }
 
-/// The names in a list of texts, each of which is a name.
+/// The texts of a list of a payload, each of which is a name, as names.
 fn names_in<'a>(alloc: Global, list: List<'a, &'a [u8]>) -> Result<Names, AllocError>
+    // Each text of the list is a name.
     requires { AllAreNames (entries_in (list_value list)) }
+    // On Ok, the names are the texts of the list, in its order.
     ensures value { IfOk result
         (λ names. names ≡ map text_in (list_of (entries_in (list_value list.entry)))) }
     // A list of a payload counts its entries in 32 bits.

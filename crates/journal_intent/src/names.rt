@@ -1,5 +1,5 @@
-//! The fixed names of a change: those of the intent, of the staging area's folder, and of the
-//! staged files. Laws say what follows for them and for an intent that is read.
+//! The fixed names of the journal: those of the intent, of the staging area's folder, and of the
+//! staged files. Laws say how these names differ, and which names an intent may have.
 //! The rules are in `docs/crash-safety.md`, "A change of several files", the table of names; the
 //! law of free names in `docs/formats.md`, "The texts" and "Names that stand twice".
 
@@ -19,6 +19,7 @@ use std::alloc::{AllocError, Global};
 
 /// The name of the intent, `lib/apk/intent`.
 pub fn intent_name(alloc: Global) -> Result<Name, AllocError>
+    // On Ok, the name is that of the intent.
     ensures { IfOk result (λ name. name ≡ intent_name) }
 {
     Name::of(alloc, b"lib/apk/intent")
@@ -26,13 +27,15 @@ pub fn intent_name(alloc: Global) -> Result<Name, AllocError>
 
 /// The folder of the staging area, `lib/apk/stage`.
 pub fn stage_folder(alloc: Global) -> Result<Name, AllocError>
+    // On Ok, the name is that of this folder.
     ensures { IfOk result (λ name. name ≡ stage_folder) }
 {
     Name::of(alloc, b"lib/apk/stage")
 }
 
-/// The names of this many staged files, from number 0 on.
+/// The names of the staged files with the numbers below `count`: 0, 1 and so on.
 pub(crate) fn stage_names(alloc: Global, count: usize) -> Result<Names, AllocError>
+    // On Ok, these are the names, in the order of the numbers.
     ensures { IfOk result (λ names. names ≡ stage_names_from 0 count) }
 {
     let mut names = Names::new(alloc);
@@ -42,40 +45,47 @@ pub(crate) fn stage_names(alloc: Global, count: usize) -> Result<Names, AllocErr
     Ok(names)
 }
 
-/// The name of the staged file with this number.
+/// The name of the staged file with the number `k`: `lib/apk/stage/` and the number.
 fn stage_name(alloc: Global, k: usize) -> Result<Name, AllocError>
+    // On Ok, the name is that of this staged file.
     ensures { IfOk result (λ name. name ≡ stage_name k) }
 {
     let text = format!(in alloc; "lib/apk/stage/{k}")?;
     Name::of(alloc, text.as_bytes())
 }
 
-/// An intent is read from a container that passes all tests, and from no other bytes.
+/// A law: an intent is read from a container that passes all tests, and from no other bytes.
 pub fn an_intent_is_read_from_a_sound_container()
+    // If the container passes all tests, the intent of its value is read.
     ensures sound { (file : List ℕ) → container_fault_except_contents IntentTable file ≡ None
         → read_intent file ≡ Some (intent_of_value (root_value IntentTable (payload_in file))) }
+    // If a test of the container fails, no intent is read.
     ensures other { (file : List ℕ) (cause : Cause)
         → container_fault_except_contents IntentTable file ≡ Some cause
         → read_intent file ≡ None }
 {}
 
-/// The staged files of an intent's actions are in the staging area, each under a name of its own.
+/// A law: staged files with different numbers have different names, which are valid names in the
+/// staging area, and not the intent's.
 pub fn each_staged_file_has_its_own_name()
-    // The numbers are those of the program, of 64 bits.
+    // Numbers of 64 bits that give the same name are equal.
     ensures apart { (j k : ℕ) → j < 2 ^ 64 → k < 2 ^ 64 → stage_name j ≡ stage_name k → j ≡ k }
+    // Each such name is in the staging area.
     ensures staged { (k : ℕ) → is_staged (stage_name k) ≡ true }
+    // No such name is the intent's.
     ensures no_intent { (k : ℕ) → stage_name k ≢ intent_name }
+    // Each such name is a valid name of a tree.
     ensures named { (k : ℕ) → is_name (stage_name k) ≡ true }
 {}
 
-/// The intent and the staged files can exist together: none has a name that is a folder of
-/// another's.
+/// A law: the intent and the staged files can exist together, since the name of none of them is a
+/// folder of another's name.
 pub fn no_name_of_the_journal_is_a_folder_of_another()
     ensures { (p q : List ℕ) → IsUsedByJournal p → IsUsedByJournal q → IsFolderOf p q → ⊥ }
 {}
 
-/// An intent that is read has names that a change may have: none is the intent's own name or that
-/// of a staged file, no write is repeated, and no written name is removed.
+/// A law: an intent that is read from a file has free names. None is the intent's own name or in
+/// the staging area, no write is repeated, and no written name is removed.
 pub fn a_read_intent_has_free_names()
     ensures { (file : List ℕ) (intent : Intent) → read_intent file ≡ Some intent
         → HasFreeDistinctNames intent }
@@ -84,7 +94,8 @@ pub fn a_read_intent_has_free_names()
     sound_containers_hold_sound_values();
 }
 
-/// The names of a planned change are free, no write is repeated, and no written name is removed.
+/// A law: if the names of two lists are allowed in an intent and none is repeated, the intent of
+/// these lists has free names, no write is repeated, and no written name is removed.
 pub fn the_names_of_a_change_are_free()
     ensures { (removals writes : List (List ℕ)) → AreDistinctNamesAllowedInIntent (removals
         ++ writes)

@@ -1,5 +1,6 @@
-//! An intent with all the memory that its actions need. The rules are in `docs/crash-safety.md`, "A
-//! change of several files": memory is allocated when a stage begins, and never later.
+//! `PreparedIntent`, an intent with all the memory that its actions need; the type `Stage` of
+//! `journal_core` uses it. The rules are in `docs/crash-safety.md`, "A change of several files":
+//! memory is allocated when a stage begins, and never later.
 ghost use Rattle.std.specs.Prelude.{◌≡◌, ◌++◌, ◌≤◌, ◌<◌, ◌+◌, ◌^◌, ℕ, List, Some, None, length, slice_get, IfOk, IfErr, OnOk, IsErrOf};
 ghost use Rattle.adb_sound.specs.adb_schema.ReadFaults.{IsReadFault};
 ghost use Rattle.adb_sound.specs.adb_schema.Soundness.{container_fault_except_contents};
@@ -24,46 +25,56 @@ use std::marker::Model;
 pub struct PreparedIntent {
     /// The names to be removed.
     removals: Names,
-    /// The names to be written.
+    /// The names to be written. The write with the index i has the staged file with the number i +
+    /// 1.
     writes: Names,
-    /// The names of the staged files, from number 0 on, which is the intent's own.
+    /// The names of the staged files, from number 0 on. Number 0 is the intent's own file before it
+    /// is published.
     stage_names: Names,
     /// The name of the intent.
     name: Name,
     /// The container that encodes the intent.
     file: Vec<u8>,
-    // These are the names of each intent, the file encodes it, and there are few enough names.
+    // The list of staged names has one name for the intent, and one for each write.
     ghost waiting: { stage_names ≡ stage_names_from 0 (length writes + 1) },
+    // The name is `lib/apk/intent`.
     ghost named: { name ≡ intent_name },
+    // The file is read as the intent of the two lists.
     ghost spelled: { read_intent file.items ≡ Some (intent_of_lists removals writes) },
+    // The names can be counted in 64 bits.
     ghost few: { length removals + length writes < 2 ^ 63 },
 }
 
 impl Model for PreparedIntent {
     ghost use Rattle.journal_intent.specs.Intent.{Intent};
 
+    // Contracts see a prepared intent as an intent: its two lists.
     ghost Value = { Intent };
 
     ghost view = { λ s. record { removals = s.removals; writes = s.writes } };
 }
 
 impl PreparedIntent {
-    /// The intent of these actions.
+    /// The prepared intent of these removals and writes.
     ///
     /// # Errors
     ///
-    /// `TooLarge` exactly if the payload of its container exceeds a limit of the writer, with the
-    /// counts there; or `Memory`.
+    /// `TooLarge` exactly if the payload of the intent's container exceeds a limit of the writer,
+    /// with the counts at which it does; or `Memory`.
     pub fn of_names(
         alloc: Global,
         removals: Names,
         writes: Names,
     ) -> Result<PreparedIntent, WriteFault>
+        // The names are allowed in an intent, and none is repeated.
         requires { AreDistinctNamesAllowedInIntent (removals ++ writes) }
+        // On Ok, the intent has these lists.
         ensures intent { IfOk result (λ intent. intent ≡ intent_of_lists removals writes) }
+        // The error for a payload that is too large has the counts at which a limit is exceeded.
         ensures large { (bytes values : ℕ) → IsErrOf result (WriteFault.TooLarge bytes values)
             → overflow_of (value_of_intent (intent_of_lists removals writes))
             ≡ Some (bytes, values) }
+        // Ok is returned only if the payload exceeds no limit.
         ensures fits { OnOk result
             (overflow_of (value_of_intent (intent_of_lists removals writes)) ≡ None) }
     {
@@ -73,16 +84,19 @@ impl PreparedIntent {
         Ok(intent)
     }
 
-    /// The intent that this file encodes.
+    /// The prepared intent that this file encodes.
     ///
     /// # Errors
     ///
     /// `Bad` exactly if the file is no intent container, with the first test that failed; or
     /// `Memory`.
     pub fn of_file(alloc: Global, file: Vec<u8>) -> Result<PreparedIntent, ReadFault>
+        // On Ok, the file is read as this intent.
         ensures intent { IfOk result (λ intent. read_intent file.items ≡ Some intent) }
+        // An error reports the first failed test of the container, or a lack of memory.
         ensures bad { IfErr result
             (λ fault. IsReadFault fault (container_fault_except_contents IntentTable file.items)) }
+        // Ok is returned only if the container passes all tests.
         ensures good { OnOk result (container_fault_except_contents IntentTable file.items ≡ None) }
     {
         let lists = read_lists(alloc, &file)?;
@@ -90,15 +104,18 @@ impl PreparedIntent {
         Ok(intent)
     }
 
-    /// The intent of these lists, and of the file that encodes them.
+    /// The prepared intent of these lists. The file encodes them.
     fn of_lists(
         alloc: Global,
         lists: IntentLists,
         file: Vec<u8>,
     ) -> Result<PreparedIntent, AllocError>
+        // The file is read as the intent of these lists.
         requires spelled { read_intent file.items
             ≡ Some (intent_of_lists lists.removals lists.writes) }
+        // The names can be counted in 64 bits.
         requires few { length lists.removals + length lists.writes < 2 ^ 63 }
+        // On Ok, the intent has these lists.
         ensures { IfOk result (λ intent. intent ≡ intent_of_lists lists.removals lists.writes) }
     {
         let stage_names = stage_names(alloc, lists.writes.len() + 1)?;
@@ -112,14 +129,14 @@ impl PreparedIntent {
         })
     }
 
-    /// How many names are removed.
+    /// How many removals the intent has.
     pub fn removals_len(&self) -> usize
         ensures { result ≡ length self.now.removals }
     {
         self.removals.len()
     }
 
-    /// How many files are written.
+    /// How many writes the intent has.
     pub fn writes_len(&self) -> usize
         ensures { result ≡ length self.now.writes }
     {
@@ -128,15 +145,17 @@ impl PreparedIntent {
 
     /// The name that the removal with this index, counted from 0, removes.
     pub fn removal(&self, i: usize) -> &Name
+        // The index is that of one of the removals.
         requires { i < length self.now.removals }
         ensures { slice_get self.now.removals i ≡ Some result.now }
     {
         self.removals.get(i)
     }
 
-    /// The name of the write with this index, counted from 0. Its staged file has a number that is
-    /// one more.
+    /// The name that the write with this index, counted from 0, writes. The number of its staged
+    /// file is one more than the index.
     pub fn write(&self, i: usize) -> &Name
+        // The index is that of one of the writes.
         requires { i < length self.now.writes }
         ensures { slice_get self.now.writes i ≡ Some result.now }
     {
@@ -146,6 +165,7 @@ impl PreparedIntent {
     /// The name of the staged file with this number: 0 for the intent's container, and from 1 on
     /// for the writes.
     pub fn stage_name(&self, k: usize) -> &Name
+        // The number is 0, or that of one of the writes.
         requires { k ≤ length self.now.writes }
         ensures { result.now ≡ stage_name k }
     {
@@ -166,9 +186,12 @@ impl PreparedIntent {
         &self.file
     }
 
-    /// The names of the intent are free, no write is repeated, and there are fewer than 2^63 names.
+    /// A law: the names of the intent are free, no write is repeated, and there are fewer than 2^63
+    /// names.
     pub fn names_are_free(&self)
+        // No name belongs to the journal, no write is repeated, and no written name is removed.
         ensures free { HasFreeDistinctNames self.now }
+        // The names can be counted in 64 bits.
         ensures few { length self.now.removals + length self.now.writes < 2 ^ 63 }
     {
         // A law that the proof needs; it computes nothing.

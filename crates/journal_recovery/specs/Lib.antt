@@ -1,3 +1,3 @@
 -- The definitions of this crate. Each file names the document with its rule.
--- what only inner contracts and proofs use
+-- modules that only contracts of inner functions and proofs cite
 pub mod RecoveryContracts

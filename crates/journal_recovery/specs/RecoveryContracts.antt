@@ -16,19 +16,20 @@ use Rattle.journal_core.specs.Staged.{IsIntentFault}
 use Rattle.journal_core.specs.declared.fault.RecoverFault.{RecoverFault}
 use Rattle.journal_core.specs.declared.fault.RecoverFault.TheVariants.{Disk, IntentBad, Memory}
 
--- whatever is returned, the journal only shrinks, and the intent is removed last
+-- whatever a recovery returns, the intent and the staged files are only removed, and the intent is removed last
 pub record RemovesIntentLast (old now : List TreeState) : Type 0 where
-  -- staged files are only removed
+  -- at each moment the intent and each staged file are unchanged or gone
   pub waiting : IfObservable old (λ v. Since (JournalOnlyShrinks v) old now)
-  -- if an intent is found: as soon as none is read, a crash undoes no change of a name outside the
-  -- staging area
+  -- if an intent was read at the start: as soon as none is read, no crash undoes a change of a name outside the
+  -- journal
   pub last : IfObservable old (λ v. IsSome (v.names intent_name)
       → Since (λ w. w.names intent_name ≡ None → NamesOutsideJournalAreDurable w) old now)
 
--- The intent is refused exactly if it is no intent container. Then nothing changes, whatever is returned.
+-- A recovery refuses the intent only if its file is no intent container. If the file is none, nothing changes,
+-- whatever is returned.
 pub record RefusesOnlyBadIntent {T : Type 0} (old now : List TreeState)
     (result : Result T RecoverFault) : Type 0 where
-  -- if the intent is refused, nothing changed, and the file of the intent has this fault
+  -- if the intent is refused, nothing has changed, and the file of the intent has this fault
   pub bad : (cause : Cause) → IsErrOf result (IntentBad cause)
       → (now ≡ old) × IfObservable old (λ v. IsIntentFault (files_of v) cause)
   -- Ok is returned only if the file of the intent has no fault
@@ -39,35 +40,36 @@ pub record RefusesOnlyBadIntent {T : Type 0} (old now : List TreeState)
   pub found : (cause : Cause) → IsErrOf result (IntentBad cause)
       → (file : List ℕ) × (container_fault_except_contents IntentTable file ≡ Some cause)
 
--- how the tree's counts explain the result of a recovery
+-- how the tree's counts before a recovery (`before`) and after it (`now`) explain its result
 pub record IsRecoveryExplainedByCounts {T : Type 0} (before now : Counts)
     (result : Result T RecoverFault) : Type 0 where
   -- no count of faults falls
   pub goes_on : CountsOnlyRise before now
-  -- a fault of the tree is returned only if that count rose
+  -- an I/O error is returned only if the count of faults rose, and the counts give it a cause
   pub disk : IsErrOf result Disk → IsFaultCountedWithCause before now
-  -- every other result, only if it did not
+  -- Ok is returned only if no fault was counted
   pub kept : OnOk result (CountsNoNewFault before now)
-  -- running out of memory counts no fault of the tree
+  -- `Memory` is returned only if no fault was counted
   pub memory : IsErrOf result Memory → CountsNoNewFault before now
-  -- refusing the intent counts no fault of the tree
+  -- the intent is refused only if no fault was counted
   pub refused : (cause : Cause) → IsErrOf result (IntentBad cause) → CountsNoNewFault before now
 
--- these names, if they are all in the staging area, are removed, and nothing else changes
+-- what a call ensures that removes these names; they should all be in the staging area
 pub record RemovesStagedNames {T E : Type 0} (names : List (List ℕ)) (old now : List TreeState)
     (result : Result T E) : Type 0 where
-  -- no name outside the staging area changes
+  -- if all names are in the staging area, the files as read are unchanged under each name outside it
   pub shown : IfObservable old (λ v. AreStagedNames names
       → Since (KeepsFilesExcept (λ q. is_staged q ≡ true) v) old now)
-  -- staged files are only removed
+  -- at each moment the intent and each staged file are unchanged or gone
   pub waiting : IfObservable old (λ v. Since (JournalOnlyShrinks v) old now)
-  -- no crash undoes a change of a name outside the staging area, if none did at the start
+  -- if all names are in the staging area, and no crash could undo a change of a name outside the journal at the
+  -- start, none can at any moment
   pub last : IfObservable old (λ v. AreStagedNames names → NamesOutsideJournalAreDurable v
       → Since NamesOutsideJournalAreDurable old now)
-  -- once it has returned Ok, the names are removed, and no crash restores an intent
+  -- once Ok is returned, the names lead to no file, and nothing else has changed
   pub cleared : IfObservable old (λ v. OnOk result (HoldsNow now (HasRemovedNames names v)))
-  -- once it has returned Ok, no crash restores an intent if none did at the start
+  -- once Ok is returned, no crash restores an intent, if none could at the start
   pub gone : IfObservable old (λ v. OnOk result (IsRestoredByNoCrash intent_name v
       → HoldsNow now (IsRestoredByNoCrash intent_name)))
-  -- without names no call is made
+  -- if there are no names to be removed, the history is unchanged
   pub none : names ≡ [] → now ≡ old

@@ -1,4 +1,4 @@
-//! Finishes an interrupted change, and removes staged files.
+//! `recover`, which finishes an interrupted change and removes staged files, and its parts.
 //! The rules are in `docs/crash-safety.md`, "Recovery"; which actions an intent has, in "A change
 //! of several files".
 ghost use Rattle.std.specs.Prelude.{◌≡◌, ℕ, Bool, true, List, Some, None, IsSome, OnOk, IsErrOf};
@@ -27,7 +27,8 @@ use std::alloc::{AllocError, Global};
 ///
 /// # Errors
 ///
-/// `IntentBad` if the intent is no intent container; then nothing has changed.
+/// `IntentBad` if the file of the intent is no intent container; then nothing has changed. `Disk`
+/// if a call on the tree failed, and `Memory` if the program is out of memory.
 pub fn recover<T: Tree>(alloc: Global, tree: &mut T) -> Result<(), RecoverFault>
     // If the tree is durable at the start: at each moment it is durable, each crash leaves a state
     // that one at the start might have left, and the files as read keep their state.
@@ -35,50 +36,52 @@ pub fn recover<T: Tree>(alloc: Global, tree: &mut T) -> Result<(), RecoverFault>
         → IsDurable (StateDependsOn ignored) v
         → Since (StateIsUnchanged ignored v) (T.history tree.old) (T.history tree.new)) }
 
-    // Whether the tree is durable or not, recovery of the files as read yields the same at each
-    // moment, apart from staged files.
+    // Whether the tree is durable or not, at each moment a further recovery of the files as read
+    // would yield the same files as at the call.
     ensures reads { IfObservable (T.history tree.old) (λ v.
         Since (λ w. unstaged_files (files_of w) ≡ unstaged_files (files_of v))
         (T.history tree.old) (T.history tree.new)) }
 
-    // At each moment a name outside the staging area has its old bytes or those that recovery
+    // At each moment a name outside the journal has, as read, its old bytes or those that recovery
     // yields.
     ensures bytes { IfObservable (T.history tree.old) (λ v.
         Since (HasOldOrNewBytesOutsideJournal (files_of v) (unstaged_files (files_of v)))
         (T.history tree.old) (T.history tree.new)) }
 
-    // Once it has returned Ok, the files as read have the intent done and nothing staged; and no
-    // intent is read.
+    // Once Ok is returned, the files as read are those that recovery yields: all actions of the
+    // intent are done, the intent is gone, and nothing is staged.
     ensures files { IfObservable (T.history tree.old) (λ v.
         OnOk result (HoldsNow (T.history tree.new) (λ w. (files_of w ≡ unstaged_files (files_of v))
         × (w.names intent_name ≡ None)))) }
 
-    // If it found an intent, each crash leaves their state.
+    // If it found an intent in a durable tree: once Ok is returned, each crash leaves the state
+    // of the files that it found.
     ensures settled { IfObservable (T.history tree.old) (λ v. (ignored : List ℕ → Bool)
         → IsDurable (StateDependsOn ignored) v → IsSome (intent_of (files_of v))
         → OnOk result (HoldsNow (T.history tree.new) (EachCrashLeavesStateOf ignored
         (files_of v)))) }
 
-    // Whatever it returns, staged files are only removed, and the intent is removed last.
+    // Whatever is returned, the intent and the staged files are only removed, and the intent is
+    // removed after all its actions are durable.
     ensures journal { RemovesIntentLast (T.history tree.old) (T.history tree.new) }
 
-    // Once it has returned Ok, no crash restores an intent that it found.
+    // Once Ok is returned, no crash restores an intent that it found.
     ensures gone { IfObservable (T.history tree.old) (λ v. IsSome (v.names intent_name)
         → OnOk result (HoldsNow (T.history tree.new) (IsRestoredByNoCrash intent_name))) }
 
-    // If there is nothing to do, no writing call is made.
+    // If there is no intent and no staged file, the tree's history is unchanged.
     ensures idle { IfObservable (T.history tree.old) (λ v. v.names intent_name ≡ None
         → HasNoStagedNames v.names → T.history tree.new ≡ T.history tree.old) }
 
-    // The intent is refused exactly if it is no intent container. Then nothing changes, whatever is
-    // returned.
+    // The intent is refused only if its file is no intent container. If it is none, nothing
+    // changes, whatever is returned.
     ensures refusal { RefusesOnlyBadIntent (T.history tree.old) (T.history tree.new) result }
 
-    // No count of faults falls; a fault of the tree is returned only if that count rose, and Ok
-    // only if it did not.
+    // How the tree's counts explain the result.
     ensures counts { IsRecoveryExplainedByCounts (T.counts tree.old) (T.counts tree.new) result }
 
-    // If an intent that is found has free paths for its actions, no call is a misuse.
+    // No call is a misuse, if no intent is found; or if the paths of the intent and of the staged
+    // files are free among the files that recovery yields.
     ensures proper { IfObservable (T.history tree.old) (λ v. AreReplayPathsFree (files_of v)
         → (T.counts tree.new).misuses ≡ (T.counts tree.old).misuses) }
 {
@@ -87,25 +90,26 @@ pub fn recover<T: Tree>(alloc: Global, tree: &mut T) -> Result<(), RecoverFault>
     Ok(())
 }
 
-/// Does the actions of the intent and removes it, if there is one. The clauses are those of
-/// `recover`, but without an intent the staged files are kept.
+/// Does the actions of the intent and removes the intent, if there is one. The clauses are those of
+/// `recover`, but staged files that belong to no intent are kept.
 fn replay<T: Tree>(alloc: Global, tree: &mut T) -> Result<(), RecoverFault>
     // From a durable tree on, each moment is durable, and the state is unchanged.
     ensures moments { IfObservable (T.history tree.old) (λ v. (ignored : List ℕ → Bool)
         → IsDurable (StateDependsOn ignored) v
         → Since (StateIsUnchanged ignored v) (T.history tree.old) (T.history tree.new)) }
-    // At each moment recovery of the files as read yields the same.
+    // At each moment recovery of the files as read yields the same files as at the call.
     ensures reads { IfObservable (T.history tree.old) (λ v.
         Since (RecoversTo (recovered_files (files_of v)))
         (T.history tree.old) (T.history tree.new)) }
-    // At each moment a name outside the journal has its old bytes, or those that recovery yields.
+    // At each moment a name outside the journal has, as read, its old bytes or those that recovery
+    // yields.
     ensures bytes { IfObservable (T.history tree.old) (λ v.
         Since (HasOldOrNewBytesOutsideJournal (files_of v) (recovered_files (files_of v)))
         (T.history tree.old) (T.history tree.new)) }
-    // Once it has returned Ok, all actions are done, and no intent is read.
+    // Once Ok is returned, all actions of the intent are done, and no intent is read.
     ensures replayed { IfObservable (T.history tree.old) (λ v.
         OnOk result (HoldsNow (T.history tree.new) (IsIntentReplayed v))) }
-    // From a durable tree with an intent: once it has returned Ok, each crash leaves the state that
+    // From a durable tree with an intent: once Ok is returned, each crash leaves the state that
     // recovery yields.
     ensures settled { IfObservable (T.history tree.old) (λ v. (ignored : List ℕ → Bool)
         → IsDurable (StateDependsOn ignored) v → IsSome (intent_of (files_of v))
@@ -113,18 +117,19 @@ fn replay<T: Tree>(alloc: Global, tree: &mut T) -> Result<(), RecoverFault>
         (EachCrashLeavesStateOf ignored (recovered_files (files_of v))))) }
     // Staged files are only removed, and the intent is removed last.
     ensures journal { RemovesIntentLast (T.history tree.old) (T.history tree.new) }
-    // If an intent was found: once it has returned Ok, no crash restores it.
+    // If an intent was found: once Ok is returned, no crash restores it.
     ensures gone { IfObservable (T.history tree.old) (λ v. IsSome (v.names intent_name)
         → OnOk result (IfObservable (T.history tree.new) (IsRestoredByNoCrash intent_name))) }
-    // Without an intent nothing changes.
+    // If there is no intent, the tree's history is unchanged.
     ensures idle { IfObservable (T.history tree.old) (λ v. v.names intent_name ≡ None
         → T.history tree.new ≡ T.history tree.old) }
-    // The intent is refused exactly if it is no intent container.
+    // The intent is refused only if its file is no intent container.
     ensures refusal { RefusesOnlyBadIntent (T.history tree.old) (T.history tree.new) result }
     // How the tree's counts explain the result.
     ensures counts { IsRecoveryExplainedByCounts (T.counts tree.old) (T.counts tree.new) result }
 
-    // If an intent that is found has free paths for its actions, no call is a misuse.
+    // No call is a misuse, if no intent is found; or if the paths of the intent and of the staged
+    // files are free among the files that recovery yields.
     ensures proper { IfObservable (T.history tree.old) (λ v. AreReplayPathsFree (files_of v)
         → (T.counts tree.new).misuses ≡ (T.counts tree.old).misuses) }
 {
@@ -135,28 +140,29 @@ fn replay<T: Tree>(alloc: Global, tree: &mut T) -> Result<(), RecoverFault>
     }
 }
 
-/// Does all actions of the intent that this file encodes, since it is not known which were done
-/// before, and removes the intent. The names are synced first: otherwise a crash could undo the
-/// publishing of the intent and keep one of the actions. The clauses are those of `replay`, for the
-/// file under the intent's name.
+/// Does all actions of the intent that `file`, the file under the intent's name, encodes, and then
+/// removes the intent. It is not known which actions were done before. The names are synced first:
+/// otherwise a crash could undo the publishing of the intent and keep one of the actions. The
+/// clauses are those of `replay`.
 fn replay_file<T: Tree>(alloc: Global, tree: &mut T, file: Vec<u8>) -> Result<(), RecoverFault>
     // From a durable tree on, each moment is durable, and the state is unchanged.
     ensures moments { IfObservable (T.history tree.old) (λ v. (ignored : List ℕ → Bool)
         → IsDurable (StateDependsOn ignored) v → files_of v intent_name ≡ Some file.items
         → Since (StateIsUnchanged ignored v) (T.history tree.old) (T.history tree.new)) }
-    // At each moment recovery of the files as read yields the same.
+    // At each moment recovery of the files as read yields the same files as at the call.
     ensures reads { IfObservable (T.history tree.old) (λ v. files_of v intent_name
         ≡ Some file.items → Since (RecoversTo (recovered_files (files_of v)))
         (T.history tree.old) (T.history tree.new)) }
-    // At each moment a name outside the journal has its old bytes, or those that recovery yields.
+    // At each moment a name outside the journal has, as read, its old bytes or those that recovery
+    // yields.
     ensures bytes { IfObservable (T.history tree.old) (λ v. files_of v intent_name
         ≡ Some file.items
         → Since (HasOldOrNewBytesOutsideJournal (files_of v) (recovered_files (files_of v)))
         (T.history tree.old) (T.history tree.new)) }
-    // Once it has returned Ok, all actions are done, and no intent is read.
+    // Once Ok is returned, all actions of the intent are done, and no intent is read.
     ensures replayed { IfObservable (T.history tree.old) (λ v. files_of v intent_name
         ≡ Some file.items → OnOk result (HoldsNow (T.history tree.new) (IsIntentReplayed v))) }
-    // From a durable tree with an intent: once it has returned Ok, each crash leaves the state that
+    // From a durable tree with an intent: once Ok is returned, each crash leaves the state that
     // recovery yields.
     ensures settled { IfObservable (T.history tree.old) (λ v. (ignored : List ℕ → Bool)
         → IsDurable (StateDependsOn ignored) v → files_of v intent_name ≡ Some file.items
@@ -164,10 +170,10 @@ fn replay_file<T: Tree>(alloc: Global, tree: &mut T, file: Vec<u8>) -> Result<()
         (EachCrashLeavesStateOf ignored (recovered_files (files_of v))))) }
     // Staged files are only removed, and the intent is removed last.
     ensures journal { RemovesIntentLast (T.history tree.old) (T.history tree.new) }
-    // Once it has returned Ok, no crash restores the intent.
+    // Once Ok is returned, no crash restores the intent.
     ensures gone { OnOk result (IfObservable (T.history tree.new)
         (IsRestoredByNoCrash intent_name)) }
-    // A refused file is no intent container, and nothing has changed.
+    // If the file is refused, it is no intent container, and nothing has changed.
     ensures bad { (cause : Cause) → IsErrOf result (RecoverFault.IntentBad cause)
         → (T.history tree.new ≡ T.history tree.old)
         × (container_fault_except_contents IntentTable file.items ≡ Some cause) }
@@ -180,7 +186,8 @@ fn replay_file<T: Tree>(alloc: Global, tree: &mut T, file: Vec<u8>) -> Result<()
     // How the tree's counts explain the result.
     ensures counts { IsRecoveryExplainedByCounts (T.counts tree.old) (T.counts tree.new) result }
 
-    // If an intent that is found has free paths for its actions, no call is a misuse.
+    // No call is a misuse, if no intent is found; or if the paths of the intent and of the staged
+    // files are free among the files that recovery yields.
     ensures proper { IfObservable (T.history tree.old) (λ v. files_of v intent_name
         ≡ Some file.items → AreReplayPathsFree (files_of v)
         → (T.counts tree.new).misuses ≡ (T.counts tree.old).misuses) }
@@ -192,10 +199,9 @@ fn replay_file<T: Tree>(alloc: Global, tree: &mut T, file: Vec<u8>) -> Result<()
     Ok(())
 }
 
-/// Removes every staged file, once no intent is read: so the state is unchanged, and no other name
-/// changes.
+/// Removes every staged file. It is called when no intent is read, so the state is unchanged.
 fn empty_stage<T: Tree>(alloc: Global, tree: &mut T) -> Result<(), TreeFault>
-    // From a durable tree on, each moment is durable, and the state is unchanged.
+    // From a durable tree without an intent on, each moment is durable, and the state is unchanged.
     ensures moments { IfObservable (T.history tree.old) (λ v. (ignored : List ℕ → Bool)
         → IsDurable (StateDependsOn ignored) v → v.names intent_name ≡ None
         → Since (StateIsUnchanged ignored v) (T.history tree.old) (T.history tree.new)) }
@@ -203,32 +209,31 @@ fn empty_stage<T: Tree>(alloc: Global, tree: &mut T) -> Result<(), TreeFault>
     ensures shown { IfObservable (T.history tree.old) (λ v.
         Since (KeepsFilesExcept (λ q. is_staged q ≡ true) v)
         (T.history tree.old) (T.history tree.new)) }
-    // Staged files are only removed.
+    // At each moment the intent and each staged file are unchanged or gone.
     ensures waiting { IfObservable (T.history tree.old) (λ v.
         Since (JournalOnlyShrinks v) (T.history tree.old) (T.history tree.new)) }
     // No crash undoes a change of a name outside the journal, if none could at the start.
     ensures last { IfObservable (T.history tree.old) (λ v. NamesOutsideJournalAreDurable v
         → Since NamesOutsideJournalAreDurable (T.history tree.old) (T.history tree.new)) }
-    // Once it has returned Ok, no file is staged, and no other name has changed.
+    // Once Ok is returned, no file is staged, and no other name has changed.
     ensures emptied { IfObservable (T.history tree.old) (λ v.
         OnOk result (HoldsNow (T.history tree.new) (HasEmptiedStage v))) }
-    // Once it has returned Ok, no crash restores an intent, if none could at the start.
+    // Once Ok is returned, no crash restores an intent, if none could at the start.
     ensures gone { IfObservable (T.history tree.old) (λ v. OnOk result
         (IsRestoredByNoCrash intent_name v
         → HoldsNow (T.history tree.new) (IsRestoredByNoCrash intent_name))) }
-    // Without staged files nothing changes.
+    // If no file is staged, the tree's history is unchanged.
     ensures idle { IfObservable (T.history tree.old) (λ v. HasNoStagedNames v.names
         → T.history tree.new ≡ T.history tree.old) }
 
-    // No count of faults falls; a fault of the tree is returned only if that count rose, and Ok
-    // only if it did not.
+    // No count of the tree's faults falls.
     ensures goes_on { CountsOnlyRise (T.counts tree.old) (T.counts tree.new) }
     // An I/O error is returned only if a fault was counted.
     ensures disk { IsErrOf result TreeFault.Disk
         → IsFaultCountedWithCause (T.counts tree.old) (T.counts tree.new) }
     // Ok is returned only if no fault was counted.
     ensures kept { OnOk result (CountsNoNewFault (T.counts tree.old) (T.counts tree.new)) }
-    // If there is no memory, nothing has changed, and no fault was counted.
+    // If the program is out of memory, nothing has changed, and no fault was counted.
     ensures memory { IsErrOf result TreeFault.Memory
         → (T.history tree.new ≡ T.history tree.old)
         × CountsNoNewFault (T.counts tree.old) (T.counts tree.new) }
@@ -243,11 +248,12 @@ fn empty_stage<T: Tree>(alloc: Global, tree: &mut T) -> Result<(), TreeFault>
     Ok(())
 }
 
-/// Removes these names, which are all in the staging area, if there are any. The names are synced
-/// first, so that no crash restores an intent for which one of these files is staged. The clauses
-/// are those of `empty_stage`.
+/// Removes these names, which are all in the staging area. All names of the tree are synced first,
+/// so that no crash restores an intent for which one of these files is staged. Without names no
+/// call is made. The clauses are those of `empty_stage`.
 fn clear_all<T: Tree>(tree: &mut T, names: &Names) -> Result<(), Disk>
-    // From a durable tree on, each moment is durable, and the state is unchanged.
+    // If the names are all in the staging area of a durable tree without an intent, each moment is
+    // durable, and the state is unchanged.
     ensures moments { IfObservable (T.history tree.old) (λ v. (ignored : List ℕ → Bool)
         → IsDurable (StateDependsOn ignored) v → v.names intent_name ≡ None
         → AreStagedNames names.now
@@ -269,10 +275,11 @@ fn clear_all<T: Tree>(tree: &mut T, names: &Names) -> Result<(), Disk>
     remove_all(tree, names)
 }
 
-/// Removes these names, which are all in the staging area, once no crash restores an intent. The
-/// clauses are those of `clear_all`.
+/// Removes these names, which are all in the staging area, one by one. It is called when no crash
+/// restores an intent. The clauses are those of `clear_all`.
 fn remove_all<T: Tree>(tree: &mut T, names: &Names) -> Result<(), Disk>
-    // From a durable tree on, each moment is durable, and the state is unchanged.
+    // If the names are all in the staging area of a durable tree, and no crash restores an intent,
+    // each moment is durable, and the state is unchanged.
     ensures moments { IfObservable (T.history tree.old) (λ v. (ignored : List ℕ → Bool)
         → IsDurable (StateDependsOn ignored) v → IsRestoredByNoCrash intent_name v
         → AreStagedNames names.now

@@ -1,4 +1,5 @@
--- Which bytes the sources of writes denote. The rules are in `docs/commands.md`, "What a change does
+-- Which bytes the sources of writes denote: given bytes, the text of a link, or the contents of a file of a package.
+-- The rules are in `docs/commands.md`, "What a change does
 -- with files"; the digests in `docs/formats.md`, "The other blocks".
 use Rattle.std.specs.Prelude.{◌≡◌, ℕ, List, [], ◌∷◌, Some, length, slice_get}
 use Rattle.base_core.specs.Files.{Files}
@@ -15,7 +16,7 @@ use Rattle.journal_staging.specs.declared.writes.StagedWrite.{StagedWrite}
 
 -- ---- one source
 
--- these files have a package, and one of its files has these bytes
+-- among these files is the package of `f`, as it was tested, and its file at the positions of `f` has these bytes
 pub record IsFileSource (files : Files) (f : PackagedFile) (bytes : List ℕ) : Type 0 where
   -- the name of the package's file
   pub name : List ℕ
@@ -23,26 +24,27 @@ pub record IsFileSource (files : Files) (f : PackagedFile) (bytes : List ℕ) : 
   pub pkg : List ℕ
   -- the files have the package under this name
   pub there : files name ≡ Some pkg
-  -- these bytes are those of the tested package
+  -- the file with these bytes may be the one that was tested as the package of `f`
   pub tested : IsTestedOf name pkg f.package.now
-  -- the given bytes are the contents of its file at these places
+  -- `bytes` are the contents of the package's file at the positions of folder and file in `f`
   pub is : bytes ≡ bytes_of_file f.folder f.file (contents_in (files_read_from_package pkg))
 
--- over these files a source denotes these bytes
+-- over these files the source denotes these bytes: its own, the text of its link, or those of a file of a package
 abbrev pub DenotesBytes : Files → Source → List ℕ → Type 0
 DenotesBytes files (Bytes own) bytes = bytes ≡ own.now
 DenotesBytes files (Link target) bytes = bytes ≡ link_bytes_to target.now
 DenotesBytes files (File f) bytes = IsFileSource files f bytes
 
--- bytes have the size and the digest that the package's value lists for a file of it; none if it lists
--- no contents
+-- the bytes have the size and the digest that the tested package of `f` lists for this file; they are empty if it
+-- lists no contents for it
 abbrev pub AreListedContentsOf : PackagedFile → List ℕ → Type 0
 AreListedContentsOf f bytes =
     AreAsExpected (expected_file_at f.folder f.file (expected_files_of_package (tested_value
     f.package.now)))
     bytes
 
--- there may be files over which the source denotes these bytes
+-- the bytes are not excluded as those of the source: they are its own bytes or the text of its link, or they have
+-- the size and the digest that the package lists for the file
 abbrev pub MayDenote : Source → List ℕ → Type 0
 MayDenote (Bytes own) bytes = bytes ≡ own.now
 MayDenote (Link target) bytes = bytes ≡ link_bytes_to target.now
@@ -50,16 +52,17 @@ MayDenote (File f) bytes = AreListedContentsOf f bytes
 
 -- ---- those of several writes
 
--- the source of each write denotes the bytes at its place
+-- over these files, the source of each write denotes the element of `contents` with the same index
 pub record EachDenotes (files : Files) (writes : List StagedWrite) (contents : List (List ℕ)) :
     Type 0 where
   -- there are as many contents as writes
   pub same : length contents ≡ length writes
-  -- the source of the write with number i denotes the contents with number i
+  -- the source of the write with the index i denotes the element of `contents` with the index i
   pub each : (i : ℕ) (w : StagedWrite) (bytes : List ℕ) → slice_get writes i ≡ Some w
       → slice_get contents i ≡ Some bytes → DenotesBytes files w.source bytes
 
--- the source of each write may denote the bytes at its place
+-- there are as many elements of `contents` as writes, and the source of each write may denote the element with its
+-- index
 abbrev pub EachMayDenote : List StagedWrite → List (List ℕ) → Type 0
 EachMayDenote [] [] = Unit {0}
 EachMayDenote [] (bytes ∷ others) = ⊥

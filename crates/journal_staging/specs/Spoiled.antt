@@ -13,34 +13,34 @@ use Rattle.journal_staging.specs.declared.writes.Source.{Source}
 use Rattle.journal_staging.specs.declared.writes.Source.TheVariants.{Bytes, File, Link}
 use Rattle.journal_staging.specs.declared.writes.StagedWrite.{StagedWrite}
 
--- The file of a package is spoiled: it has the length and the values of the tested one; but as a
--- package it is refused with this cause: a digest of contents differs.
+-- A package's file is spoiled: `tested` are the bytes that were tested, and `file` are others, of the same length and
+-- with the same values. As a package, `file` is refused with this cause: contents of a file have another digest.
 pub record IsFileWithOnlyContentsSpoiled (tested file : List ℕ) (cause : Cause) : Type 0 where
   -- the file has the length of the tested one
   pub long : length file ≡ length tested
   -- the file has the values of the tested one
   pub values : payload_in file ≡ payload_in tested
-  -- the digest that the values list
+  -- the digest that the package's values list
   pub wanted : Digest
-  -- the digest that contents in the file have
+  -- the digest that the contents in `file` have
   pub found : Digest
   -- the cause is that these digests differ
   pub digest : cause ≡ HashDiffers wanted found
   -- the file is refused with this cause
   pub fault : package_fault file ≡ Some cause
 
--- each file that may have been tested as the package of `f` has a spoiled file with this cause
+-- for all bytes that may have been tested as the package of `f` there are spoiled ones, refused with this cause
 abbrev pub IsSpoiledForEachTested : PackagedFile → Cause → Type 0
 IsSpoiledForEachTested f cause = (name tested : List ℕ) → IsTestedOf name tested f.package.now
     → (file : List ℕ) × IsFileWithOnlyContentsSpoiled tested file cause
 
--- a source is a file of the package at this place, which is spoiled with this cause
+-- the source is a file of the package of the member with this index, and the package is spoiled with this cause
 abbrev pub IsSpoiledAt : ℕ → Cause → Source → Type 0
 IsSpoiledAt member cause (Bytes own) = ⊥
 IsSpoiledAt member cause (Link target) = ⊥
 IsSpoiledAt member cause (File f) = (f.member ≡ member) × IsSpoiledForEachTested f cause
 
--- one of the writes is a file of the package at this place, which is spoiled with this cause
+-- one of the writes is a file of the package of the member with this index, and the package is spoiled with this cause
 pub record HasSpoiledFile (member : ℕ) (cause : Cause) (writes : List StagedWrite) : Type 0 where
   -- the number of the write, counted from 0
   pub number : ℕ

@@ -1,5 +1,6 @@
-//! A change is carried through: its files are staged, and one step commits all of them. The rules
-//! are in `docs/crash-safety.md`, "A change of several files".
+//! `carry_out`, which carries a change through: it asks the tree for each target, stages the files,
+//! commits the intent, and does its actions. The rules are in `docs/crash-safety.md`, "A change of
+//! several files".
 ghost use Rattle.std.specs.Prelude.{◌≡◌, ◌<◌, ◌⊎◌, [], ℕ, false, List, None, length, IfErr, IsErrOf, OnErr, OnOk};
 ghost use Rattle.base_core.specs.Calls.{IfObservable};
 ghost use Rattle.base_core.specs.Faults.{CountsOnlyRise, IsFaultCountedWithCause, CountsNoNewFault};
@@ -23,41 +24,44 @@ use journal_commit::{
 };
 use package_verifier::Piece;
 
-/// Stages the files of all writes, in their order. The clauses are those of `stage_write`, over all
-/// of them.
+/// Stages the files of all writes, in their order. Files of packages are read into the buffer
+/// `piece`. The clauses are those of `stage_write`, for all writes.
 fn stage_each<T: Tree>(
     stage: &mut Stage,
     tree: &mut T,
     writes: &[StagedWrite<'_>],
     piece: &mut Piece,
 ) -> Result<(), StageFault>
-    // No staged file is begun.
+    // No staged file is begun and not yet ended.
     requires closed { stage.old.is_open ≡ false }
     // No file is staged yet.
     requires none { stage.old.staged ≡ 0 }
-    // There is a source for each write of the intent.
+    // There are as many sources as writes of the intent.
     requires same { length writes.now ≡ length stage.old.intent.writes }
-    // Whatever it returns, the moments are those of a staging run.
+    // Whatever is returned, only staged files have changed at each moment.
     ensures run { (v : TreeState) (first : List TreeState)
         → IsRunThatStagedContents stage.old [] None v first (T.history tree.old)
         → IsStagingRun v first (T.history tree.new) }
-    // On Ok, the staged files have the bytes of their sources.
+    // If the sources of the writes denote the bytes `contents`: on Ok, these are the bytes of the
+    // staged files.
     ensures staging { (contents : List (List ℕ)) (v : TreeState) (first : List TreeState)
         → IsRunThatStagedContents stage.old [] None v first (T.history tree.old)
         → EachDenotes (files_of v) writes.now contents
         → OnOk result (IsRunThatStagedContents stage.new contents None v first
         (T.history tree.new)) }
-    // If each source has its bytes, an error is a fault of the tree.
+    // If the sources of the writes denote bytes, the only possible error is that of the tree.
     ensures good { (contents : List (List ℕ)) (v : TreeState) (first : List TreeState)
         → IsRunThatStagedContents stage.old [] None v first (T.history tree.old)
         → EachDenotes (files_of v) writes.now contents
         → IfErr result (λ fault. fault ≡ DiskFault) }
-    // On Ok, the staged files have some bytes that their sources may denote.
+    // On Ok, whatever the tree has returned, the staged files have bytes that the sources of the
+    // writes may denote.
     ensures listed { (v : TreeState) (first : List TreeState)
         → IsRunThatStagedContents stage.old [] None v first (T.history tree.old)
         → OnOk result ((contents : List (List ℕ)) × EachMayDenote writes.now contents
         × IsRunThatStagedContents stage.new contents None v first (T.history tree.new)) }
-    // A refusal says that a file of the package at this place is spoiled.
+    // If the error is `Bad`, one of the writes is a file of the package of this member, and the
+    // package's file is spoiled with this cause.
     ensures bad { (member : ℕ) (cause : Cause) → IsErrOf result (Bad member cause)
         → HasSpoiledFile member cause writes.now }
     // On Ok, all writes have their staged files.
@@ -65,7 +69,8 @@ fn stage_each<T: Tree>(
     // How the tree's counts explain the result.
     ensures counts { IsFaultExplainedByCounts DiskFault
         (T.counts tree.old) (T.counts tree.new) result }
-    // If each source has its bytes and the journal's paths are free, no call is a misuse.
+    // No call is a misuse, if the sources of the writes denote bytes, and the paths of the intent
+    // and of the staged files are free.
     ensures proper { (contents : List (List ℕ)) (v : TreeState) (first : List TreeState)
         → IsRunThatStagedContents stage.old [] None v first (T.history tree.old)
         → EachDenotes (files_of v) writes.now contents → AreJournalPathsFree (files_of v)
@@ -77,50 +82,50 @@ fn stage_each<T: Tree>(
     Ok(())
 }
 
-/// Carries through a change whose stage is begun: it asks the tree for each name that is removed or
-/// written, stages the files, publishes (commits) the intent, and does all actions. It allocates no
-/// memory.
+/// Carries through a change, given its stage and the sources of its writes. It asks the tree for
+/// each name that is removed or written, stages the files, publishes (commits) the intent, and does
+/// all actions. It allocates no memory: files of packages are read into the buffer `piece`.
 ///
 /// # Errors
 ///
-/// `Bad` if a file of a package does not have its digest any more, before anything is published; or
-/// `Disk` if the tree failed.
+/// `Bad` if a file of a package does not have its digest any more; then nothing is published yet.
+/// `Disk` if a call on the tree failed.
 pub fn carry_out<T: Tree>(
     stage: &mut Stage,
     tree: &mut T,
     writes: &[StagedWrite<'_>],
     piece: &mut Piece,
 ) -> Result<(), StageFault>
-    // Nothing is staged yet.
+    // The stage is new: nothing is staged yet, and no action is done.
     requires new { stage.old
         ≡ new_stage_of_removals_and_writes stage.old.intent.removals stage.old.intent.writes }
-    // There is a source for each write of the intent.
+    // There are as many sources as writes of the intent.
     requires same { length writes.now ≡ length stage.old.intent.writes }
 
-    // If no intent is read, nothing is staged, and each write's source denotes these bytes, the
-    // change leads to the files with these bytes under the writes' names.
+    // If no intent is read, nothing is staged, and the sources of the writes denote the bytes
+    // `contents`, the change leads to the files with these bytes under the names of the writes.
     ensures run { IfObservable (T.history tree.old) (λ v. (contents : List (List ℕ))
         → v.names intent_name ≡ None → HasNoStagedNames (files_of v)
         → EachDenotes (files_of v) writes.now contents
         → IsCarriedTo (files_after_actions stage.old.intent (files_with_staged 1 contents
         (files_of v)))
         v (T.history tree.old) (T.history tree.new) result) }
-    // Whatever the tree returns: once it has returned Ok, the change is complete, with bytes that
-    // the sources may denote. So the files of a package have the size and the digest that its value
-    // lists.
+    // Once Ok is returned, whatever the tree has returned, the change is complete,
+    // with bytes that the sources may denote. So the files of a package have the size and the
+    // digest that the package lists.
     ensures listed { IfObservable (T.history tree.old) (λ v.
         v.names intent_name ≡ None → HasNoStagedNames (files_of v)
         → OnOk result ((contents : List (List ℕ)) × EachMayDenote writes.now contents
         × IsStagedChangeComplete (files_after_actions stage.old.intent
         (files_with_staged 1 contents (files_of v)))
         v (T.history tree.new))) }
-    // If a package is bad, the change is not begun: only staged files have changed.
+    // If the error is `Bad`, nothing was committed: only staged files have changed.
     ensures unpublished { IfObservable (T.history tree.old) (λ v.
         v.names intent_name ≡ None → HasNoStagedNames (files_of v)
         → (member : ℕ) (cause : Cause) → IsErrOf result (Bad member cause)
         → IsStagingRun v (T.history tree.old) (T.history tree.new)) }
-    // If the tree failed, either only staged files have changed, or the change that leads to such
-    // files has begun.
+    // After an error, either only staged files have changed; or the run is that of a change that
+    // leads to files with bytes which the sources may denote.
     ensures cut_off { IfObservable (T.history tree.old) (λ v.
         v.names intent_name ≡ None → HasNoStagedNames (files_of v)
         → OnErr result (IsStagingRun v (T.history tree.old) (T.history tree.new)
@@ -128,20 +133,19 @@ pub fn carry_out<T: Tree>(
         × IsRunOfStagedChange (files_after_actions stage.old.intent (files_with_staged 1 contents
         (files_of v)))
         v (T.history tree.old) (T.history tree.new)))) }
-    // All targets are asked for first: either nothing has happened, or the tree accepts each. Ok is
-    // returned only if it accepts them.
+    // The tree is asked for all targets first: either nothing has changed, or the tree has accepted
+    // each target of the change.
     ensures asked { (T.history tree.new ≡ T.history tree.old)
         ⊎ AreAccepted T.accepts stage.old.intent }
     // On Ok, the tree has accepted each target of the change.
     ensures accepted { OnOk result (AreAccepted T.accepts stage.old.intent) }
-    // So at each moment the tree accepts each name to which a recovery gives other bytes.
+    // At each moment the tree has accepted each name whose file a recovery would change.
     ensures promised { TargetsAreAccepted T.accepts (T.history tree.old) (T.history tree.new) }
-    // A package is reported bad only with the cause of some file that has the values of the tested
-    // one, and other contents.
+    // If the error is `Bad`, one of the writes is a file of the package of this member, and the
+    // package's file is spoiled with this cause.
     ensures bad { (member : ℕ) (cause : Cause) → IsErrOf result (Bad member cause)
         → HasSpoiledFile member cause writes.now }
-    // How the tree's counts explain the result: no count falls, a fault has its cause, and any
-    // other result hides none.
+    // No count of the tree's faults falls.
     ensures goes_on { CountsOnlyRise (T.counts tree.old) (T.counts tree.new) }
     // An I/O error is returned only if a fault was counted.
     ensures disk { IsErrOf result DiskFault
@@ -151,7 +155,8 @@ pub fn carry_out<T: Tree>(
     // With another error than one of the tree, no fault was counted.
     ensures others { IfErr result (λ fault. (fault ≡ DiskFault → ⊥)
         → CountsNoNewFault (T.counts tree.old) (T.counts tree.new)) }
-    // No call is a misuse if the paths of the stage are free, before and after the change.
+    // No call is a misuse, if the sources of the writes denote bytes, and the paths of the intent
+    // and of the staged files are free before the change and after all its actions.
     ensures proper { IfObservable (T.history tree.old) (λ v. (contents : List (List ℕ))
         → v.names intent_name ≡ None → HasNoStagedNames (files_of v)
         → EachDenotes (files_of v) writes.now contents → AreJournalPathsFree (files_of v)

@@ -2,8 +2,8 @@
 //! carries the change through. The rules are in `docs/crash-safety.md`, "A change of several
 //! files".
 //!
-//! `carry_out` does this for a stage that is begun. The contracts cite `Sources` (which bytes a
-//! source denotes), `Carried` and `Spoiled` (what is reported of a package that was changed since
+//! `carry_out` does this, given the stage of the change. The contracts cite `Sources` (which bytes
+//! a source denotes), `Carried` and `Spoiled` (what is reported of a package that was changed since
 //! its test) of `specs/`, and `StageRun` of `journal_commit`.
 #![tactic(auto)]
 

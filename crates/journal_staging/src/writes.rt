@@ -1,6 +1,6 @@
-//! The writes of a change are staged, one after another: the sources of their bytes, and why a
-//! change is not carried through. The rules are in `docs/commands.md`, "What a change does with
-//! files", and in `docs/crash-safety.md`, "A change of several files".
+//! The writes of a change and the sources of their bytes, the calls that stage the file of one
+//! write, and why a change is not carried through. The rules are in `docs/commands.md`, "What a
+//! change does with files", and in `docs/crash-safety.md`, "A change of several files".
 
 ghost use Rattle.std.specs.Prelude.{◌≡◌, ◌<◌, ◌+◌, ◌++◌, ◌∷◌, [], ℕ, false, List, None, length, IsErrOf, OnOk};
 ghost use Rattle.base_core.specs.Tree.{TreeState};
@@ -29,21 +29,25 @@ fn stage_packaged<T: Tree>(
     f: &PackagedFile<'_>,
     piece: &mut Piece,
 ) -> Result<(), StageFault>
-    // No staged file is begun.
+    // No staged file is begun and not yet ended.
     requires closed { stage.old.is_open ≡ false }
     // A write is left whose file is not staged.
     requires more { stage.old.staged < length stage.old.intent.writes }
-    // The file is staged with the bytes of its source.
+    // Whatever is returned, only staged files have changed at each moment. If the tree has the
+    // package as it was tested: on Ok the file's bytes are staged, and the only possible error is
+    // that of the tree.
     ensures source { StagesSource stage.old stage.new
         (λ files bytes. IsFileSource files f.now bytes) DiskFault
         (T.history tree.old) (T.history tree.new) (T.counts tree.old) (T.counts tree.new) result }
-    // On Ok, the file has the contents that the package lists.
+    // On Ok, whatever the tree has returned, bytes with the size and the digest that the package
+    // lists for the file are staged, after the files staged before (`contents`).
     ensures listed { (contents : List (List ℕ)) (v : TreeState) (first : List TreeState)
         → IsRunThatStagedContents stage.old contents None v first (T.history tree.old)
         → OnOk result ((bytes : List ℕ) × AreListedContentsOf f.now bytes
         × IsRunThatStagedContents stage.new (contents
         ++ bytes ∷ []) None v first (T.history tree.new)) }
-    // The cause is that of a file with the values of the tested one.
+    // If the error is `Bad`, it reports the package's member, and a cause with which a file that
+    // has the values of the tested one is spoiled.
     ensures bad { (member : ℕ) (cause : Cause) → IsErrOf result (Bad member cause)
         → (f.now.member ≡ member) × IsSpoiledForEachTested f.now cause }
 {
@@ -58,7 +62,7 @@ fn stage_packaged<T: Tree>(
     }
 }
 
-/// Stages the file of one write, whatever its source.
+/// Stages the file of one write, whose bytes come from this source.
 ///
 /// # Errors
 ///
@@ -69,22 +73,24 @@ pub(crate) fn stage_write<T: Tree>(
     source: &Source<'_>,
     piece: &mut Piece,
 ) -> Result<(), StageFault>
-    // No staged file is begun.
+    // No staged file is begun and not yet ended.
     requires closed { stage.old.is_open ≡ false }
     // A write is left whose file is not staged.
     requires more { stage.old.staged < length stage.old.intent.writes }
     // Whatever is returned, only staged files have changed at each moment. If the source denotes
-    // bytes, these are staged then, after those that were staged before, and only the tree may fail.
+    // bytes: on Ok these are staged, and the only possible error is that of the tree.
     ensures source { StagesSource stage.old stage.new
         (λ files bytes. DenotesBytes files source.now bytes) DiskFault
         (T.history tree.old) (T.history tree.new) (T.counts tree.old) (T.counts tree.new) result }
-    // Whatever the tree returns: bytes that the source may denote are staged.
+    // On Ok, whatever the tree has returned, bytes that the source may denote are staged, after the
+    // files staged before (`contents`).
     ensures listed { (contents : List (List ℕ)) (v : TreeState) (first : List TreeState)
         → IsRunThatStagedContents stage.old contents None v first (T.history tree.old)
         → OnOk result ((bytes : List ℕ) × MayDenote source.now bytes
         × IsRunThatStagedContents stage.new (contents
         ++ bytes ∷ []) None v first (T.history tree.new)) }
-    // A package is reported bad only if the source is a file of it that is spoiled with this cause.
+    // If the error is `Bad`, the source is a file of the package of this member, and the package's
+    // file is spoiled with this cause.
     ensures bad { (member : ℕ) (cause : Cause) → IsErrOf result (Bad member cause)
         → IsSpoiledAt member cause source.now }
 {
@@ -105,7 +111,7 @@ pub(crate) fn stage_write<T: Tree>(
 pub struct PackagedFile<'a> {
     /// The package, as it was tested.
     pub package: &'a TestedPackage,
-    /// The place of its member among those after the change, counted from 0.
+    /// The index of the package's member among the members after the change.
     pub member: u32,
     /// The position of the folder in the package, counted from 1.
     pub folder: u32,
@@ -118,7 +124,8 @@ pub struct PackagedFile<'a> {
 pub enum Source<'a> {
     /// The bytes are given: those of the database or of world.
     Bytes(&'a [u8]),
-    /// The bytes represent a link to this target, whose text is after two bytes.
+    /// A symbolic link, written as a file with the link's text. The given bytes are its target as
+    /// the package stores it: two bytes for the file type, and then the text.
     Link(&'a [u8]),
     /// The bytes are read from a package.
     File(PackagedFile<'a>),
@@ -129,15 +136,15 @@ pub enum Source<'a> {
 pub struct StagedWrite<'a> {
     /// The name of the file after the change.
     pub name: &'a Name,
-    /// The source of its bytes.
+    /// The source of the file's bytes.
     pub source: Source<'a>,
 }
 
 /// Why a change is not carried through.
 #[derive(Clone, Copy, Debug, PartialEq, Eq, Drop)]
 pub enum StageFault {
-    /// A file of the package at this place does not have its digest any more. Nothing is published
-    /// yet.
+    /// A file of a package does not have the listed digest any more. `member` is the index of the
+    /// package among the members after the change. Nothing is published yet.
     Bad { member: u32, cause: Cause },
     /// An I/O error of the tree.
     Disk,
@@ -147,10 +154,10 @@ impl From<Disk> for StageFault {
     ghost use Rattle.std.specs.Prelude.{◌≡◌};
     ghost use Rattle.journal_staging.specs.declared.writes.StageFault.TheVariants.{Disk as DiskFault};
 
-    // The fault that a caller gets by `?`.
+    // The result of the conversion: the I/O error of a change.
     ghost from_gives = { λ _ fault. fault ≡ DiskFault };
 
-    // A fault of the tree as a fault of a change.
+    // A failed call of the tree as the reason why a change is not carried through.
     fn from(_: Disk) -> StageFault {
         StageFault::Disk
     }

@@ -1,7 +1,7 @@
-//! The two example changes of several files that the rows make by a `Stage` of `journal_core`. Each
-//! removes the file `x` and writes the file `y`, whose one byte is `2`. The second also writes the
-//! file `z`, whose one byte is `3`. The calls of a stage are in `docs/crash-safety.md`, "A change
-//! of several files", in the table of its steps.
+//! The two example changes of several files that the rows make by a `Stage` of `journal_core`. Both
+//! remove the file `x` and write the file `y`, whose one byte is `2`. The second change also writes
+//! the file `z`, whose one byte is `3`. The calls of a stage are in `docs/crash-safety.md`, "A
+//! change of several files", in the table of its steps.
 ghost use Rattle.std.specs.Prelude.{◌≡◌, [], ◌∷◌, ◌++◌, true, codes, IfOk, IfSome, OnOk};
 ghost use Rattle.journal_core.specs.Staged.{new_stage_of_removals_and_writes};
 
@@ -24,9 +24,9 @@ pub enum StagedChange {
 /// The progress of a change, as its calls have reported it.
 #[derive(Clone, Copy, PartialEq)]
 pub enum Reached {
-    /// No call has reported that the journal entry (intent) of the change is committed.
+    /// A call has failed before the commit of the journal entry (intent) was reported.
     Nothing,
-    /// The journal entry (intent) of the change is committed, and a later call has failed.
+    /// The commit of the journal entry (intent) was reported, and a later call has failed.
     Published,
     /// All removals and moves of the change are done, and its journal entry is removed.
     Finished,
@@ -52,8 +52,8 @@ pub(crate) fn add_reached(answer: &mut Vec<u8>, reached: Reached) -> Result<(), 
     }
 }
 
-/// Recovers the tree, makes the change, and returns how far it came: `Nothing` if the recovery
-/// fails.
+/// Recovers the tree, makes the change, and returns how far the change came. This is `Nothing` if
+/// the recovery fails.
 pub(crate) fn run_change(
     alloc: Global,
     change: StagedChange,
@@ -70,6 +70,7 @@ pub(crate) fn run_change(
 
 /// A list with this one name; None if the bytes are no valid name.
 fn one_name(alloc: Global, bytes: &[u8]) -> Result<Option<Names>, AllocError>
+    // The list has exactly this name.
     ensures { IfOk result (λ found. IfSome found (λ names. names ≡ bytes.now ∷ [])) }
 {
     let Some(name) = Name::read(alloc, bytes)? else {
@@ -82,6 +83,7 @@ fn one_name(alloc: Global, bytes: &[u8]) -> Result<Option<Names>, AllocError>
 
 /// The list `names` with one name more at its end; None if the bytes are no valid name.
 fn one_more_name(alloc: Global, names: Names, bytes: &[u8]) -> Result<Option<Names>, AllocError>
+    // The list has this name after the given ones.
     ensures { IfOk result (λ found. IfSome found (λ more. more ≡ names ++ bytes.now ∷ [])) }
 {
     let Some(name) = Name::read(alloc, bytes)? else {
@@ -94,7 +96,7 @@ fn one_more_name(alloc: Global, names: Names, bytes: &[u8]) -> Result<Option<Nam
 
 // ---- one write
 
-/// Runs the change that removes `x` and writes `y`, and returns how far it came.
+/// Makes the change that removes `x` and writes `y`, and returns how far it came.
 fn run_one_write(alloc: Global, tree: &mut MemoryTree) -> Result<Reached, AllocError> {
     let Some(mut stage) = begin_one_write(alloc)? else {
         return Ok(Reached::Nothing);
@@ -108,8 +110,9 @@ fn run_one_write(alloc: Global, tree: &mut MemoryTree) -> Result<Reached, AllocE
     Ok(Reached::Finished)
 }
 
-/// The stage of a change that removes `x` and writes `y`, with no file staged so far.
+/// The stage of the change that removes `x` and writes `y`. No file is staged so far.
 fn begin_one_write(alloc: Global) -> Result<Option<Stage>, AllocError>
+    // The stage is new, with these removals and writes.
     ensures { IfOk result (λ found. IfSome found
         (λ stage. stage ≡ new_stage_of_removals_and_writes (codes "x" ∷ []) (codes "y" ∷ []))) }
 {
@@ -125,10 +128,11 @@ fn begin_one_write(alloc: Global) -> Result<Option<Stage>, AllocError>
     }
 }
 
-/// Stages the file `y` with the byte `2`, and commits the journal entry. If all calls succeed, one
-/// file is staged and the entry is committed.
+/// Stages the file `y` with the byte `2`, and commits the journal entry.
 fn publish_one_write(stage: &mut Stage, tree: &mut MemoryTree) -> Result<(), Disk>
+    // The stage is new.
     requires { stage.old ≡ new_stage_of_removals_and_writes (codes "x" ∷ []) (codes "y" ∷ []) }
+    // On Ok, one file is staged, and the journal entry is committed.
     ensures { OnOk result (stage.new
         ≡ record (new_stage_of_removals_and_writes (codes "x" ∷ []) (codes "y" ∷ [])) {
           staged = 1;
@@ -144,6 +148,7 @@ fn publish_one_write(stage: &mut Stage, tree: &mut MemoryTree) -> Result<(), Dis
 /// Does both actions of the committed change, the removal of `x` and the move to `y`, and removes
 /// the journal entry. The third `apply_one` finds no action left.
 fn act_on_one_write(stage: &mut Stage, tree: &mut MemoryTree) -> Result<(), Disk>
+    // One file is staged, and the journal entry is committed.
     requires { stage.old
         ≡ record (new_stage_of_removals_and_writes (codes "x" ∷ []) (codes "y" ∷ [])) {
           staged = 1;
@@ -158,7 +163,7 @@ fn act_on_one_write(stage: &mut Stage, tree: &mut MemoryTree) -> Result<(), Disk
 
 // ---- two writes
 
-/// Runs the change that removes `x` and writes `y` and `z`, and returns how far it came.
+/// Makes the change that removes `x` and writes `y` and `z`, and returns how far it came.
 fn run_two_writes(alloc: Global, tree: &mut MemoryTree) -> Result<Reached, AllocError> {
     let Some(mut stage) = begin_two_writes(alloc)? else {
         return Ok(Reached::Nothing);
@@ -172,8 +177,9 @@ fn run_two_writes(alloc: Global, tree: &mut MemoryTree) -> Result<Reached, Alloc
     Ok(Reached::Finished)
 }
 
-/// The stage of a change that removes `x` and writes `y` and `z`, with no file staged so far.
+/// The stage of the change that removes `x` and writes `y` and `z`. No file is staged so far.
 fn begin_two_writes(alloc: Global) -> Result<Option<Stage>, AllocError>
+    // The stage is new, with these removals and writes.
     ensures { IfOk result (λ found. IfSome found
         (λ stage. stage ≡ new_stage_of_removals_and_writes (codes "x" ∷ [])
         (codes "y" ∷ codes "z" ∷ []))) }
@@ -193,11 +199,12 @@ fn begin_two_writes(alloc: Global) -> Result<Option<Stage>, AllocError>
     }
 }
 
-/// Stages the files `y` and `z` with the bytes `2` and `3`. If all calls succeed, two files are
-/// staged, and the journal entry is not yet committed.
+/// Stages the file `y` with the byte `2`, and the file `z` with the byte `3`.
 fn stage_two_files(stage: &mut Stage, tree: &mut MemoryTree) -> Result<(), Disk>
+    // The stage is new.
     requires { stage.old
         ≡ new_stage_of_removals_and_writes (codes "x" ∷ []) (codes "y" ∷ codes "z" ∷ []) }
+    // On Ok, two files are staged, and the journal entry is not yet committed.
     ensures { OnOk result (stage.new
         ≡ record (new_stage_of_removals_and_writes (codes "x" ∷ [])
         (codes "y" ∷ codes "z" ∷ [])) { staged = 2 }) }
@@ -213,6 +220,7 @@ fn stage_two_files(stage: &mut Stage, tree: &mut MemoryTree) -> Result<(), Disk>
 /// Does the three actions of the committed change, the removal of `x` and the moves to `y` and `z`,
 /// and removes the journal entry. The fourth `apply_one` finds no action left.
 fn act_on_two_writes(stage: &mut Stage, tree: &mut MemoryTree) -> Result<(), Disk>
+    // Two files are staged, and the journal entry is committed.
     requires { stage.old
         ≡ record (new_stage_of_removals_and_writes (codes "x" ∷ []) (codes "y" ∷ codes "z" ∷ [])) {
           staged = 2;

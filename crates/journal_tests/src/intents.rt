@@ -1,6 +1,7 @@
-//! Answers `recover`, `cuts` and `change`: recoveries of given files, also of files that no change
-//! of `apk` leaves; journal entries (intents) that are cut off; and changes that are stopped after
-//! some calls. The rules are in `docs/crash-safety.md`, "Recovery", the table of what it finds.
+//! The answers to the questions `recover`, `cuts` and `change`: recoveries of given files, also of
+//! files that no change of `apk` leaves; journal entries (intents) that are cut off; and changes
+//! that are stopped after some calls. The rules are in `docs/crash-safety.md`, "Recovery", the
+//! table of what a recovery finds.
 use crate::changing::{StagedChange, add_reached, change_named, run_change};
 use crate::trees::{add_count, add_tree, long_at, put, text_of, tree_of};
 use base_core::Words;
@@ -13,8 +14,8 @@ use tree_memory::MemoryTree;
 const INTENT: &[u8] = b"lib/apk/intent";
 
 /// Answers `recover (NAME BYTES)..`: recovers a tree with these files twice. Adds the result of
-/// each recovery, the number of calls that have written so far, and the files after the first
-/// recovery.
+/// each recovery, each with the number of calls that have written so far; between both it adds the
+/// files after the first recovery.
 pub(crate) fn add_recovery(
     alloc: Global,
     words: &Words,
@@ -25,8 +26,8 @@ pub(crate) fn add_recovery(
     add_both_recoveries(alloc, &mut tree, answer)
 }
 
-/// Recovers a tree twice. Adds the result of each recovery with the number of calls that have
-/// written so far, and the files between both. The second recovery has nothing left to do.
+/// Recovers the tree twice. Adds the result of each recovery, each with the number of calls that
+/// have written so far, and the files after the first recovery. The second one has nothing to do.
 fn add_both_recoveries(
     alloc: Global,
     tree: &mut MemoryTree,
@@ -40,7 +41,7 @@ fn add_both_recoveries(
     add_count(alloc, answer, b"writes", tree.writes())
 }
 
-/// Adds the word for the result of a recovery.
+/// Adds the word by which answers name the result of a recovery.
 fn add_answer(answer: &mut Vec<u8>, found: Result<(), RecoverFault>) -> Result<(), AllocError> {
     match found {
         Ok(()) => add_word(answer, b"ok"),
@@ -50,9 +51,9 @@ fn add_answer(answer: &mut Vec<u8>, found: Result<(), RecoverFault>) -> Result<(
     }
 }
 
-/// Answers `cuts INTENT (NAME BYTES)..`: cuts the journal entry INTENT to each shorter length. Adds
-/// how many lengths there are, and at how many of them a recovery refuses the entry and writes
-/// nothing.
+/// Answers `cuts INTENT (NAME BYTES)..`: cuts the bytes of the journal entry INTENT to each shorter
+/// length. Adds how many lengths there are, and at how many of them a recovery of the files with
+/// the cut entry refuses it and writes nothing.
 pub(crate) fn add_cuts(
     alloc: Global,
     words: &Words,
@@ -69,15 +70,16 @@ pub(crate) fn add_cuts(
     add_count(alloc, answer, b"refused", refused)
 }
 
-/// Whether a recovery of the row's files with this cut journal entry refuses it, and writes
-/// nothing.
+/// Whether a recovery of the row's files, with `intent` as the file of the journal entry, refuses
+/// the entry and writes nothing.
 fn is_cut_refused(alloc: Global, words: &Words, intent: &[u8]) -> Result<bool, AllocError> {
     // The files begin after the words `cuts` and INTENT.
     let mut tree = tree_of(alloc, words, 2)?;
     is_refused(alloc, &mut tree, intent)
 }
 
-/// Whether a recovery refuses these bytes as a journal entry, and leaves the tree as it is.
+/// Whether a recovery of the tree, with `intent` as the file of the journal entry, refuses the
+/// entry and leaves all files as they are.
 fn is_refused(alloc: Global, tree: &mut MemoryTree, intent: &[u8]) -> Result<bool, AllocError> {
     put(alloc, tree, INTENT, intent)?;
     let before = text_of(alloc, tree)?;
@@ -86,9 +88,9 @@ fn is_refused(alloc: Global, tree: &mut MemoryTree, intent: &[u8]) -> Result<boo
     Ok(refused && tree.writes() == 0 && before.as_slice() == after.as_slice())
 }
 
-/// Answers `change CHANGE CALLS (NAME BYTES)..`: makes the change on a tree with these files, and
-/// stops after CALLS calls. Adds how far the change came, and how many calls wrote. Then adds how
-/// many maps of names a crash may leave, and the files of the tree.
+/// Answers `change CHANGE CALLS (NAME BYTES)..`: makes the change on a tree with these files, which
+/// stops after CALLS calls. Adds how far the change came, how many calls wrote, how many maps of
+/// names a crash may leave, and the files of the tree.
 pub(crate) fn add_change(
     alloc: Global,
     words: &Words,
@@ -104,7 +106,8 @@ pub(crate) fn add_change(
     add_changed_tree(alloc, change, &mut tree, answer)
 }
 
-/// Runs a change; adds how far it came, the calls that wrote, the maps of names, and the files.
+/// Makes the change on the tree. Adds how far it came, how many calls wrote, how many maps of names
+/// a crash may leave, and the files of the tree.
 fn add_changed_tree(
     alloc: Global,
     change: StagedChange,

@@ -1,8 +1,8 @@
-//! Answers questions to `journal_core`, `journal_recovery` and `file_replacement`: which files a
-//! change of several files leaves if it is cut off or a call fails, and what a recovery makes of
-//! them; which journal entries (intents) are refused; and a file that is replaced again and again
-//! while the names are never synced. Its stored run has all rows; `tests/lines.md` describes their
-//! form. The README of this crate has a row for each question.
+//! Tests of `journal_core`, `journal_recovery` and `file_replacement`: which files a change of
+//! several files leaves if it is cut off or a call fails, and what a recovery makes of these files;
+//! which journal entries (intents) are refused; and a file that is replaced again and again while
+//! the names are never synced. The rows are in the stored run of this crate; `tests/lines.md`
+//! describes their form. The README of this crate has a row for each question.
 #![tactic(auto)]
 
 mod changing;
@@ -25,23 +25,27 @@ use sweeping::{add_fault, add_stop};
 /// The questions of rows; the README of this crate says what each question shows.
 #[derive(Clone, Copy)]
 enum Question {
-    /// `change CHANGE CALLS NAME BYTES ..`: the change stops after CALLS calls.
+    /// `change CHANGE CALLS NAME BYTES ..`: a change is stopped after CALLS calls on the tree.
     Change,
-    /// `stop CHANGE CALLS NAME BYTES ..`: as `Change`; then each crash image is recovered.
+    /// `stop CHANGE CALLS NAME BYTES ..`: a change is stopped after CALLS calls on the tree; then
+    /// each crash image, that is, each set of files that a crash may leave, is recovered.
     Stop,
-    /// `fault CHANGE CALL NAME BYTES ..`: a call of the change fails, then calls of recoveries.
+    /// `fault CHANGE CALL NAME BYTES ..`: call number CALL of a change fails, and then one call of
+    /// each of two recoveries.
     Fault,
     /// `recover NAME BYTES ..`: these files are recovered twice.
     Recover,
     /// `cuts INTENT NAME BYTES ..`: the journal entry is cut to each shorter length.
     Cuts,
-    /// `many WRITES WAITING`: a journal entry with WRITES writes is read and recovered.
+    /// `many WRITES WAITING`: a journal entry with WRITES writes, of which the last WAITING are not
+    /// done yet, is read and recovered.
     ManyWrites,
-    /// `replace NAME CALLS`: a file is replaced, after many others were moved to its name.
+    /// `replace NAME CALLS`: a file is replaced, after many others were moved to its name. The
+    /// replacement is stopped after CALLS calls on the tree.
     Replace,
 }
 
-// The first word of each question.
+// The first word of the rows of each question.
 #[rattlefmt::skip]
 const QUESTIONS: [(&[u8], Question); 7] = [
     (b"change", Question::Change),
@@ -53,12 +57,12 @@ const QUESTIONS: [(&[u8], Question); 7] = [
     (b"replace", Question::Replace),
 ];
 
-/// The subject of the rows. It keeps nothing, as each row has trees of its own.
+/// The subject that the rows are about. It keeps nothing, since each row makes trees of its own.
 #[derive(Drop)]
 struct Sweeps;
 
 impl Subject for Sweeps {
-    // Answers a question by its first word. No question depends on an earlier row.
+    // Adds the answer to the row with these words, whose first word names the question.
     fn answer(
         &mut self,
         alloc: Global,
@@ -80,7 +84,7 @@ impl Subject for Sweeps {
     }
 }
 
-// Answers the rows of standard input.
+// Answers the rows of standard input, one after another.
 fn main(rt: HostRuntime) -> io::Result<ExitCode> {
     run_program(&rt, rt.alloc(), &mut Sweeps)
 }

@@ -1,6 +1,6 @@
-//! Answers `many`: a journal entry (intent) with so many writes that a test of each pair of its
-//! names would not end in time. Such an entry passes the tests of `docs/formats.md`, "Tests of a
-//! container", also the test that no name is repeated.
+//! The answer to the question `many`: a journal entry (intent) with so many writes that a
+//! comparison of each pair of its names would take too long. Such an entry passes the tests of
+//! `docs/formats.md`, "Tests of a container", also the test that no name is repeated.
 use crate::trees::{add_count, long_at, put};
 use adb_schema::INTENT_WORD;
 use adb_view::Val;
@@ -12,27 +12,27 @@ use row_lines::add_word;
 use std::alloc::{AllocError, Global};
 use tree_memory::MemoryTree;
 
-/// The number in the name of the first write. All numbers have six digits, so that the names rise
-/// in byte order and a tree in memory adds each name at its end.
-const FIRST: usize = 100_000;
+/// The number in the name of the first write. All numbers have six digits, so that the names are in
+/// byte order, and a tree in memory adds each name at its end.
+const FIRST_NUMBER: usize = 100_000;
 
 /// The most bytes that a payload may have (`docs/formats.md`, "Canonical layout").
 const MOST_BYTES: usize = 268_435_455;
 
-/// The greatest number of writes that a row may ask for. The number of staged files that still wait
-/// to be moved has the same limit.
-const MOST: u64 = 65_536;
+/// The greatest number of writes in a journal entry that a row may ask for. The number of those
+/// writes that are not done yet has the same limit.
+const MOST_WRITES: u64 = 65_536;
 
-/// Answers `many WRITES WAITING`: makes a journal entry of WRITES writes, of which the last WAITING
-/// files are still staged. Adds how many names are read back from the entry; then whether a
-/// recovery succeeds, how many calls wrote, and how many files have their final names.
+/// Answers `many WRITES WAITING`: makes a journal entry with WRITES writes, of which the files of
+/// the last WAITING are still staged. Adds how many names are read back from the entry. Then adds
+/// whether a recovery succeeds, how many calls wrote, and how many files have their final names.
 pub(crate) fn add_many_writes(
     alloc: Global,
     words: &Words,
     answer: &mut Vec<u8>,
 ) -> Result<(), AllocError> {
-    let count = long_at(words, 1).min(MOST) as usize;
-    let waiting = long_at(words, 2).min(MOST) as usize;
+    let count = long_at(words, 1).min(MOST_WRITES) as usize;
+    let waiting = long_at(words, 2).min(MOST_WRITES) as usize;
     let Some(file) = intent_file(alloc, count)? else {
         return answer.extend_from_slice(b"no intent");
     };
@@ -40,8 +40,8 @@ pub(crate) fn add_many_writes(
     add_recovered(alloc, &file, count, waiting, answer)
 }
 
-/// Recovers a tree with the journal entry `file` of `count` writes, of which the last `waiting`
-/// files are still staged, and adds the results.
+/// Recovers a new tree with the journal entry `file`, which has `count` writes; the files of the
+/// last `waiting` writes are still staged. Adds the results of the recovery.
 fn add_recovered(
     alloc: Global,
     file: &[u8],
@@ -53,8 +53,8 @@ fn add_recovered(
     add_recovered_tree(alloc, &mut tree, file, count, waiting, answer)
 }
 
-/// Fills the tree and recovers it; adds whether that succeeds, how many calls wrote, and how many
-/// files have their final names.
+/// Puts these files into the tree and recovers it. Adds whether the recovery succeeds, how many
+/// calls wrote, and how many files have their final names.
 fn add_recovered_tree(
     alloc: Global,
     tree: &mut MemoryTree,
@@ -70,15 +70,15 @@ fn add_recovered_tree(
     add_count(alloc, answer, b"names", names_in_place(alloc, tree)?)
 }
 
-/// The name of the write with this index, counted from 0: `f` and a number.
+/// The name of the write with this index: `f` and a number of six digits.
 fn name_text(alloc: Global, i: usize) -> Result<Vec<u8>, AllocError> {
-    let number = FIRST.saturating_add(i);
+    let number = FIRST_NUMBER.saturating_add(i);
     let text = format!(in alloc; "f{number}")?;
     Vec::from_slice(alloc, text.as_bytes())
 }
 
-/// The container of a journal entry with `count` writes; None if the writer refuses it or its
-/// payload is too long.
+/// The file of a journal entry with `count` writes, or None if the writer refuses it or its payload
+/// is too long.
 fn intent_file(alloc: Global, count: usize) -> Result<Option<Vec<u8>>, AllocError> {
     let mut writer = Writer::new(alloc);
     let mut writes = Vec::new(alloc);
@@ -92,20 +92,20 @@ fn intent_file(alloc: Global, count: usize) -> Result<Option<Vec<u8>>, AllocErro
     }
 }
 
-/// Writes the name of the write with this index into a payload.
+/// Adds the name of the write with this index to the payload of a journal entry.
 fn write_name(alloc: Global, writer: &mut Writer, i: usize) -> Result<Val, AllocError> {
     let name = name_text(alloc, i)?;
     writer.blob(&name)
 }
 
-/// Writes the root of a journal entry: no removals, and these writes.
+/// Adds the root value to the payload of a journal entry: no removals, and these writes.
 fn write_root(writer: &mut Writer, writes: &[Val]) -> Result<Val, AllocError> {
     let writes = writer.arr(writes)?;
     // The word 0 is null: there are no removals.
     writer.obj(&[Val::of(0), writes])
 }
 
-/// The container of a journal entry with this payload; None if the payload is too long for one.
+/// The file of a journal entry with this payload, or None if the payload is too long.
 fn file_of_payload(alloc: Global, payload: &[u8]) -> Result<Option<Vec<u8>>, AllocError> {
     if payload.len() > MOST_BYTES {
         return Ok(None);
@@ -113,8 +113,8 @@ fn file_of_payload(alloc: Global, payload: &[u8]) -> Result<Option<Vec<u8>>, All
     Ok(Some(file_of(alloc, INTENT_WORD, payload)?))
 }
 
-/// How many writes of a journal entry are read with the name for their index; 0 if the entry is
-/// refused.
+/// How many writes of the journal entry `file` are read back with the name that belongs to their
+/// index; 0 if the entry is refused.
 fn names_read(alloc: Global, file: &[u8]) -> Result<u64, AllocError> {
     let file = Vec::from_slice(alloc, file)?;
     let Ok(intent) = PreparedIntent::of_file(alloc, file) else {
@@ -135,8 +135,8 @@ fn is_name_at(alloc: Global, name: &Name, i: usize) -> Result<bool, AllocError> 
     Ok(name.as_bytes() == text.as_slice())
 }
 
-/// Puts the journal entry `file` into the tree, and the files of its `count` writes: the last
-/// `waiting` files into the staging area, and the others under their final names.
+/// Puts the journal entry `file` into the tree, and the files of its `count` writes: those of the
+/// last `waiting` writes into the staging area, and the others under their final names.
 fn put_many_writes(
     alloc: Global,
     tree: &mut MemoryTree,
@@ -156,7 +156,7 @@ fn put_many_writes(
     Ok(())
 }
 
-/// Puts the file of the write with this index under its final name, as if it was moved already.
+/// Puts the file of the write with this index under its final name, as if it had been moved there.
 fn put_moved(alloc: Global, tree: &mut MemoryTree, i: usize) -> Result<(), AllocError> {
     let name = name_text(alloc, i)?;
     put(alloc, tree, &name, b"1")
@@ -168,7 +168,8 @@ fn put_waiting(alloc: Global, tree: &mut MemoryTree, k: usize) -> Result<(), All
     put(alloc, tree, staged.as_bytes(), b"1")
 }
 
-/// How many names of the tree, in byte order, are the name of the write with the same index.
+/// How many files of the tree have the final name of a write: the name at an index, in byte order,
+/// is the name of the write with this index.
 fn names_in_place(alloc: Global, tree: &MemoryTree) -> Result<u64, AllocError> {
     let names = tree.names(alloc)?;
     let mut found: u64 = 0;

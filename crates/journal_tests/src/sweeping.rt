@@ -1,6 +1,6 @@
-//! Answers `stop` and `fault`: a change that is cut off after a call, or whose call fails, and the
-//! recovery of each crash image. The rules are in `docs/crash-safety.md`, "A change of several
-//! files" and "Recovery".
+//! The answers to the questions `stop` and `fault`: a change that is cut off after some calls, with
+//! the recovery of each crash image; and a change one of whose calls fails, with recoveries that
+//! fail too. The rules are in `docs/crash-safety.md`, "A change of several files" and "Recovery".
 use crate::changing::{Reached, StagedChange, add_reached, change_named, run_change};
 use crate::trees::{add_count, long_at, text_of, tree_of};
 use base_core::Words;
@@ -9,15 +9,15 @@ use row_lines::word_at;
 use std::alloc::{AllocError, Global};
 use tree_memory::MemoryTree;
 
-/// The most pairs of failing calls that are tried: one call of the first recovery, and one of the
-/// second. Each row has fewer pairs.
-const RUNS: u64 = 6400;
+/// How many pairs of failing calls are tried at most: one call of the first recovery, and one of
+/// the second. Each row has fewer pairs.
+const MOST_PAIRS: u64 = 6400;
 
 /// The index of the first word of a row that names a file. The words before it are the question,
 /// CHANGE and CALLS or CALL.
-const FILES: usize = 3;
+const FIRST_FILE_WORD: usize = 3;
 
-/// The files before and after the change of a row, as text.
+/// The files that a recovered tree may have: those before and those after the change of a row.
 #[derive(Drop)]
 struct Wanted {
     /// The files before the change, each as `NAME=BYTES`.
@@ -26,14 +26,15 @@ struct Wanted {
     new: Vec<u8>,
 }
 
-/// Which files a recovered tree has.
+/// Which files a recovered tree has, compared with those before and after the change.
 #[derive(Clone, Copy, PartialEq)]
 enum Recovered {
     /// The files before the change.
     Old,
     /// The files after the change.
     New,
-    /// Other files; or a recovery failed, or the next recovery after a crash left other files.
+    /// Other files than these two; or the recovery failed, or a further crash and recovery left
+    /// other files.
     Other,
 }
 
@@ -58,7 +59,7 @@ impl Tally {
         }
     }
 
-    /// The counts with one recovered tree more, which has these files.
+    /// The counts, with one more recovered tree, which has the files that `found` says.
     fn with(self, found: Recovered) -> Tally {
         let mut tally = self;
         match found {
@@ -79,17 +80,17 @@ impl Tally {
 
 // ---- the expected files, and the files after a recovery
 
-/// The files of a row before and after its change; None if the change does not finish.
+/// The files of a row before the change and after it, or None if the change does not finish.
 fn wanted_texts(
     alloc: Global,
     words: &Words,
     change: StagedChange,
 ) -> Result<Option<Wanted>, AllocError> {
-    let mut tree = tree_of(alloc, words, FILES)?;
+    let mut tree = tree_of(alloc, words, FIRST_FILE_WORD)?;
     texts_of_change(alloc, change, &mut tree)
 }
 
-/// The files of the tree before the change and after it; None if the change does not finish.
+/// The files of the tree before the change and after it, or None if the change does not finish.
 fn texts_of_change(
     alloc: Global,
     change: StagedChange,
@@ -103,7 +104,8 @@ fn texts_of_change(
     Ok(Some(Wanted { old, new }))
 }
 
-/// Whether this text of a tree's files is that before the change, that after it, or another.
+/// Whether `text`, the files of a tree as text, is that before the change, that after it, or
+/// another.
 fn found_of(wanted: &Wanted, text: &[u8]) -> Recovered {
     if text == wanted.old.as_slice() {
         return Recovered::Old;
@@ -114,8 +116,8 @@ fn found_of(wanted: &Wanted, text: &[u8]) -> Recovered {
     Recovered::Other
 }
 
-/// Recovers a tree, and returns which files it then has. It is `Other` if the recovery fails, or if
-/// the crash image that `choice` picks does not recover to the same files.
+/// Recovers the tree, and returns which files it then has. The result is `Other` if the recovery
+/// fails, or if the crash image that `choice` stands for does not recover to the same files.
 fn found_in(
     alloc: Global,
     wanted: &Wanted,
@@ -132,7 +134,7 @@ fn found_in(
     Ok(Recovered::Other)
 }
 
-/// Whether the crash image of a tree that `choice` picks recovers to the files of this text.
+/// Whether the crash image of the tree that `choice` stands for recovers to the files of `text`.
 fn is_settled(
     alloc: Global,
     tree: &MemoryTree,
@@ -143,7 +145,7 @@ fn is_settled(
     recovers_to(alloc, &mut image, text)
 }
 
-/// Whether a recovery of the tree succeeds and leaves the files of this text.
+/// Whether a recovery of the tree succeeds and leaves the files of `text`.
 fn recovers_to(alloc: Global, tree: &mut MemoryTree, text: &[u8]) -> Result<bool, AllocError> {
     if recover(alloc, tree).is_err() {
         return Ok(false);
@@ -154,9 +156,9 @@ fn recovers_to(alloc: Global, tree: &mut MemoryTree, text: &[u8]) -> Result<bool
 
 // ---- `stop`: changes that are cut off
 
-/// Answers `stop CHANGE CALLS (NAME BYTES)..`: adds how far a change comes that is cut off after
-/// CALLS calls. Then adds how many maps of names a crash may leave, and to which files the crash
-/// images recover.
+/// Answers `stop CHANGE CALLS (NAME BYTES)..`: adds how far the change comes on a tree with these
+/// files that stops after CALLS calls. Then adds how many maps of names a crash may leave, and how
+/// many crash images recover to the old, to the new, and to other files.
 pub(crate) fn add_stop(
     alloc: Global,
     words: &Words,
@@ -171,7 +173,8 @@ pub(crate) fn add_stop(
     add_stop_of(alloc, words, change, &wanted, answer)
 }
 
-/// Runs the change on a tree that stops after CALLS calls, and recovers each of its crash images.
+/// Makes the change on a tree with the files of the row that stops after CALLS calls, and recovers
+/// each crash image of the tree. Adds the results.
 fn add_stop_of(
     alloc: Global,
     words: &Words,
@@ -179,13 +182,13 @@ fn add_stop_of(
     wanted: &Wanted,
     answer: &mut Vec<u8>,
 ) -> Result<(), AllocError> {
-    let mut tree = tree_of(alloc, words, FILES)?;
+    let mut tree = tree_of(alloc, words, FIRST_FILE_WORD)?;
     tree.stop_after(long_at(words, 2));
     add_images(alloc, change, wanted, &mut tree, answer)
 }
 
-/// Runs the change; adds how far it came, the number of maps of names, and how many crash images
-/// recover to which files.
+/// Makes the change on the tree. Adds how far it came, how many maps of names a crash may leave,
+/// and how many crash images recover to the old, to the new, and to other files.
 fn add_images(
     alloc: Global,
     change: StagedChange,
@@ -201,14 +204,14 @@ fn add_images(
 /// How many crash images of a tree recover to the old, to the new, and to other files.
 fn tally_of_images(alloc: Global, wanted: &Wanted, tree: &MemoryTree) -> Result<Tally, AllocError> {
     let mut tally = Tally::none();
-    // A choice picks the map of names, and one of three contents of unsynced files.
+    // Each number `choice` stands for a map of names, and one of three contents of unsynced files.
     for choice in 0..tree.picks().saturating_mul(3) {
         tally = tally.with(found_in_image(alloc, wanted, tree, choice)?);
     }
     Ok(tally)
 }
 
-/// To which files the crash image that `choice` picks recovers.
+/// To which files the crash image that `choice` stands for recovers.
 fn found_in_image(
     alloc: Global,
     wanted: &Wanted,
@@ -221,8 +224,8 @@ fn found_in_image(
 
 // ---- `fault`: calls that fail
 
-/// The numbers of the calls that fail: one of the change, one of its recovery, and one of a second
-/// recovery.
+/// The numbers of the calls that are to fail: one call of the change, one of the first recovery
+/// after it, and one of the second recovery.
 #[derive(Clone, Copy)]
 struct Failing {
     /// The number of the call of the change that fails, counted from 1.
@@ -234,9 +237,9 @@ struct Failing {
 }
 
 impl Failing {
-    /// The numbers to try after a run with these: the next call of the second recovery, or else the
-    /// next call of the first recovery with the first call of the second. None if neither recovery
-    /// failed.
+    /// The numbers to try after a run with these numbers. If the second recovery failed in this
+    /// run, its next call is to fail. Otherwise the next call of the first recovery is to fail,
+    /// together with the first call of the second; None if the first recovery did not fail either.
     fn next(self, run: Recoveries) -> Option<Failing> {
         let mut next = self;
         if run.second_failed {
@@ -252,16 +255,17 @@ impl Failing {
 /// Whether the first two recoveries of a change failed, and what the third one left.
 #[derive(Clone, Copy)]
 struct Recoveries {
-    /// Whether the first recovery failed, as it makes the call that is to fail.
+    /// Whether the first recovery failed, because it has made the call that was to fail.
     first_failed: bool,
-    /// Whether the second recovery failed, as it makes the call that is to fail.
+    /// Whether the second recovery failed, because it has made the call that was to fail.
     second_failed: bool,
     /// Which files the tree has after the third recovery.
     found: Recovered,
 }
 
-/// Answers `fault CHANGE CALL (NAME BYTES)..`: how far a change comes if its call CALL fails. Then
-/// two recoveries fail, each at every call in turn; the counts say what the third recovery leaves.
+/// Answers `fault CHANGE CALL (NAME BYTES)..`: adds how far the change comes if its call number
+/// CALL fails. Then two recoveries fail, at each pair of their calls in turn. Adds in how many of
+/// these runs the third recovery leaves the old, the new, or other files.
 pub(crate) fn add_fault(
     alloc: Global,
     words: &Words,
@@ -277,21 +281,21 @@ pub(crate) fn add_fault(
     tally_of_faults(alloc, words, change, &wanted)?.add_to(alloc, answer)
 }
 
-/// Runs the change on a tree whose call number CALL fails, and adds how far it comes.
+/// Makes the change on a tree whose call number CALL fails, and adds how far the change comes.
 fn add_failed_change(
     alloc: Global,
     words: &Words,
     change: StagedChange,
     answer: &mut Vec<u8>,
 ) -> Result<(), AllocError> {
-    let mut tree = tree_of(alloc, words, FILES)?;
+    let mut tree = tree_of(alloc, words, FIRST_FILE_WORD)?;
     add_reached(
         answer,
         run_failing(alloc, change, &mut tree, long_at(words, 2))?,
     )
 }
 
-/// Runs the change on a tree whose call with this number fails, and returns how far it comes.
+/// Makes the change on the tree, whose call number `call` fails, and returns how far it comes.
 fn run_failing(
     alloc: Global,
     change: StagedChange,
@@ -302,8 +306,8 @@ fn run_failing(
     run_change(alloc, change, tree)
 }
 
-/// Counts what the third recovery leaves, over all pairs of failing calls of the first and the
-/// second recovery.
+/// How often the third recovery leaves the old, the new, or other files, over all pairs of a
+/// failing call of the first recovery and one of the second.
 fn tally_of_faults(
     alloc: Global,
     words: &Words,
@@ -316,7 +320,7 @@ fn tally_of_faults(
         second: 1,
     };
     let mut tally = Tally::none();
-    for _ in 0..RUNS {
+    for _ in 0..MOST_PAIRS {
         let run = run_and_recover(alloc, words, change, wanted, failing)?;
         tally = tally.with(run.found);
         let Some(next) = failing.next(run) else {
@@ -327,7 +331,8 @@ fn tally_of_faults(
     Ok(tally)
 }
 
-/// Runs the change on the files of a row with these failing calls, and recovers three times.
+/// Makes the change on the files of a row, and recovers three times. The calls `failing` of the
+/// change and of the first two recoveries fail.
 fn run_and_recover(
     alloc: Global,
     words: &Words,
@@ -335,12 +340,12 @@ fn run_and_recover(
     wanted: &Wanted,
     failing: Failing,
 ) -> Result<Recoveries, AllocError> {
-    let mut tree = tree_of(alloc, words, FILES)?;
+    let mut tree = tree_of(alloc, words, FIRST_FILE_WORD)?;
     recover_thrice(alloc, change, wanted, &mut tree, failing)
 }
 
-/// Runs the change, and recovers three times. One call of the change fails, and one of each of the
-/// first two recoveries.
+/// Makes the change on the tree, and recovers three times. The calls `failing` of the change and of
+/// the first two recoveries fail.
 fn recover_thrice(
     alloc: Global,
     change: StagedChange,
@@ -351,7 +356,8 @@ fn recover_thrice(
     run_failing(alloc, change, tree, failing.call)?;
     let first_failed = recovery_fails(alloc, tree, failing.first)?;
     let second_failed = recovery_fails(alloc, tree, failing.second)?;
-    // The third recovery. The number here picks the crash image that is recovered after it.
+    // The third recovery succeeds. Its last argument picks the crash image that is recovered after
+    // it.
     let found = found_in(alloc, wanted, tree, failing.second)?;
     Ok(Recoveries {
         first_failed,
@@ -360,11 +366,11 @@ fn recover_thrice(
     })
 }
 
-/// Whether a recovery of the tree fails, if its call with this number is to fail.
+/// Whether a recovery of the tree fails if its call number `call` is to fail.
 fn recovery_fails(alloc: Global, tree: &mut MemoryTree, call: u64) -> Result<bool, AllocError> {
     tree.fail_at(&[call])?;
     let fails = recover(alloc, tree).is_err();
-    // No later call is to fail.
+    // From here on no call is to fail.
     tree.fail_at(&[])?;
     Ok(fails)
 }

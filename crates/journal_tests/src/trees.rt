@@ -5,15 +5,16 @@ use row_lines::{add_named, add_number, add_word, number_of, word_at};
 use std::alloc::{AllocError, Global};
 use tree_memory::MemoryTree;
 
-/// The number that the word at an index of a row is; 0 if the word is no number of 64 bits.
+/// The number in the word of a row with this index, or 0 if the word is no number of 64 bits.
 pub(crate) fn long_at(words: &Words, i: usize) -> u64 {
     number_of(word_at(words, i))
         .and_then(|number| u64::try_from(number).ok())
         .unwrap_or(0)
 }
 
-/// A tree of the files in the words from the index `first` on: a name, its bytes, and so on. A name
-/// that the tree cannot have is left out.
+/// A tree with the files that the words of a row from the index `first` on describe: the name of a
+/// file, its bytes, the name of the next file, and so on. A file that the tree cannot have is left
+/// out.
 pub(crate) fn tree_of(
     alloc: Global,
     words: &Words,
@@ -21,7 +22,8 @@ pub(crate) fn tree_of(
 ) -> Result<MemoryTree, AllocError> {
     let mut tree = MemoryTree::new(alloc);
     for i in first..words.len() {
-        // A word at an odd distance has the bytes, and the word before it the name.
+        // A word at an odd distance from the first one has a file's bytes, and the word before it
+        // the file's name.
         if (i - first) % 2 == 1 {
             put(alloc, &mut tree, words.word(i - 1), words.word(i))?;
         }
@@ -70,7 +72,7 @@ pub(crate) fn add_tree(
     add_word(answer, &text)
 }
 
-/// Adds the word `what`, which says what is counted, and then the count.
+/// Adds the word `what`, which says what is counted, and then the count, as the next word.
 pub(crate) fn add_count(
     alloc: Global,
     answer: &mut Vec<u8>,

@@ -1,12 +1,12 @@
 -- The definitions of this crate, whose rules are in `docs/commands.md`, "What a change does
 -- with files".
 
--- passed on: a crate above that names this one need not name these
+-- definitions of other crates, passed on: a crate that imports this module need not import theirs
 pub use Rattle.change_files.specs as change_files
 pub use Rattle.change_files.specs.file_owners as file_owners
 pub use Rattle.path_claim_lists.specs.path_claims as path_claims
 pub use Rattle.path_claim_lists.specs.path_clashes as path_clashes
--- what the contracts of this crate's calls say
+-- modules that the contracts of the public functions of this crate cite
 pub mod WritesSeen
 pub mod Planned
 pub mod ClaimEntries
@@ -15,7 +15,7 @@ pub mod Fates
 pub mod Going
 pub mod Found
 pub mod Parts
--- what only inner contracts and proofs use
+-- modules that only contracts of inner functions and proofs cite
 pub mod NamesChanged
 pub mod ListsSeen
 pub mod FaultsSeen

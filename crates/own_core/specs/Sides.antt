@@ -13,24 +13,28 @@ use Rattle.change_files.specs.FileChange.{FileChange}
 use Rattle.own_core.specs.ClaimEntries.{AreClaimsOf}
 use Rattle.own_core.specs.declared.claim_change.ClaimChange.{ClaimChange}
 
--- the change of files that the packages before and after denote
+-- the change of files, from the packages of the old database to the members after the change
 abbrev pub file_change_of : ClaimChange → FileChange
 file_change_of c =
     record { old = packages_of c.db.now; members = members_of c.members.now; purge = c.purge }
 
--- the claims of the packages before, in byte order of their paths
+-- the claims of the packages before the change, one for each path, in byte order of the paths
 abbrev pub claims_before : ClaimChange → List PathClaim
 claims_before c = map claim_seen c.before.now
 
--- the claims of the packages after, in byte order of their paths
+-- all claims of the packages after the change, in byte order of the paths
 abbrev pub claims_after : ClaimChange → List PathClaim
 claims_after c = map claim_seen c.after.now
 
--- the claims of a change are those of its packages: before the change one for each path, after it all
+-- the two lists of claims are those of the packages: before the change one claim for each path, after it all claims
 pub record HasClaimsOfPackages (c : ClaimChange) : Type 0 where
+  -- `before` has the first claim of each path that the packages of the old database list
   pub before : HasFirstClaimOfEachPath
       (sorted_by claim_cmp (claims_in (members_of_kept (packages_of c.db.now))))
       (claims_before c)
+  -- `after` has all claims of the members after the change, in byte order of the paths
   pub after : claims_after c ≡ sorted_by claim_cmp (claims_in (members_of c.members.now))
+  -- each claim before is of a file of a package of the old database, and its path is a name
   pub old_files : AreClaimsOf (members_of_kept (packages_of c.db.now)) (claims_before c)
+  -- each claim after is of a file of a member after the change, and its path is a name
   pub new_files : AreClaimsOf (members_of c.members.now) (claims_after c)

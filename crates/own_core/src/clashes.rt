@@ -1,7 +1,7 @@
-//! The names that a change writes and lets go of, among which `path_clashes` searches for one that
-//! is a folder of another.
+//! The names that count as written by a change, and those that it releases, as inputs of
+//! `first_clash` of `path_clashes`. That function searches for a name that is a folder of another.
 //! The rule is in `docs/commands.md`, "What a change does with files", test 2: which names are
-//! present afterwards. The terms *lets go* and *counts as written* are in `docs/names.md`, "The
+//! present afterwards. The terms *releases* and *counts as written* are in `docs/names.md`, "The
 //! installed database and a change of it".
 
 ghost use Rattle.std.specs.Prelude.{◌≡◌, ◌&&◌, ◌||◌, ◌++◌, ◌∷◌, [], not, is_some, IfOk, OnOk, map};
@@ -26,9 +26,11 @@ use path_claim_lists::{Claim, FilePath, IsReleased, find_claim, name_of_path};
 use root_names::{DATABASE_NAME, WORLD_NAME};
 use std::alloc::{AllocError, Global};
 
-/// The names beside the paths of claims, `PATH.apk-new` of each, in their order.
+/// The name `PATH.apk-new` for the path of each claim, in the same order.
 pub(crate) fn names_beside(alloc: Global, asides: &[Claim<'_>]) -> Result<Names, AllocError>
+    // Each of these is a name that is not too long.
     requires { CanHaveApkNewNames (map claim_seen asides.now) }
+    // On Ok, these are the names, in the order of the claims.
     ensures { IfOk result
         (λ names. names ≡ map (λ c. apk_new_name c.path) (map claim_seen asides.now)) }
 {
@@ -40,13 +42,15 @@ pub(crate) fn names_beside(alloc: Global, asides: &[Claim<'_>]) -> Result<Names,
     Ok(names)
 }
 
-/// Adds the paths that added members list, by the claims of all members.
+/// Adds to `paths` those that added members list. `claims` are the claims of all members.
 fn add_coming<'a>(
     paths: &mut Vec<FilePath<'a>>,
     members: &Members<'_>,
     claims: &[Claim<'a>],
 ) -> Result<(), AllocError>
+    // Each claim is of a file of one of the members.
     requires { AreClaimsOf (members_of members.now) (map claim_seen claims.now) }
+    // On Ok, the paths of the claims of added members are added at the end.
     ensures { OnOk result (map joined_path paths.new.items ≡ map joined_path paths.old.items
         ++ map (λ c. c.path) (filter (λ c. is_added_at (members_of members.now) c.member)
         (map claim_seen claims.now))) }
@@ -59,8 +63,9 @@ fn add_coming<'a>(
     Ok(())
 }
 
-/// Adds names to paths, each as a path without folder.
+/// Adds the names to `paths`, each as a path whose folder is empty.
 fn add_names<'a>(paths: &mut Vec<FilePath<'a>>, names: &'a Names) -> Result<(), AllocError>
+    // On Ok, the names are added at the end.
     ensures { OnOk result
         (map joined_path paths.new.items ≡ map joined_path paths.old.items ++ names.now) }
 {
@@ -73,8 +78,9 @@ fn add_names<'a>(paths: &mut Vec<FilePath<'a>>, names: &'a Names) -> Result<(), 
     Ok(())
 }
 
-/// Sorts paths in byte order.
+/// Sorts the paths in byte order.
 fn sort_paths(paths: &mut Vec<FilePath<'_>>) -> Result<(), AllocError>
+    // On Ok, the same paths are in byte order.
     ensures { OnOk result (map joined_path paths.new.items
         ≡ sorted_by bytes_cmp (map joined_path paths.old.items)) }
 {
@@ -82,15 +88,17 @@ fn sort_paths(paths: &mut Vec<FilePath<'_>>) -> Result<(), AllocError>
     Ok(())
 }
 
-/// The names that count as written, in byte order: the paths that added members list, the names of
-/// files that are laid beside others, the database and the world.
+/// The names that count as written, in byte order: those of the database and of world, the paths
+/// that added members list by their claims, and the names `besides` of the `.apk-new` files.
 pub(crate) fn written_paths<'a>(
     alloc: Global,
     members: &Members<'_>,
     claims: &[Claim<'a>],
     besides: &'a Names,
 ) -> Result<Vec<FilePath<'a>>, AllocError>
+    // Each claim is of a file of one of the members.
     requires { AreClaimsOf (members_of members.now) (map claim_seen claims.now) }
+    // On Ok, these are all these names in byte order; a name may be repeated.
     ensures { IfOk result (λ paths. map joined_path paths.items ≡ sorted_by bytes_cmp
         (database_name ∷ world_name ∷ [] ++ map (λ c. c.path)
         (filter (λ c. is_added_at (members_of members.now) c.member) (map claim_seen claims.now))
@@ -111,30 +119,31 @@ pub(crate) fn written_paths<'a>(
     Ok(paths)
 }
 
-/// The paths that a change lets go of: packages before list them, no package lists them any more,
-/// and no file is kept there.
+/// The paths that a change releases: a package listed them before, no package lists them after the
+/// change, and no modified file of the user is kept there.
 #[derive(Clone, Copy)]
 pub(crate) struct ReleasedPaths<'c, 'o, 'n> {
-    /// The files that the old database lists, one of each path.
+    /// The claims of the packages before the change, one for each path.
     pub(crate) before: &'c [Claim<'o>],
-    /// The files that packages list after the change.
+    /// The claims of the packages after the change.
     pub(crate) after: &'c [Claim<'n>],
-    /// The files that are kept, since the user changed them.
+    /// The claims of files left over that are kept, since the user changed them.
     pub(crate) kept: &'c [Claim<'o>],
-    // All three are in the order of paths, for binary search.
+    // All three lists are in byte order of the paths, for a binary search.
     ghost before_sorted: { IsSorted claim_cmp (map claim_seen before.now) },
     ghost after_sorted: { IsSorted claim_cmp (map claim_seen after.now) },
     ghost kept_sorted: { IsSorted claim_cmp (map claim_seen kept.now) },
 }
 
 impl<'c, 'o, 'n> IsReleased for ReleasedPaths<'c, 'o, 'n> {
+    // Whether a name is released: a claim before has it, and no claim after or kept has it.
     ghost does_release = { λ paths name.
         is_some (find (is_claim_of_path name) (map claim_seen paths.before.now))
         && not (is_some (find (is_claim_of_path name) (map claim_seen paths.after.now))
         || is_some (find (is_claim_of_path name) (map claim_seen paths.kept.now))) };
 
-    /// Whether the old database lists the path, no package lists it after the change, and no file
-    /// is kept there.
+    /// Whether the old database lists the path, no package lists it after the change, and no
+    /// modified file of the user is kept there.
     fn does_release(&self, name: &[u8]) -> bool {
         let path = FilePath { folder: &[], name };
         if find_claim(self.before, &path).is_none() || find_claim(self.after, &path).is_some() {

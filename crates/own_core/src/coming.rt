@@ -1,4 +1,4 @@
-//! The added files: claims by which added members list paths that they own.
+//! `added_claims`: the added files, as the claims by which added members list paths that they own.
 //! The rules are in `docs/commands.md`, "Files that several packages list" (owners) and "What a
 //! change does with files" (the change writes each file that an added package owns).
 
@@ -16,19 +16,22 @@ use change_files::Members;
 use path_claim_lists::{Claim, one_of_each_path};
 use std::alloc::{AllocError, Global};
 
-/// Whether the member of a claim is added: it has the id of a package that is read.
+/// Whether the member of the claim is added. Only added members have the id of a package.
 pub fn comes(members: &Members<'_>, claim: &Claim<'_>) -> bool
+    // The claim is of a file of one of the members.
     requires { IsClaimOf (members_of members.now) (claim_seen claim.now) }
     ensures { result ≡ is_added_at (members_of members.now) claim.now.member }
 {
     members.id(claim.member as usize).is_some()
 }
 
-/// Whether a claim is that of its path's owner (`owner` is the owner's place), and this member is
-/// added.
+/// Whether the claim's member owns the claim's path, and is added. `owner` is the index of the
+/// member that owns the path, or None if no member does.
 #[tactic(auto, unfolding(crate::specs::ClaimEntries::is_of_added_owner))]
 fn is_of_added_owner(members: &Members<'_>, claim: &Claim<'_>, owner: Option<u32>) -> bool
+    // The claim is of a file of one of the members.
     requires file { IsClaimOf (members_of members.now) (claim_seen claim.now) }
+    // `owner` is the index of the member that owns the path.
     requires owner { owner ≡ owner_of_path (members_of members.now) (claim_seen claim.now).path }
     ensures { result ≡ is_of_added_owner (members_of members.now) (claim_seen claim.now) }
 {
@@ -38,17 +41,20 @@ fn is_of_added_owner(members: &Members<'_>, claim: &Claim<'_>, owner: Option<u32
     }
 }
 
-/// The claims of added owners of their paths, in their order. `owners` has for each claim the place
-/// of the owner of its path, or none.
+/// Of the claims, those whose member owns the path and is added, in the same order. `owners` has,
+/// for each claim, the index of the member that owns its path, or None.
 fn owned_claims<'n>(
     alloc: Global,
     members: &Members<'n>,
     claims: &[Claim<'n>],
     owners: &[Option<u32>],
 ) -> Result<Vec<Claim<'n>>, AllocError>
+    // Each claim is of a file of one of the members.
     requires files { AreClaimsOf (members_of members.now) (map claim_seen claims.now) }
+    // For each claim, `owners` has the index of the member that owns its path, or None.
     requires owners { owners.now
         ≡ map (λ c. owner_of_path (members_of members.now) c.path) (map claim_seen claims.now) }
+    // On Ok, these are the claims whose member is added and owns the path.
     ensures { IfOk result (λ owned. map claim_seen owned.items
         ≡ filter (is_of_added_owner (members_of members.now)) (map claim_seen claims.now)) }
 {
@@ -61,18 +67,24 @@ fn owned_claims<'n>(
     Ok(owned)
 }
 
-/// For each path with an added owner, the claim by which the owner lists it, in the order of paths.
-/// `owners` has for each claim the place of the owner of its path, or none.
+/// For each path that an added member owns, the first claim by which it lists the path, in the
+/// order of paths. `owners` has, for each claim, the index of the member that owns its path, or
+/// None.
 pub fn added_claims<'n>(
     alloc: Global,
     members: &Members<'n>,
     claims: &[Claim<'n>],
     owners: &[Option<u32>],
 ) -> Result<Vec<Claim<'n>>, AllocError>
+    // Each claim is of a file of one of the members.
     requires files { AreClaimsOf (members_of members.now) (map claim_seen claims.now) }
+    // The claims are in byte order of their paths.
     requires sorted { IsSorted claim_cmp (map claim_seen claims.now) }
+    // For each claim, `owners` has the index of the member that owns its path, or None.
     requires owners { owners.now
         ≡ map (λ c. owner_of_path (members_of members.now) c.path) (map claim_seen claims.now) }
+    // On Ok, of the claims whose member is added and owns the path, these are the first of each
+    // path.
     ensures { IfOk result (λ coming. HasFirstClaimOfEachPath
         (filter (is_of_added_owner (members_of members.now)) (map claim_seen claims.now))
         (map claim_seen coming.items)) }

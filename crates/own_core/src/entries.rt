@@ -1,4 +1,5 @@
-//! The entries of files to which claims lead.
+//! The entry of the file of a claim, in a package of the old database or of a member after the
+//! change.
 //! `docs/commands.md`, "What a change does with files", has the table of when a file's bytes are as
 //! its entry lists them; `docs/formats.md`, "Schemas", table 4, has the entry's fields.
 
@@ -17,9 +18,11 @@ use change_files::{Db, DirInfo, FileInfo, List, ListedFile, Members, PackageView
 use path_claim_lists::Claim;
 use std::marker::PhantomData;
 
-/// The entry of the file at a position of a folder; positions count from 1.
+/// The entry of the file at the position `file`, counted from 1, in the list of files of a folder.
 fn listed_in_files<'a>(files: &List<'a, FileInfo<'a>>, file: u32) -> ListedFile<'a>
+    // Positions count from 1.
     requires low { 0 < file }
+    // The folder has a file at this position.
     requires high { file ≤ count_of (entries_in (list_value files.now)) }
     ensures { DescribesEntry result (entry_in (list_value files.now) (file - 1)) }
 {
@@ -27,9 +30,10 @@ fn listed_in_files<'a>(files: &List<'a, FileInfo<'a>>, file: u32) -> ListedFile<
     listed_file(&file)
 }
 
-/// The entry of a file of some folders, by the positions of its folder and of the file in it, which
-/// count from 1.
+/// The entry of the file at the position `file` in the folder at the position `folder` of a
+/// package's list of folders. Positions count from 1.
 fn listed_in_folders<'a>(folders: &List<'a, DirInfo<'a>>, folder: u32, file: u32) -> ListedFile<'a>
+    // The list has a file at these positions.
     requires { HasFileAt (list_value folders.now) folder file }
     ensures { DescribesEntry result (listed_file_at (list_value folders.now) folder file) }
 {
@@ -37,8 +41,9 @@ fn listed_in_folders<'a>(folders: &List<'a, DirInfo<'a>>, folder: u32, file: u32
     listed_in_files(&folder.files(), file)
 }
 
-/// The entry of a package's file for a claim.
+/// The entry of the file of the claim, which is one of the files of this package.
 fn listed_in<'a>(pkg: &PackageView<'a>, claim: &Claim<'_>) -> ListedFile<'a>
+    // The package has a file at the positions of the claim.
     requires { HasFileAt (entry_in (package_value pkg.now) PACKAGE_PATHS) claim.now.folder
         claim.now.file }
     ensures { DescribesEntry result
@@ -48,24 +53,26 @@ fn listed_in<'a>(pkg: &PackageView<'a>, claim: &Claim<'_>) -> ListedFile<'a>
     listed_in_folders(&pkg.paths(), claim.folder, claim.file)
 }
 
-/// The entry of the file for a claim of a member after the change.
+/// The entry of the file of the claim, which is that of a member after the change.
 #[tactic(auto, unfolding(crate::specs::ClaimEntries::claim_entry))]
 pub(crate) fn listed_after<'a>(members: &Members<'a>, claim: &Claim<'_>) -> ListedFile<'a>
+    // The claim is of a file of one of the members.
     requires { IsClaimOf (members_of members.now) (claim_seen claim.now) }
     ensures { DescribesEntry result (claim_entry (members_of members.now) (claim_seen claim.now)) }
 {
     listed_in(members.view(claim.member as usize), claim)
 }
 
-/// The entry of the file for a claim of a database's package. The mark serves only the borrow
-/// checker: it does not know the parts of a view that is made and lent here unless the signature
-/// names the view as an argument.
+/// The entry of the file of the claim, which is that of a package of the database. The argument
+/// `_mark` has no effect at run time: it names the type of the view of the package, which is made
+/// here, for the borrow checker.
 #[tactic(auto, unfolding(crate::specs::ClaimEntries::claim_entry))]
 pub(crate) fn listed_before<'a>(
     db: &Db<'a>,
     claim: &Claim<'_>,
     _mark: PhantomData<PackageView<'a>>,
 ) -> ListedFile<'a>
+    // The claim is of a file of a package of the database.
     requires { IsClaimOf (members_of_kept (packages_of db.now)) (claim_seen claim.now) }
     ensures { DescribesEntry result
         (claim_entry (members_of_kept (packages_of db.now)) (claim_seen claim.now)) }

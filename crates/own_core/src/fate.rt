@@ -1,6 +1,7 @@
-//! What is done with each added file.
+//! `fates_of`, which decides what is done with each file that an added package owns; `parts_of` of
+//! this crate calls it.
 //! The rule is in `docs/commands.md`, "What a change does with files", what is said there of
-//! configuration files: when one counts as changed, and where the new file is written then.
+//! configuration files: when such a file counts as changed, and where the new file is then written.
 
 ghost use Rattle.std.specs.Prelude.{◌≡◌, ◌↔◌, ◌∷◌, ◌++◌, [], Option, true, false, map, IfOk, IsTrue, IsSomeAnd, OnOk};
 ghost use Rattle.path_claim_lists.specs.adb_fields.JoinedPath.{joined_path};
@@ -25,23 +26,25 @@ use path_claim_lists::{Claim, FilePath, find_claim, name_of_path};
 use std::alloc::{AllocError, Global};
 use std::marker::PhantomData;
 
-/// What is done with an added file, and with the one under its path.
+/// What is done with a file that an added package owns, and with the user's file under its path.
 #[derive(Clone, Copy)]
 pub(crate) enum AddedFileFate {
-    /// The file takes the path.
+    /// The package's file is written under its path.
     GoesIn,
-    /// The user's file is kept, and the new one is left out.
+    /// The user's file is kept, and the package's file is not written.
     GivesWay,
-    /// The user's file is kept, and the new one is laid beside it as `PATH.apk-new`.
+    /// The user's file is kept, and the package's file is written beside it as `PATH.apk-new`.
     GoesAside,
 }
 
-/// The entry of the database before the change for a path, if one of its packages lists the path.
+/// The entry that the old database has for the path, if one of its packages lists the path.
 fn listed_so_far<'o>(
     change: &ClaimChange<'_, 'o, '_>,
     path: &FilePath<'_>,
 ) -> Option<ListedFile<'o>>
+    // `change` has the claims of the packages before the change (`before`) and after it (`after`).
     requires { HasClaimsOfPackages change.now }
+    // The result describes the old entry, or both are absent.
     ensures { DescribesEntryIfAny result (old_entry (file_change_of change.now)
         (joined_path path.now)) }
 {
@@ -51,13 +54,16 @@ fn listed_so_far<'o>(
     }
 }
 
-/// Whether the name beside another one is short enough, and no package lists it after the change.
+/// Whether a file can be written as `NAME.apk-new`: this is short enough for a name, and no package
+/// lists it after the change.
 fn is_apk_new_name_free(
     alloc: Global,
     change: &ClaimChange<'_, '_, '_>,
     name: &Name,
 ) -> Result<bool, AllocError>
+    // `change` has the claims of the packages before the change (`before`) and after it (`after`).
     requires { HasClaimsOfPackages change.now }
+    // On Ok, the result says whether `NAME.apk-new` is free.
     ensures { IfOk result (λ free. free
         ≡ is_apk_new_name_free (file_change_of change.now) name.now) }
 {
@@ -72,9 +78,10 @@ fn is_apk_new_name_free(
     Ok(find_claim(change.after, &beside).is_none())
 }
 
-/// Whether the new entry agrees with the old one, if there was one: then the package's file did not
-/// change.
+/// Whether there is an old entry, and the new entry describes the same bytes: the package's file
+/// has not changed.
 fn agrees_with_old_entry(new: &ListedFile<'_>, old: &Option<ListedFile<'_>>) -> bool
+    // The result is right for the entries that `new` and `old` describe.
     ensures { (entry : Plain) (before : Option Plain) → DescribesEntry new.now entry
         → DescribesEntryIfAny old.now before → result ≡ agrees_with_old_entry before entry }
 {
@@ -84,9 +91,9 @@ fn agrees_with_old_entry(new: &ListedFile<'_>, old: &Option<ListedFile<'_>>) -> 
     }
 }
 
-/// What is done with an added file if the user changed the one under its path. It is left out if it
-/// does not differ from the installed version, or cannot be laid beside; otherwise it is laid
-/// beside.
+/// What is done with an added file if the user changed the file under its path, which is `name`. It
+/// is not written if its entry `new` agrees with the old entry `old`, or if `NAME.apk-new` is not
+/// free. Otherwise it is written aside, as `NAME.apk-new`.
 fn fate_if_user_modified_file(
     alloc: Global,
     change: &ClaimChange<'_, '_, '_>,
@@ -94,8 +101,11 @@ fn fate_if_user_modified_file(
     new: &ListedFile<'_>,
     old: &Option<ListedFile<'_>>,
 ) -> Result<AddedFileFate, AllocError>
+    // `change` has the claims of the packages before the change (`before`) and after it (`after`).
     requires claims { HasClaimsOfPackages change.now }
+    // `old` is the entry that the old database has for the name, if there is one.
     requires old { DescribesEntryIfAny old.now (old_entry (file_change_of change.now) name.now) }
+    // On Ok, the fate is right for the entry that `new` describes.
     ensures { IfOk result (λ fate. (entry : Plain) → DescribesEntry new.now entry
         → fate_seen fate ≡ fate_if_user_modified_file (file_change_of change.now) name.now entry) }
 {
@@ -105,8 +115,8 @@ fn fate_if_user_modified_file(
     Ok(AddedFileFate::GoesAside)
 }
 
-/// Whether the file's bytes are neither those of the new entry nor those of the old one. `found` is
-/// none if there is no file.
+/// Whether there is a file, and its bytes agree neither with the new entry nor with the old one.
+/// `found` is the result of the comparison with both entries, or None if there is no file.
 pub(crate) fn is_modified_from_entry(found: Option<Comparison>) -> bool
     ensures { IsTrue result ↔ IsSomeAnd found (λ c. (c.as_new ≡ false) × (c.as_old ≡ false)) }
 {
@@ -116,19 +126,25 @@ pub(crate) fn is_modified_from_entry(found: Option<Comparison>) -> bool
     }
 }
 
-/// What is done with an added configuration file: the file under its path is read, and compared
-/// with both entries.
+/// What is done with an added configuration file, by its claim. The user's file under its path is
+/// read, and compared with the new entry and the old one.
 fn guarded_fate<T: Tree>(
     alloc: Global,
     tree: &mut T,
     change: &ClaimChange<'_, '_, '_>,
     claim: &Claim<'_>,
 ) -> Result<AddedFileFate, TreeFault>
+    // `change` has the claims of the packages before the change (`before`) and after it (`after`).
     requires claims { HasClaimsOfPackages change.now }
+    // The claim is of a file of one of the members after the change.
     requires file { IsClaimOf (members_of change.now.members.now) (claim_seen claim.now) }
+    // The path is that of a protected configuration file.
     requires guarded { is_protected_path (claim_seen claim.now).path ≡ true }
+    // On Ok, the fate is right for the file under the path, if the tree is observable, and
+    // otherwise for some file there.
     ensures fate { IfOk result (λ fate. IsByFile (claim_fate (file_change_of change.now))
         (T.history tree.old) (claim_seen claim.now) (fate_seen fate)) }
+    // The tree is only read: no file changes, no I/O error is hidden, and no call is a misuse.
     ensures tree { OnlyReads TreeFault.Disk (T.history tree.old) (T.history tree.new)
         (T.counts tree.old) (T.counts tree.new) result }
 {
@@ -136,7 +152,7 @@ fn guarded_fate<T: Tree>(
     let new = listed_after(change.members, claim);
     let old = listed_so_far(change, &claim.path);
     let found = compare_file(tree, &name, Some(new), old)?;
-    // The user changed the file: its bytes are kept.
+    // The user changed the file, so it is kept.
     if is_modified_from_entry(found) {
         let fate = fate_if_user_modified_file(alloc, change, &name, &new, &old)?;
         return Ok(fate);
@@ -144,18 +160,23 @@ fn guarded_fate<T: Tree>(
     Ok(AddedFileFate::GoesIn)
 }
 
-/// What is done with an added file; one that is not below `etc` takes its path, and nothing is
-/// read.
+/// What is done with an added file, by its claim. A file that is not below `etc` is written under
+/// its path; then the tree is not read.
 fn fate_of<T: Tree>(
     alloc: Global,
     tree: &mut T,
     change: &ClaimChange<'_, '_, '_>,
     claim: &Claim<'_>,
 ) -> Result<AddedFileFate, TreeFault>
+    // `change` has the claims of the packages before the change (`before`) and after it (`after`).
     requires claims { HasClaimsOfPackages change.now }
+    // The claim is of a file of one of the members after the change.
     requires file { IsClaimOf (members_of change.now.members.now) (claim_seen claim.now) }
+    // On Ok, the fate is right for the file under the path, if the tree is observable, and
+    // otherwise for some file there.
     ensures fate { IfOk result (λ fate. IsByFile (claim_fate (file_change_of change.now))
         (T.history tree.old) (claim_seen claim.now) (fate_seen fate)) }
+    // The tree is only read: no file changes, no I/O error is hidden, and no call is a misuse.
     ensures tree { OnlyReads TreeFault.Disk (T.history tree.old) (T.history tree.new)
         (T.counts tree.old) (T.counts tree.new) result }
 {
@@ -165,7 +186,7 @@ fn fate_of<T: Tree>(
     Ok(AddedFileFate::GoesIn)
 }
 
-/// Adds the fate of a file to the others.
+/// Adds a fate at the end of the list.
 fn add_fate(fates: &mut Vec<AddedFileFate>, fate: AddedFileFate) -> Result<(), AllocError>
     ensures { OnOk result (fates.new.items ≡ fates.old.items ++ fate ∷ []) }
 {
@@ -173,17 +194,22 @@ fn add_fate(fates: &mut Vec<AddedFileFate>, fate: AddedFileFate) -> Result<(), A
     Ok(())
 }
 
-/// What is done with each added file, in their order.
+/// What is done with each added file, in the order of the claims `coming`.
 pub(crate) fn fates_of<T: Tree>(
     alloc: Global,
     tree: &mut T,
     change: &ClaimChange<'_, '_, '_>,
     coming: &[Claim<'_>],
 ) -> Result<Vec<AddedFileFate>, TreeFault>
+    // `change` has the claims of the packages before the change (`before`) and after it (`after`).
     requires claims { HasClaimsOfPackages change.now }
+    // Each claim is of a file of one of the members after the change.
     requires files { AreClaimsOf (members_of change.now.members.now) (map claim_seen coming.now) }
+    // On Ok, each fate is right for the file under its path, if the tree is observable, and
+    // otherwise for some file there.
     ensures fates { IfOk result (λ fates. AreAnswersByFiles (claim_fate (file_change_of change.now))
         (T.history tree.old) (map claim_seen coming.now) (map fate_seen fates.items)) }
+    // The tree is only read: no file changes, no I/O error is hidden, and no call is a misuse.
     ensures tree { OnlyReads TreeFault.Disk (T.history tree.old) (T.history tree.new)
         (T.counts tree.old) (T.counts tree.new) result }
 {

@@ -1,4 +1,5 @@
-//! Protected configuration files, and the names beside them.
+//! Which paths are protected (those below `etc`), and the names `PATH.apk-new` of files that are
+//! written beside the user's files.
 //! The rule is in `docs/commands.md`, "What a change does with files": what is said there of
 //! configuration files, and of `PATH.apk-new`.
 
@@ -14,11 +15,11 @@ use std::alloc::{AllocError, Global};
 /// How many bytes a name may have at most (`docs/commands.md`, "Words").
 pub(crate) const LONGEST_NAME: usize = 1024;
 
-/// The ending of the name of a file that is laid beside another one.
+/// The ending of the name of a file that is written beside the user's file.
 const ASIDE_ENDING: &[u8] = b".apk-new";
 
-/// Whether a path is that of configuration: it is below `etc`. The path has a folder and a name, or
-/// all of it is in the name.
+/// Whether a path is protected: it is below `etc`. The path may have a folder and a name, or its
+/// folder may be empty and all of the path in the name.
 pub(crate) fn is_protected_path(path: &FilePath<'_>) -> bool
     ensures { result ≡ is_protected_path (joined_path path.now) }
 {
@@ -28,7 +29,7 @@ pub(crate) fn is_protected_path(path: &FilePath<'_>) -> bool
     path.folder == b"etc".as_slice() || path.folder.starts_with(b"etc/")
 }
 
-/// The bytes of the name beside a name, `NAME.apk-new`, however long.
+/// The bytes `NAME.apk-new` for a name, which may be too long for a name.
 pub(crate) fn aside_bytes(alloc: Global, name: &[u8]) -> Result<Vec<u8>, AllocError>
     ensures { IfOk result (λ bytes. bytes.items ≡ apk_new_name name.now) }
 {
@@ -37,8 +38,9 @@ pub(crate) fn aside_bytes(alloc: Global, name: &[u8]) -> Result<Vec<u8>, AllocEr
     Ok(bytes)
 }
 
-/// The name beside a name, `NAME.apk-new`, if that is not too long for a name.
+/// The name `NAME.apk-new` for a name.
 pub fn name_beside(alloc: Global, name: &Name) -> Result<Name, AllocError>
+    // The result is not too long for a name.
     requires { length (apk_new_name name.now) ≤ most_name_bytes }
     ensures { IfOk result (λ beside. beside ≡ apk_new_name name.now) }
 {
@@ -46,8 +48,8 @@ pub fn name_beside(alloc: Global, name: &Name) -> Result<Name, AllocError>
     Name::of(alloc, &bytes)
 }
 
-/// The path beside which a file of this path would be laid: the part before the ending. None if the
-/// path does not have the ending.
+/// The path without its ending `.apk-new`: that of the file beside which a file with the given path
+/// is written. None if the path does not have this ending.
 pub(crate) fn path_of_apk_new_name<'a>(path: &FilePath<'a>) -> Option<FilePath<'a>>
     ensures { option_map joined_path result ≡ path_of_apk_new_name (joined_path path.now) }
 {

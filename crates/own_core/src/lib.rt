@@ -1,12 +1,12 @@
-//! The plan of files of a change of packages: what is removed, what is written and from which file
-//! of which package, and which configuration is kept as the user made it. For each file that the
-//! change adds or leaves over it decides whether the user changed the file there, and whether a
-//! file is installed, laid beside another one, removed or kept.
+//! The plan of files of a change of packages (`plan`): which files are removed, which are written
+//! with the contents of which file of which package, and which configuration is kept as the user
+//! made it. Each file that an added package owns is written under its path, written aside, or left
+//! out. Each file that is left over is removed or kept.
 //!
 //! The contracts cite, of `specs/`: `WritesSeen` and `Planned` (the plan), `ClaimEntries` (the
-//! claims of packages, and their entries), `Sides` (a change, as claims before and after it),
-//! `Fates` and `Going` (what is done with an added file, and with one that is left over), `Found`
-//! (the same, given the tree's files) and `Parts`.
+//! entries of files by their claims), `Sides` (a change, as claims before and after it), `Fates`
+//! and `Going` (what is done with an added file, and with a file that is left over), `Found` (the
+//! same, given the tree's files) and `Parts` (the files, divided by what is done with them).
 //!
 //! The rules are in `docs/commands.md`, "What a change does with files"; the terms *aside*, *left
 //! over* and *kept* in `docs/names.md`, "The installed database and a change of it". The README of

@@ -1,4 +1,5 @@
-//! The added files by their fates, and the files that are left over.
+//! `parts_of`, which divides the files of a change: the added files by what is done with them, and
+//! the files that are left over by whether they are removed or kept.
 //! The rules are in `docs/commands.md`, "What a change does with files": which files are removed
 //! (the old database lists them, and no package lists them after the change), and which
 //! configuration files are kept.
@@ -42,15 +43,17 @@ fn are_equal_fates(one: AddedFileFate, other: AddedFileFate) -> bool
     }
 }
 
-/// The claims of the added files with this fate, in the order of their paths. `fates` has the fate
-/// of each.
+/// Of the claims of added files (`coming`), those whose file has this fate. `fates` has the fate of
+/// each, in the same order.
 fn claims_with<'n>(
     alloc: Global,
     coming: &[Claim<'n>],
     fates: &[AddedFileFate],
     fate: AddedFileFate,
 ) -> Result<Vec<Claim<'n>>, AllocError>
+    // There is one fate for each claim.
     requires { length fates.now ≡ length coming.now }
+    // On Ok, these are the claims whose fate is the given one.
     ensures { IfOk result (λ some. map claim_seen some.items ≡ marked_claims
         (are_equal_fates (fate_seen fate)) (map claim_seen coming.now) (map fate_seen fates.now)) }
 {
@@ -63,9 +66,10 @@ fn claims_with<'n>(
     Ok(some)
 }
 
-/// Whether a file is laid beside another one under this path: the path is the name beside that of
-/// one of these claims.
+/// Whether a file of a package is written aside under this path: the path is `PATH.apk-new` for the
+/// path of one of the claims `asides`.
 fn is_apk_new_name_of(asides: &[Claim<'_>], path: &FilePath<'_>) -> bool
+    // The claims are in byte order of their paths, for a binary search.
     requires { IsSorted claim_cmp (map claim_seen asides.now) }
     ensures { result ≡ is_apk_new_name_of (map claim_seen asides.now) (joined_path path.now) }
 {
@@ -75,16 +79,20 @@ fn is_apk_new_name_of(asides: &[Claim<'_>], path: &FilePath<'_>) -> bool
     }
 }
 
-/// Whether no package lists a path any more, and nothing is laid beside another one there. If paths
-/// are tested in their order, each search starts at `next`.
+/// Whether no package lists the path after the change, and no file is written aside there. `next`
+/// is the index at which the search in the claims after the change starts: if paths are tested in
+/// byte order, each search starts where the last one ended.
 fn is_path_left_over(
     change: &ClaimChange<'_, '_, '_>,
     asides: &[Claim<'_>],
     path: &FilePath<'_>,
     next: &mut usize,
 ) -> bool
+    // `change` has the claims of the packages before the change (`before`) and after it (`after`).
     requires claims { HasClaimsOfPackages change.now }
+    // The claims of the files written aside are in byte order of their paths.
     requires sorted { IsSorted claim_cmp (map claim_seen asides.now) }
+    // The result says whether the path is left over.
     ensures { result ≡ is_path_left_over (file_change_of change.now) (map claim_seen asides.now)
         (joined_path path.now) }
 {
@@ -94,15 +102,18 @@ fn is_path_left_over(
     !is_apk_new_name_of(asides, path)
 }
 
-/// The claims of the packages before the change whose paths are left over: no package lists them
-/// any more, and nothing is laid beside another file there.
+/// The claims of the packages before the change whose paths no package lists after the change, and
+/// at which no file is written aside. `asides` are the claims of the files written aside.
 fn left_over_claims<'o>(
     alloc: Global,
     change: &ClaimChange<'_, 'o, '_>,
     asides: &[Claim<'_>],
 ) -> Result<Vec<Claim<'o>>, AllocError>
+    // `change` has the claims of the packages before the change (`before`) and after it (`after`).
     requires claims { HasClaimsOfPackages change.now }
+    // The claims of the files written aside are in byte order of their paths.
     requires sorted { IsSorted claim_cmp (map claim_seen asides.now) }
+    // On Ok, these are the claims of the packages before the change whose path is left over.
     ensures { IfOk result (λ left. map claim_seen left.items
         ≡ filter (λ c. is_path_left_over (file_change_of change.now) (map claim_seen asides.now)
         c.path)
@@ -119,21 +130,25 @@ fn left_over_claims<'o>(
     Ok(left)
 }
 
-/// Whether the user's file is kept under a path that is left over: it is configuration, the user
-/// changed it, and there is no `--purge`.
+/// Whether the user's file is kept under the path of this claim, which no package lists any more:
+/// it is protected configuration, the user changed it, and there is no `--purge`.
 fn is_file_kept<T: Tree>(
     alloc: Global,
     tree: &mut T,
     change: &ClaimChange<'_, '_, '_>,
     claim: &Claim<'_>,
 ) -> Result<bool, TreeFault>
+    // The claim is of a file of a package of the old database.
     requires { IsClaimOf (members_of_kept (packages_of change.now.db.now)) (claim_seen claim.now) }
+    // On Ok, the answer is right for the file under the path, if the tree is observable, and
+    // otherwise for some file there.
     ensures stays { IfOk result (IsByFile (is_file_kept (file_change_of change.now))
         (T.history tree.old) (claim_seen claim.now)) }
+    // The tree is only read: no file changes, no I/O error is hidden, and no call is a misuse.
     ensures tree { OnlyReads TreeFault.Disk (T.history tree.old) (T.history tree.new)
         (T.counts tree.old) (T.counts tree.new) result }
 {
-    // Only configuration may be kept, and not with `--purge`: no file is read.
+    // Only protected configuration may be kept, and not with `--purge`; other files are not read.
     if change.purge || !is_protected_path(&claim.path) {
         return Ok(false);
     }
@@ -143,7 +158,7 @@ fn is_file_kept<T: Tree>(
     Ok(is_modified_from_entry(found))
 }
 
-/// Adds a flag to the others.
+/// Adds a flag at the end of the list.
 fn add_flag(flags: &mut Vec<bool>, flag: bool) -> Result<(), AllocError>
     ensures { OnOk result (flags.new.items ≡ flags.old.items ++ flag ∷ []) }
 {
@@ -151,18 +166,23 @@ fn add_flag(flags: &mut Vec<bool>, flag: bool) -> Result<(), AllocError>
     Ok(())
 }
 
-/// For each claim of a path that is left over, whether the user's file is kept there.
+/// For each of the claims `left`, whose paths no package lists any more, whether the user's file is
+/// kept.
 fn stays_of<T: Tree>(
     alloc: Global,
     tree: &mut T,
     change: &ClaimChange<'_, '_, '_>,
     left: &[Claim<'_>],
 ) -> Result<Vec<bool>, TreeFault>
+    // Each claim is of a file of a package of the old database.
     requires { AreClaimsOf (members_of_kept (packages_of change.now.db.now))
         (map claim_seen left.now) }
+    // On Ok, each flag is right for the file under the claim's path, if the tree is observable, and
+    // otherwise for some file there.
     ensures stays { IfOk result (λ stays. AreAnswersByFiles
         (is_file_kept (file_change_of change.now))
         (T.history tree.old) (map claim_seen left.now) stays.items) }
+    // The tree is only read: no file changes, no I/O error is hidden, and no call is a misuse.
     ensures tree { OnlyReads TreeFault.Disk (T.history tree.old) (T.history tree.new)
         (T.counts tree.old) (T.counts tree.new) result }
 {
@@ -181,14 +201,17 @@ fn are_equal_flags(one: bool, other: bool) -> bool
     if one { other } else { !other }
 }
 
-/// The claims whose flag is this one. `flags` has one for each of them.
+/// Of the claims `left`, those whose flag is `flag`. `flags` has one flag for each claim, in the
+/// same order.
 fn claims_where<'o>(
     alloc: Global,
     left: &[Claim<'o>],
     flags: &[bool],
     flag: bool,
 ) -> Result<Vec<Claim<'o>>, AllocError>
+    // There is one flag for each claim.
     requires { length flags.now ≡ length left.now }
+    // On Ok, these are the claims whose flag is the given one.
     ensures { IfOk result (λ some. map claim_seen some.items
         ≡ marked_claims (are_equal_flags flag) (map claim_seen left.now) flags.now) }
 {
@@ -201,32 +224,40 @@ fn claims_where<'o>(
     Ok(some)
 }
 
-/// The files of a change by what is done with them, in the order of paths.
+/// The claims of the files of a change, divided by what is done with the files. Each list is in
+/// byte order of the paths.
 #[derive(Drop)]
 pub struct Parts<'o, 'n> {
-    /// The files that take their paths.
+    /// The added files that are written under their own paths.
     pub ins: Vec<Claim<'n>>,
-    /// The files that are laid beside the user's.
+    /// The added files that are written aside, as `PATH.apk-new` beside the user's file.
     pub asides: Vec<Claim<'n>>,
-    /// The files that are removed.
+    /// The files left over, listed only before the change, that are removed.
     pub removed: Vec<Claim<'o>>,
-    /// The files that are kept, since the user changed them.
+    /// The files left over that are kept, since they are configuration that the user changed.
     pub kept: Vec<Claim<'o>>,
 }
 
-/// Divides the files of a change: the added ones (`coming`) by their fates, and those that are left
-/// over by whether the user's file is kept. Configuration files are read, each once.
+/// Divides the files of a change: those that added packages own (`coming`) by their fates, and
+/// those that are left over by whether the user's file is kept. Only configuration files are read,
+/// each once.
 pub fn parts_of<'o, 'n, T: Tree>(
     alloc: Global,
     tree: &mut T,
     change: &ClaimChange<'_, 'o, 'n>,
     coming: &[Claim<'n>],
 ) -> Result<Parts<'o, 'n>, TreeFault>
+    // `change` has the claims of the packages before the change (`before`) and after it (`after`).
     requires claims { HasClaimsOfPackages change.now }
+    // Each claim of an added file is of a file of one of the members.
     requires files { AreClaimsOf (members_of change.now.members.now) (map claim_seen coming.now) }
+    // The paths of the added files are in byte order, each once.
     requires rising { AreSortedDistinctNames (map (λ c. c.path) (map claim_seen coming.now)) }
+    // On Ok, the files are divided by the rules, for the tree's files if they are observable, and
+    // otherwise for some files.
     ensures parts { IfOk result
         (AreFilesByFate change.now (T.history tree.old) (map claim_seen coming.now)) }
+    // The tree is only read: no file changes, no I/O error is hidden, and no call is a misuse.
     ensures tree { OnlyReads TreeFault.Disk (T.history tree.old) (T.history tree.new)
         (T.counts tree.old) (T.counts tree.new) result }
 {

@@ -1,6 +1,6 @@
-//! The plan of files of a change.
+//! `plan`, which computes the plan of files of a change, and the type of a plan.
 //! The rules are in `docs/commands.md`, "What a change does with files": the tests, in their order,
-//! and then what is written, removed, laid beside and kept.
+//! and then what is written, removed, written aside and kept.
 
 ghost use Rattle.std.specs.Prelude.{◌≡◌, ◌<◌, All, IfErr, IfOk, None, Some, length, map, option_map};
 ghost use Rattle.std.specs.List.{filter};
@@ -44,18 +44,19 @@ use path_claim_lists::{
 };
 use std::alloc::{AllocError, Global};
 
-/// What a change removes, writes and keeps.
+/// The plan of a change: which files it removes, writes, writes aside and keeps, and who owns what.
 #[derive(Drop)]
 pub struct FilePlan {
     /// The names that are removed, in byte order.
     pub(crate) removals: Names,
-    /// What is written, in byte order of the names.
+    /// The files of packages that are written, in byte order of their names.
     pub(crate) writes: Writes,
-    /// For each listed file, whether its package owns it.
+    /// For each file that packages list after the change, whether its package owns it.
     pub(crate) owned: Owned,
-    /// The paths beside which a file is laid, in byte order.
+    /// The paths of the user's files beside which a file `PATH.apk-new` is written, in byte order.
     pub(crate) aside: Names,
-    /// The paths at which the user's file is kept although its package is removed, in byte order.
+    /// The paths of the user's files that are kept although no package lists them after the change,
+    /// in byte order.
     pub(crate) kept: Names,
 }
 
@@ -67,7 +68,7 @@ impl FilePlan {
         &self.removals
     }
 
-    /// What is written, without the database and the world.
+    /// The files of packages that are written. The database and world are not among them.
     pub fn writes(&self) -> &Writes
         ensures { result.now ≡ self.now.writes }
     {
@@ -82,14 +83,15 @@ impl FilePlan {
         &self.owned
     }
 
-    /// The paths beside which a file is laid, in byte order.
+    /// The paths of the user's files beside which a file `PATH.apk-new` is written, in byte order.
     pub fn aside(&self) -> &Names
         ensures { result.now ≡ self.now.aside }
     {
         &self.aside
     }
 
-    /// The paths at which the user's file is kept although its package is removed, in byte order.
+    /// The paths of the user's files that are kept although no package lists them after the change,
+    /// in byte order.
     pub fn kept(&self) -> &Names
         ensures { result.now ≡ self.now.kept }
     {
@@ -97,7 +99,8 @@ impl FilePlan {
     }
 }
 
-/// The first two names after the change of which one is a folder of the other, if there are any.
+/// The first clash of the change, if there is one: two names after the change of which one would be
+/// a folder of the other. `coming` are the claims of the files that added packages own.
 fn clash_of<T: Tree>(
     alloc: Global,
     tree: &mut T,
@@ -105,21 +108,27 @@ fn clash_of<T: Tree>(
     parts: &Parts<'_, '_>,
     coming: &[Claim<'_>],
 ) -> Result<Option<Clash>, TreeFault>
+    // `change` has the claims of the packages before the change (`before`) and after it (`after`).
     requires claims { HasClaimsOfPackages change.now }
+    // Each claim of an added file is of a file of one of the members.
     requires files { AreClaimsOf (members_of change.now.members.now) (map claim_seen coming.now) }
+    // `coming` has, for each path with an added owner, the first claim by which this owner lists
+    // it.
     requires firsts { HasFirstClaimOfEachPath
         (filter (is_of_added_owner (members_of change.now.members.now)) (claims_after change.now))
         (map claim_seen coming.now) }
+    // `parts` has the files of the change, divided by what is done with them.
     requires parts { AreFilesByFate change.now (T.history tree.old) (map claim_seen coming.now)
         parts.now }
     // If the tree's files are observable, the answer is the first clash.
     ensures clash { IfOk result (λ found. IfObservable (T.history tree.old) (λ v. IsFirstClashOrNone
         (name_change (file_change_of change.now) (files_of v)) (files_of v)
         (option_map clash_seen found))) }
-    // Over any tree, even one whose files are not observable, the answer may be the first clash.
+    // Over any tree, even one that is not observable, the answer is the first clash for some files.
     ensures may { IfOk result (λ found.
         IsFirstClashOverSomeFiles (name_change_of_parts change.now parts.now)
         (option_map clash_seen found)) }
+    // The tree is only read: no file changes, no I/O error is hidden, and no call is a misuse.
     ensures tree { OnlyReads TreeFault.Disk (T.history tree.old) (T.history tree.new)
         (T.counts tree.old) (T.counts tree.new) result }
 {
@@ -133,21 +142,25 @@ fn clash_of<T: Tree>(
     first_clash(alloc, tree, &written, &let_go)
 }
 
-/// Whether a claim is of an added member, and of a reserved path.
+/// Whether the claim is that of an added member, and its path is reserved.
 fn is_added_and_reserved(members: &Members<'_>, claim: &Claim<'_>) -> bool
+    // The claim is of a file of one of the members.
     requires { IsClaimOf (members_of members.now) (claim_seen claim.now) }
     ensures { result ≡ is_added_and_reserved (members_of members.now) (claim_seen claim.now) }
 {
     is_reserved_file(claim.path.folder, claim.path.name) && comes(members, claim)
 }
 
-/// The first reserved path in byte order that an added package lists.
+/// The first reserved path in byte order that an added package lists. `claims` are those of all
+/// members.
 fn first_reserved_path(
     alloc: Global,
     members: &Members<'_>,
     claims: &[Claim<'_>],
 ) -> Result<Option<Name>, AllocError>
+    // Each claim is of a file of one of the members.
     requires files { AreClaimsOf (members_of members.now) (map claim_seen claims.now) }
+    // The claims are those of all files that the members list, in byte order of their paths.
     requires sorted { map claim_seen claims.now
         ≡ sorted_by claim_cmp (claims_in (members_of members.now)) }
     ensures { IfOk result (λ found. found ≡ first_reserved_path (members_of members.now)) }
@@ -161,8 +174,9 @@ fn first_reserved_path(
     Ok(None)
 }
 
-/// The name of the member at a place, counted from 0.
+/// The package name of the member with this index.
 fn member_name_at(alloc: Global, members: &Members<'_>, place: u32) -> Result<Text, AllocError>
+    // The index is that of one of the members.
     requires { place < length (members_of members.now) }
     ensures { IfOk result (λ name. member_name_at (members_of members.now) place ≡ Some name) }
 {
@@ -170,15 +184,18 @@ fn member_name_at(alloc: Global, members: &Members<'_>, place: u32) -> Result<Te
     Text::of(alloc, view.info().name())
 }
 
-/// The refusal of a change with a contested path: the path and the names of its rivals.
+/// The refusal of a change with a contested path. It has the path and the names of the two rivals.
 fn contest(
     alloc: Global,
     members: &Members<'_>,
     contested: &Contested<'_>,
 ) -> Result<PlanFault, AllocError>
+    // The path is the first one in byte order that no member owns.
     requires contested { first_contested_path_of_members (members_of members.now)
         ≡ Some (contested_seen contested.now) }
+    // Each path that the members list is a name of the tree.
     requires named { All (λ l. IsName l.path) (member_listings (members_of members.now)) }
+    // On Ok, the fault is `Owned`, with the first contested path and the names of its rivals.
     ensures { IfOk result (NamesRivalsIfContested (members_of members.now)) }
 {
     let path = name_of_path(alloc, &contested.path)?;
@@ -191,12 +208,18 @@ fn contest(
     })
 }
 
-/// The plan of a change that is not refused: the lists of its parts, with the flags `owned`.
+/// The plan of a change that is not refused. Its lists are those of `parts`. `owned` says for each
+/// listed file whether its package owns it.
 fn lists_of(alloc: Global, parts: &Parts<'_, '_>, owned: Vec<bool>) -> Result<FilePlan, AllocError>
+    // The paths of the removed files are names.
     requires removed { HaveValidPaths (removed_claims_of parts.now) }
+    // The paths of the kept files are names.
     requires kept { HaveValidPaths (kept_claims_of parts.now) }
+    // The paths of the files that are written under their own paths are names.
     requires ins { HaveValidPaths (written_claims_of parts.now) }
+    // The paths of the files that are written aside are names, and so are these with `.apk-new`.
     requires asides { CanHaveApkNewNames (apk_new_claims_of parts.now) }
+    // On Ok, the plan has these lists and flags.
     ensures { IfOk result (AreListsOfParts parts.now owned.items) }
 {
     let removals = names_of_claims(alloc, &parts.removed)?;
@@ -212,8 +235,10 @@ fn lists_of(alloc: Global, parts: &Parts<'_, '_>, owned: Vec<bool>) -> Result<Fi
     })
 }
 
-/// The plan of a change in which no added package lists a reserved path. It is refused if names
-/// clash, and then if no package owns a path.
+/// The plan of a change in which no added package lists a reserved path. The change is refused if
+/// names clash, and otherwise if a path is contested. `coming` are the claims of the files that
+/// added packages own, `contested` is the first contested path, and `owned` says for each listed
+/// file whether its package owns it.
 fn plan_of_claims<T: Tree>(
     alloc: Global,
     tree: &mut T,
@@ -222,25 +247,39 @@ fn plan_of_claims<T: Tree>(
     contested: &Option<Contested<'_>>,
     owned: Vec<bool>,
 ) -> Result<FilePlan, PlanFault>
+    // `change` has the claims of the packages before the change (`before`) and after it (`after`).
     requires claims { HasClaimsOfPackages change.now }
+    // `coming` has, for each path with an added owner, the first claim by which this owner lists
+    // it.
     requires firsts { HasFirstClaimOfEachPath
         (filter (is_of_added_owner (members_of change.now.members.now)) (claims_after change.now))
         (map claim_seen coming.now) }
+    // `contested` is the first path in byte order that no member owns, with its rivals.
     requires contested { option_map contested_seen contested.now
         ≡ first_contested_path_of_members (members_of change.now.members.now) }
+    // The flags are those of all files that the members list, in their order.
     requires owned { owned.items ≡ owned_flags_of (members_of change.now.members.now) }
     // Test 1 was passed: no added package lists a reserved path.
     requires unreserved { first_reserved_path (members_of change.now.members.now) ≡ None }
+    // Each path that the members list is a name of the tree.
     requires named { All (λ l. IsName l.path)
         (member_listings (members_of change.now.members.now)) }
+    // On Ok, the lists of the plan are those of the change over the tree's files if they are
+    // observable, and otherwise over some files.
     ensures plan { IfOk result (IsPlanOverSomeFiles (file_change_of change.now)
         (T.history tree.old)) }
+    // On Ok, the flags are right, and no path is reserved or contested.
     ensures lists { IfOk result (IsPlanForMembersAlone (members_of change.now.members.now)) }
+    // If the tree's files are observable: a reported clash is the first one, and a contested path
+    // is reported only if there is no clash.
     ensures refusal { IfErr result (λ fault. IfObservable (T.history tree.old) (λ v.
         IsRefusalOverFiles (file_change_of change.now) (files_of v) fault)) }
+    // Over any tree: the same for some files.
     ensures may { IfErr result
         (MayBeRefusalOf (file_change_of change.now) (T.history tree.old)) }
+    // A reported contested path is the first one, and has its rivals.
     ensures cause { IfErr result (IsRefusalForMembersAlone (members_of change.now.members.now)) }
+    // The tree is only read: no file changes, no I/O error is hidden, and no call is a misuse.
     ensures tree { OnlyReads PlanFault.Disk (T.history tree.old) (T.history tree.new)
         (T.counts tree.old) (T.counts tree.new) result }
 {
@@ -265,8 +304,8 @@ fn plan_of_claims<T: Tree>(
 ///
 /// # Errors
 ///
-/// `Reserved` before any read of the tree; then `PathClash`; then `Owned`. `Disk` if the tree
-/// failed, `Memory` if out of memory.
+/// The first that applies of: `Reserved`, before any read of the tree; `PathClash`; `Owned`. `Disk`
+/// if a call on the tree failed, `Memory` if the program is out of memory.
 pub fn plan<'c, T: Tree>(
     alloc: Global,
     old: &'c Db<'_>,
@@ -274,33 +313,36 @@ pub fn plan<'c, T: Tree>(
     tree: &mut T,
     purge: bool,
 ) -> Result<FilePlan, PlanFault>
-    // The lists are the change's over the tree's files if they are observable, and otherwise over
-    // some.
+    // On Ok, the lists of the plan are those of the change over the tree's files if they are
+    // observable, and otherwise over some files.
     ensures plan { IfOk result
         (IsPlanOverSomeFiles (file_change_between old.now after.now purge) (T.history tree.old)) }
-    // The removed and written names are names that a package may list, and none is both.
+    // On Ok, the removed and the written names are not reserved, and no name is both.
     ensures names { IfOk result HasDisjointUnreservedNames }
-    // The contents of each write are a file of an added package.
+    // On Ok, each write has the contents of a file of an added package.
     ensures sources { IfOk result (HasSources (members_of after.now)) }
-    // Each file has its owner, and no path is reserved or contested.
+    // On Ok, the plan says of each listed file whether its package owns it, no added package lists
+    // a reserved path, and no path is contested.
     ensures lists { IfOk result (IsPlanForMembersAlone (members_of after.now)) }
-    // If the tree's files are observable: a clash is the first one, and has priority over a
-    // contested path.
+    // If the tree's files are observable: a reported clash is the first one, and a contested path
+    // is reported only if there is no clash.
     ensures refusal { IfErr result (λ fault. IfObservable (T.history tree.old) (λ v.
         IsRefusalOverFiles (file_change_between old.now after.now purge) (files_of v) fault)) }
-    // The same over some files, if the tree's are not observable.
+    // Over any tree, even one that is not observable: the same for some files.
     ensures may { IfErr result
         (MayBeRefusalOf (file_change_between old.now after.now purge) (T.history tree.old)) }
-    // What the packages alone show: a reserved path has priority, and a contested one has its
-    // rivals.
+    // A reported reserved path is the first one. Every other fault, except `Memory`, is reported
+    // only if there is none. A reported contested path is the first one, with its rivals.
     ensures cause { IfErr result (IsRefusalForMembersAlone (members_of after.now)) }
-    // The tree is only read, and `Disk` has a fault of the tree as its cause.
+    // The tree is only read: no file changes, no I/O error is hidden, and no call is a misuse.
     ensures tree { OnlyReads PlanFault.Disk (T.history tree.old) (T.history tree.new)
         (T.counts tree.old) (T.counts tree.new) result }
 {
+    // Laws that the proof needs; they compute nothing.
     old.listed_paths_are_names();
     old.no_listed_path_is_reserved();
     after.listed_paths_are_names();
+    // Test 1: no added package may list a reserved path.
     let found = owners_of_files(alloc, after)?;
     let owned = found.owned;
     let contested = found.contested;
@@ -308,6 +350,7 @@ pub fn plan<'c, T: Tree>(
     if let Some(path) = reserved {
         return Err(PlanFault::Reserved { path });
     }
+    // Tests 2 and 3, on clashes and contested paths, are in `plan_of_claims`.
     let listed = claims_in_database(alloc, old)?;
     let before = one_of_each_path(alloc, listed)?;
     let change = ClaimChange {

@@ -1,7 +1,8 @@
-//! The names at which added files are written, and whose contents they get.
-//! The rules are in `docs/commands.md`, "What a change does with files": the change writes each file
-//! that an added package owns, under its path or beside the user's file as `PATH.apk-new`. Positions
-//! of folders and files count as in `docs/formats.md`, "The other blocks".
+//! The writes of a plan: the names under which added files are written, and whose contents they
+//! get. The rules are in `docs/commands.md`, "What a change does with files": the change writes
+//! each file that an added package owns, under its path or beside the user's file as
+//! `PATH.apk-new`. Positions of folders and files count as in `docs/formats.md`, "The other
+//! blocks".
 
 ghost use Rattle.std.specs.Prelude.{◌≡◌, ◌<◌, ◌==◌, ◌++◌, ◌∷◌, [], IfOk, OnOk, Some, length, map, slice_get};
 ghost use Rattle.base_core.specs.Sorted.{sorted_by};
@@ -14,13 +15,12 @@ use base_core::Name;
 use path_claim_lists::{Claim, name_of_path};
 use std::alloc::{AllocError, Global};
 
-/// A name, and the file whose contents it gets. The member's place counts from 0; the folder's
-/// (`path`) and the file's in it count from 1, as in blocks of contents.
+/// A write of a change: a name, and the file of an added package whose contents it gets.
 #[derive(Drop)]
 pub struct Write {
-    /// The name under which the file is written: its path, or the name beside that.
+    /// The name under which the file is written: its path, or `PATH.apk-new`.
     pub name: Name,
-    /// The place of the member that has the file, counted from 0.
+    /// The index of the member that has the file.
     pub member: u32,
     /// The position of the folder in the member's package, counted from 1.
     pub path: u32,
@@ -28,7 +28,7 @@ pub struct Write {
     pub file: u32,
 }
 
-/// What is written, in byte order of names.
+/// The files of packages that a change writes, in byte order of the names.
 #[derive(Drop)]
 pub struct Writes {
     /// The writes, in byte order of their names.
@@ -43,15 +43,16 @@ impl Writes {
         self.writes.len()
     }
 
-    /// Whether nothing is written.
+    /// Whether there are no writes.
     pub fn is_empty(&self) -> bool
         ensures { result ≡ (length (writes_in self.now) == 0) }
     {
         self.writes.is_empty()
     }
 
-    /// The write at a place, counted from 0.
+    /// The write with this index.
     pub fn get(&self, i: usize) -> &Write
+        // The index is that of one of the writes.
         requires { i < length (writes_in self.now) }
         ensures { slice_get (writes_in self.now) i ≡ Some (write_seen result.now) }
     {
@@ -59,8 +60,9 @@ impl Writes {
     }
 }
 
-/// Adds a write of the file of a claim, under a name.
+/// Adds a write of the claim's file under this name.
 fn add_write(writes: &mut Vec<Write>, name: Name, claim: &Claim<'_>) -> Result<(), AllocError>
+    // On Ok, the write is added at the end.
     ensures { OnOk result (map write_seen writes.new.items
         ≡ map write_seen writes.old.items
         ++ write_of_claim_under name (claim_seen claim.now) ∷ []) }
@@ -74,9 +76,11 @@ fn add_write(writes: &mut Vec<Write>, name: Name, claim: &Claim<'_>) -> Result<(
     Ok(())
 }
 
-/// Adds for each claim a write under its own path.
+/// Adds, for each claim of `ins`, a write of its file under the claim's path.
 fn add_in(alloc: Global, writes: &mut Vec<Write>, ins: &[Claim<'_>]) -> Result<(), AllocError>
+    // The paths of the claims are names.
     requires { HaveValidPaths (map claim_seen ins.now) }
+    // On Ok, these writes are added at the end, in the order of the claims.
     ensures { OnOk result (map write_seen writes.new.items
         ≡ map write_seen writes.old.items ++ map claim_write (map claim_seen ins.now)) }
 {
@@ -87,13 +91,15 @@ fn add_in(alloc: Global, writes: &mut Vec<Write>, ins: &[Claim<'_>]) -> Result<(
     Ok(())
 }
 
-/// Adds for each claim a write under the name beside its path.
+/// Adds, for each claim of `asides`, a write of its file under `PATH.apk-new`.
 fn add_beside(
     alloc: Global,
     writes: &mut Vec<Write>,
     asides: &[Claim<'_>],
 ) -> Result<(), AllocError>
+    // The paths of the claims are names, and so are these with `.apk-new`.
     requires { CanHaveApkNewNames (map claim_seen asides.now) }
+    // On Ok, these writes are added at the end, in the order of the claims.
     ensures { OnOk result (map write_seen writes.new.items
         ≡ map write_seen writes.old.items ++ map apk_new_write (map claim_seen asides.now)) }
 {
@@ -105,8 +111,9 @@ fn add_beside(
     Ok(())
 }
 
-/// Sorts writes by their names, in byte order.
+/// Sorts the writes by their names, in byte order.
 fn sort_writes(writes: &mut Vec<Write>) -> Result<(), AllocError>
+    // On Ok, the same writes are in byte order of their names.
     ensures { OnOk result (map write_seen writes.new.items
         ≡ sorted_by write_cmp (map write_seen writes.old.items)) }
 {
@@ -114,15 +121,18 @@ fn sort_writes(writes: &mut Vec<Write>) -> Result<(), AllocError>
     Ok(())
 }
 
-/// The writes of a plan: of files that take their paths (`ins`), and of files that are laid beside
-/// others (`asides`).
+/// The writes of a plan, in byte order of the names. `ins` are the claims of files that are written
+/// under their own paths, `asides` those of files that are written aside.
 pub(crate) fn writes_of(
     alloc: Global,
     ins: &[Claim<'_>],
     asides: &[Claim<'_>],
 ) -> Result<Writes, AllocError>
+    // The paths of `ins` are names.
     requires ins { HaveValidPaths (map claim_seen ins.now) }
+    // The paths of `asides` are names, and so are these with `.apk-new`.
     requires asides { CanHaveApkNewNames (map claim_seen asides.now) }
+    // On Ok, the writes are those of `ins` under their paths, and of `asides` under `PATH.apk-new`.
     ensures { IfOk result (λ writes. writes_in writes ≡ sorted_by write_cmp
         (map claim_write (map claim_seen ins.now)
         ++ map apk_new_write (map claim_seen asides.now))) }

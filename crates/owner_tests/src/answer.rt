@@ -1,5 +1,5 @@
-//! Answers `owners`: who owns the files of packages, as text. The rules are in `docs/commands.md`,
-//! "Files that several packages list".
+//! The answer to the question `owners`: who owns the files of the added packages, as text. The
+//! rules are in `docs/commands.md`, "Files that several packages list".
 
 use adb_schema::FilePath;
 use db_core::{Db, MOST_MEMBERS, Members};
@@ -9,10 +9,10 @@ use row_lines::{add_number, add_word};
 use row_members::{add_coming, front_of};
 use std::alloc::{AllocError, Global};
 
-/// Adds who owns the files of these packages, which are all added by the change: for each path
-/// `PATH=PACKAGE` with the number of the owner, or `PATH=?` if none owns it. Then it has for each
-/// listed file `1` if its package owns it, else `0`; and then the contested path, if there is one,
-/// with the numbers of two packages that contend for it.
+/// Adds to the answer who owns the files of the packages in these containers, which are all added
+/// by the change: for each path `PATH=PACKAGE` with the index of the owner, or `PATH=?` if no
+/// package owns it. Then each listed file has `1` if its package owns it, else `0`. At the end is
+/// the first contested path, if there is one, with the indexes of its rivals.
 pub(crate) fn add_owners(
     alloc: Global,
     containers: &[Vec<u8>],
@@ -28,8 +28,8 @@ pub(crate) fn add_owners(
     add_owners_of(alloc, &fronts, answer)
 }
 
-/// Adds who owns the files of the packages with these fronts (headers and first blocks), if no
-/// package is installed.
+/// Does what `add_owners` does, given the fronts (headers and first blocks) of the packages. No
+/// package is installed before the change.
 fn add_owners_of<'a>(
     alloc: Global,
     fronts: &'a [Front],
@@ -38,8 +38,8 @@ fn add_owners_of<'a>(
     add_owners_beside(alloc, &Db::empty(alloc), fronts, answer)
 }
 
-/// Adds who owns the files of the packages with these fronts (headers and first blocks). No package
-/// of the installed database is kept.
+/// Does what `add_owners` does, given the database before the change, of which no package is kept,
+/// and the fronts (headers and first blocks) of the added packages.
 fn add_owners_beside<'a>(
     alloc: Global,
     db: &Db<'a>,
@@ -64,8 +64,9 @@ fn add_owners_beside<'a>(
     }
 }
 
-/// Adds each path once, with the number of the package that owns it. A claim is a path that one
-/// package lists; equal paths follow each other.
+/// Adds each path once, with the index of the package that owns it. The claims, that is, the
+/// entries of packages for files, are in byte order of their paths, so claims of one path are
+/// adjacent.
 fn add_paths(alloc: Global, found: &Owners<'_>, answer: &mut Vec<u8>) -> Result<(), AllocError> {
     let mut last: Option<FilePath<'_>> = None;
     for i in 0..found.claims.len() {
@@ -84,7 +85,7 @@ fn add_paths(alloc: Global, found: &Owners<'_>, answer: &mut Vec<u8>) -> Result<
     Ok(())
 }
 
-/// Whether a path differs from the last one, or is the first.
+/// Whether the path differs from the last one, or there is no last one.
 fn is_other(last: &Option<FilePath<'_>>, path: &FilePath<'_>) -> bool {
     match last {
         Some(last) => !last.compare(path).is_eq(),
@@ -110,7 +111,7 @@ fn add_flags(found: &Owners<'_>, answer: &mut Vec<u8>) -> Result<(), AllocError>
     Ok(())
 }
 
-/// Adds the contested path, and the numbers of two packages that contend for it.
+/// Adds the contested path, and the indexes of its rivals.
 fn add_contested(
     alloc: Global,
     contested: &Contested<'_>,

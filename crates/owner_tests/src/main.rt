@@ -1,5 +1,5 @@
-//! Answers questions to `file_owners`: who owns the files that packages list. Its stored run has
-//! all rows; `tests/lines.md` describes their form. The README of this crate has a row for each
+//! Tests of `file_owners`: who owns the files that packages list. The rows are in the stored run of
+//! this crate; `tests/lines.md` describes their form. The README of this crate has a row for each
 //! question.
 #![tactic(auto)]
 
@@ -25,7 +25,7 @@ enum Question {
     Owners,
 }
 
-// The first word of each question.
+// The first word of the rows of each question.
 #[rattlefmt::skip]
 const QUESTIONS: [(&[u8], Question); 3] = [
     (b"new", Question::New),
@@ -33,15 +33,15 @@ const QUESTIONS: [(&[u8], Question); 3] = [
     (b"owners", Question::Owners),
 ];
 
-/// The added packages, as earlier rows describe them.
+/// The packages that earlier rows have added.
 #[derive(Drop)]
 struct AddedPackages {
-    /// Their containers, in the order of their rows.
+    /// The containers of the packages, in the order of their rows.
     packages: Vec<Vec<u8>>,
 }
 
 impl Subject for AddedPackages {
-    // Answers a question by its first word, about the packages of earlier rows.
+    // Adds the answer to the row with these words, whose first word names the question.
     fn answer(
         &mut self,
         alloc: Global,
@@ -66,7 +66,7 @@ impl Subject for AddedPackages {
     }
 }
 
-// Answers the rows of standard input.
+// Answers the rows of standard input, one after another.
 fn main(rt: HostRuntime) -> io::Result<ExitCode> {
     let alloc = rt.alloc();
     let mut change = AddedPackages {

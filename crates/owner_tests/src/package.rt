@@ -1,18 +1,18 @@
-//! The containers of packages, from the words of a row. Each is made of a dump text
-//! (`docs/formats.md`, "Dump text"); how a row writes a package is in the README of this crate.
+//! The containers of the packages that rows describe. Each container is made from a dump text
+//! (`docs/formats.md`, "Dump text"); the README of this crate says how a row gives a package.
 
 use base_core::Words;
 use gen_core::{GenFault, gen_};
 use row_lines::word_at;
 use std::alloc::{AllocError, Global};
 
-/// The container of the package of a row `package NAME VERSION PRIORITY PATHS REPLACES..`. The
-/// paths have commas between them, and each is that of an empty file. REPLACES is
-/// `NAME:VERSION:MATCH`; the number MATCH says which versions match. None if the words give no
-/// container.
+/// The container of the package that a row `package NAME VERSION PRIORITY PATHS REPLACES..`
+/// describes. PATHS are those of empty files, with commas between them. Each of REPLACES is
+/// `NAME:VERSION:MATCH`, where MATCH are the match bits of the version operator. None if no
+/// container can be made of the words.
 pub(crate) fn package_of(alloc: Global, words: &Words) -> Result<Option<Vec<u8>>, AllocError> {
     let mut dump = Vec::new(alloc);
-    // The number is the schema of packages, in hexadecimal.
+    // The first line has the number of the schema of packages, in hexadecimal.
     dump.extend_from_slice(b"#%SCHEMA: 676b6370\ninfo:\n")?;
     add_field(&mut dump, b"  name: ", word_at(words, 1))?;
     add_field(&mut dump, b"  version: ", word_at(words, 2))?;
@@ -26,7 +26,8 @@ pub(crate) fn package_of(alloc: Global, words: &Words) -> Result<Option<Vec<u8>>
     }
 }
 
-/// Adds a field's line, if the field has a value.
+/// Adds the line of a field to the dump text, if the value is not empty. `field` is what precedes
+/// the value in the line.
 fn add_field(dump: &mut Vec<u8>, field: &[u8], value: &[u8]) -> Result<(), AllocError> {
     if value.is_empty() {
         return Ok(());
@@ -36,14 +37,14 @@ fn add_field(dump: &mut Vec<u8>, field: &[u8], value: &[u8]) -> Result<(), Alloc
     dump.extend_from_slice(b"\n")
 }
 
-/// Adds the lines of what the package replaces: the words of the row from the sixth on.
+/// Adds the lines of the field `replaces`: its entries are the words of the row from the sixth on.
 fn add_replaces(dump: &mut Vec<u8>, words: &Words) -> Result<(), AllocError> {
     if words.len() > 5 {
         dump.extend_from_slice(b"  replaces:\n")?;
     }
     for i in 5..words.len() {
-        let (name, rest) = parted(word_at(words, i), b':');
-        let (version, matching) = parted(rest, b':');
+        let (name, rest) = split_at_first(word_at(words, i), b':');
+        let (version, matching) = split_at_first(rest, b':');
         add_field(dump, b"    - name: ", name)?;
         add_field(dump, b"      version: ", version)?;
         add_field(dump, b"      match: ", matching)?;
@@ -51,17 +52,18 @@ fn add_replaces(dump: &mut Vec<u8>, words: &Words) -> Result<(), AllocError> {
     Ok(())
 }
 
-/// Adds the lines of folders with their files. Neighbours in the list that have the same folder
-/// share it. Modes are in decimal: 420 is octal 644, 493 octal 755.
+/// Adds the lines of the folders with their files, from the list PATHS of a row. Adjacent paths of
+/// the list that have the same folder are in one folder of the package. Modes are in decimal: 420
+/// is octal 644, and 493 is octal 755.
 fn add_files(dump: &mut Vec<u8>, paths: &[u8]) -> Result<(), AllocError> {
     if paths.is_empty() {
         return Ok(());
     }
     dump.extend_from_slice(b"paths:\n")?;
-    // The folder of the path before in the list.
+    // The folder of the previous path of the list.
     let mut previous: Option<&[u8]> = None;
     for path in paths.split(|byte| *byte == b',') {
-        let (folder, name) = parted_last(path);
+        let (folder, name) = folder_and_name(path);
         if previous != Some(folder) {
             add_folder(dump, folder)?;
         }
@@ -76,7 +78,8 @@ fn add_files(dump: &mut Vec<u8>, paths: &[u8]) -> Result<(), AllocError> {
     Ok(())
 }
 
-/// Adds the lines of a folder, down to the line before its files. The root folder has no name.
+/// Adds the lines of a folder, down to the line before its files. The root folder, whose name is
+/// empty, has no line with a name.
 fn add_folder(dump: &mut Vec<u8>, folder: &[u8]) -> Result<(), AllocError> {
     if folder.is_empty() {
         add_rights(
@@ -95,23 +98,25 @@ fn add_folder(dump: &mut Vec<u8>, folder: &[u8]) -> Result<(), AllocError> {
     dump.extend_from_slice(b"    files:\n")
 }
 
-/// Adds the lines of an access list whose user and group are `root`. The arguments are the texts
-/// before these two names.
+/// Adds the lines of an access list whose user and group are `root`. `user` and `group` are the
+/// texts that precede these two names.
 fn add_rights(dump: &mut Vec<u8>, user: &[u8], group: &[u8]) -> Result<(), AllocError> {
     add_field(dump, user, b"root")?;
     add_field(dump, group, b"root")
 }
 
-/// The text before the first byte `mark`, and the text after it. Without `mark`, all and nothing.
-fn parted(text: &[u8], mark: u8) -> (&[u8], &[u8]) {
+/// The text before the first byte `mark`, and the text after it. Without such a byte, the whole
+/// text and an empty one.
+fn split_at_first(text: &[u8], mark: u8) -> (&[u8], &[u8]) {
     match text.iter().position(|byte| *byte == mark) {
         Some(i) if i < text.len() => (&text[..i], &text[i + 1..]),
         _ => (text, b""),
     }
 }
 
-/// The folder of a path, and the name after its last slash.
-fn parted_last(path: &[u8]) -> (&[u8], &[u8]) {
+/// The folder of a path, before its last slash, and the name after it. Without a slash the folder
+/// is empty.
+fn folder_and_name(path: &[u8]) -> (&[u8], &[u8]) {
     match path.iter().rposition(|byte| *byte == b'/') {
         Some(i) if i < path.len() => (&path[..i], &path[i + 1..]),
         _ => (b"", path),

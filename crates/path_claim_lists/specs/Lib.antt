@@ -1,10 +1,10 @@
 -- The definitions of this crate, whose rules are in `docs/commands.md`, "Files that several
 -- packages list".
 
--- passed on: a crate above that names this one need not name these
+-- definitions of other crates, passed on: a crate that imports this module need not import theirs
 pub use Rattle.path_claims.specs as path_claims
 pub use Rattle.path_claims.specs.adb_fields as adb_fields
 pub use Rattle.path_clashes.specs as path_clashes
--- what only inner contracts and proofs use
+-- modules that only contracts of inner functions and proofs cite
 pub mod Once
 pub mod Named

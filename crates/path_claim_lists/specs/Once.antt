@@ -6,9 +6,9 @@ use Rattle.std.specs.List.{find}
 use Rattle.base_core.specs.Listed.{AreSortedDistinctNames}
 use Rattle.path_claims.specs.Claims.{PathClaim, is_claim_of_path}
 
--- the second list has the first claim of each path of the first list, in byte order of the paths
+-- `firsts` has, for each path that a claim of `all` has, the first such claim, in byte order of the paths
 pub record HasFirstClaimOfEachPath (all firsts : List PathClaim) : Type 0 where
-  -- the paths are in byte order, each once
+  -- the paths of `firsts` are in byte order, each once
   pub rising : AreSortedDistinctNames (map (λ c. c.path) firsts)
-  -- for each path, both lists have the same first claim of it, or none
+  -- for each path, both lists have the same first claim that has it, or neither list has one
   pub each : (path : List ℕ) → find (is_claim_of_path path) firsts ≡ find (is_claim_of_path path) all

@@ -1,5 +1,5 @@
-//! Claims in the order of their paths: the claim of a path, one claim of each path, and the names
-//! of paths.
+//! Operations on claims in byte order of their paths: the search for the first claim of a path, the
+//! first claim of each path, and the paths as names of a tree.
 //! `docs/commands.md`, "Files that several packages list", says what a claim is; "Words" there,
 //! which bytes are a name. These calls are general operations on sorted claims: their contracts are
 //! their whole specification.
@@ -20,14 +20,15 @@ use path_claims::{Claim, FilePath, begins_path};
 use path_clashes::path_bytes;
 use std::alloc::{AllocError, Global};
 
-/// The place of the first claim of a path, counted from 0, by a binary search among claims in the
-/// order of their paths. None is returned exactly if no claim has the path.
+/// The index of the first claim that has the path, by a binary search in the claims. None is
+/// returned exactly if no claim has the path.
 pub fn find_claim(claims: &[Claim<'_>], path: &FilePath<'_>) -> Option<usize>
-    // The claims are in the order of their paths.
+    // The claims are in byte order of their paths.
     requires { IsSorted claim_cmp (map claim_seen claims.now) }
-    // An index that is returned is that of an element.
+    // If an index is returned, it is that of one of the claims.
     ensures within { IfSome result (λ i. i < length claims.now) }
-    // The claim at the result is the first claim of the path; without a claim of it there is none.
+    // The claim with the returned index is the first one that has the path. None is returned if no
+    // claim has it.
     ensures found { option_and_then (slice_get (map claim_seen claims.now)) result
         ≡ find (is_claim_of_path (joined_path path.now)) (map claim_seen claims.now) }
 {
@@ -35,16 +36,17 @@ pub fn find_claim(claims: &[Claim<'_>], path: &FilePath<'_>) -> Option<usize>
     claim_at(claims, path, at)
 }
 
-/// The place of the first claim of a path, as `find_claim` returns it, for paths that are searched
-/// in their order. The search starts at the place `next`, and sets it to the place after the found
-/// claim, or to the place where the path would be. If the first place is right, it makes three
-/// comparisons.
+/// The index of the first claim that has the path, as `find_claim` returns it, for paths that are
+/// searched in byte order. The search starts at the index `next`, and sets it to the index after
+/// the found claim, or to that of the first claim with a later path. If the path or the first later
+/// one is at `next`, three comparisons are made.
 pub fn find_next_claim(claims: &[Claim<'_>], path: &FilePath<'_>, next: &mut usize) -> Option<usize>
-    // The claims are in the order of their paths.
+    // The claims are in byte order of their paths.
     requires { IsSorted claim_cmp (map claim_seen claims.now) }
-    // An index that is returned is that of an element.
+    // If an index is returned, it is that of one of the claims.
     ensures within { IfSome result (λ i. i < length claims.now) }
-    // The claim at the result is the first claim of the path; without a claim of it there is none.
+    // The claim with the returned index is the first one that has the path. None is returned if no
+    // claim has it.
     ensures found { option_and_then (slice_get (map claim_seen claims.now)) result
         ≡ find (is_claim_of_path (joined_path path.now)) (map claim_seen claims.now) }
 {
@@ -57,19 +59,20 @@ pub fn find_next_claim(claims: &[Claim<'_>], path: &FilePath<'_>, next: &mut usi
     found
 }
 
-/// The place of a path among claims, if the claim there has the path: `at` is how many claims have
-/// paths before it.
+/// The index `at`, if the claim with this index has the path. `at` is how many claims have paths
+/// before this one.
 fn claim_at(claims: &[Claim<'_>], path: &FilePath<'_>, at: usize) -> Option<usize>
-    // The claims are in the order of their paths.
+    // The claims are in byte order of their paths.
     requires sorted { IsSorted claim_cmp (map claim_seen claims.now) }
-    // The place is not after the end of the claims.
+    // `at` is at most the number of claims.
     requires bound { at ≤ length claims.now }
-    // `at` claims have paths before this one, and the others have not.
+    // The first `at` claims have paths before this one, and the others do not.
     requires place { IsPartitionPoint (λ c. precedes c.path (joined_path path.now) ≡ true)
         (λ c. precedes c.path (joined_path path.now) ≡ false) (map claim_seen claims.now) at }
-    // An index that is returned is that of an element.
+    // If an index is returned, it is that of one of the claims.
     ensures within { IfSome result (λ i. i < length claims.now) }
-    // The claim at the result is the first claim of the path; without a claim of it there is none.
+    // The claim with the returned index is the first one that has the path. None is returned if no
+    // claim has it.
     ensures found { option_and_then (slice_get (map claim_seen claims.now)) result
         ≡ find (is_claim_of_path (joined_path path.now)) (map claim_seen claims.now) }
 {
@@ -83,12 +86,13 @@ fn claim_at(claims: &[Claim<'_>], path: &FilePath<'_>, at: usize) -> Option<usiz
     }
 }
 
-/// How many claims have paths before this one; the search starts at `guess`.
+/// How many claims have paths before this one. If `guess` is this number, no binary search is made.
 fn place_near(claims: &[Claim<'_>], path: &FilePath<'_>, guess: usize) -> usize
-    // The claims are in the order of their paths.
+    // The claims are in byte order of their paths.
     requires { IsSorted claim_cmp (map claim_seen claims.now) }
+    // The result is at most the number of claims.
     ensures bound { result ≤ length claims.now }
-    // So many claims have paths before this one, and the others have not.
+    // As many claims as the result says have paths before this one, and the others do not.
     ensures place { IsPartitionPoint (λ c. precedes c.path (joined_path path.now) ≡ true)
         (λ c. precedes c.path (joined_path path.now) ≡ false) (map claim_seen claims.now) result }
 {
@@ -104,30 +108,32 @@ fn place_near(claims: &[Claim<'_>], path: &FilePath<'_>, guess: usize) -> usize
     guess
 }
 
-/// How many claims have paths before this one, by binary search.
+/// How many claims have paths before this one, by a binary search.
 fn place_of(claims: &[Claim<'_>], path: &FilePath<'_>) -> usize
-    // The claims are in the order of their paths.
+    // The claims are in byte order of their paths.
     requires { IsSorted claim_cmp (map claim_seen claims.now) }
+    // The result is at most the number of claims.
     ensures bound { result ≤ length claims.now }
-    // So many claims have paths before this one, and the others have not.
+    // As many claims as the result says have paths before this one, and the others do not.
     ensures place { IsPartitionPoint (λ c. precedes c.path (joined_path path.now) ≡ true)
         (λ c. precedes c.path (joined_path path.now) ≡ false) (map claim_seen claims.now) result }
 {
     claims.partition_point(|claim| claim.path.compare(path).is_lt())
 }
 
-/// The first claim of each path, among claims in the order of their paths. If each path has one
-/// claim, they are returned as they are, and no memory is needed.
+/// The first claim of each path, in byte order of the paths. If each path has one claim, the
+/// given list is returned, and no memory is needed.
 ///
 /// # Errors
 ///
-/// Out of memory.
+/// The program is out of memory.
 pub fn one_of_each_path<'a>(
     alloc: Global,
     claims: Vec<Claim<'a>>,
 ) -> Result<Vec<Claim<'a>>, AllocError>
-    // The claims are in the order of their paths.
+    // The claims are in byte order of their paths.
     requires { IsSorted claim_cmp (map claim_seen claims.items) }
+    // On Ok, the result has the first claim of each path, in byte order of the paths.
     ensures { IfOk result
         (λ firsts. HasFirstClaimOfEachPath (map claim_seen claims.entry.items)
         (map claim_seen firsts.items)) }
@@ -138,10 +144,11 @@ pub fn one_of_each_path<'a>(
     first_claims(alloc, &claims)
 }
 
-/// Whether each claim, among claims in the order of their paths, is the first one of its path.
+/// Whether each path has one claim, among claims in byte order of their paths.
 fn has_one_claim_of_each_path(claims: &[Claim<'_>]) -> bool
-    // The claims are in the order of their paths.
+    // The claims are in byte order of their paths.
     requires { IsSorted claim_cmp (map claim_seen claims.now) }
+    // If so, the claims are the first ones of their paths.
     ensures { result ≡ true
         → HasFirstClaimOfEachPath (map claim_seen claims.now) (map claim_seen claims.now) }
 {
@@ -153,15 +160,17 @@ fn has_one_claim_of_each_path(claims: &[Claim<'_>]) -> bool
     true
 }
 
-/// The first claim of each path, among claims in the order of their paths.
+/// A new list of the first claim of each path, in byte order of the paths.
 fn first_claims<'a>(alloc: Global, claims: &[Claim<'a>]) -> Result<Vec<Claim<'a>>, AllocError>
-    // The claims are in the order of their paths.
+    // The claims are in byte order of their paths.
     requires { IsSorted claim_cmp (map claim_seen claims.now) }
+    // On Ok, the result has the first claim of each path, in byte order of the paths.
     ensures { IfOk result
         (λ firsts. HasFirstClaimOfEachPath (map claim_seen claims.now)
         (map claim_seen firsts.items)) }
 {
-    // Most paths have one claim. A list that grows would leave smaller copies of itself in memory.
+    // The memory for all claims is asked for at once, since most paths have one claim. A list that
+    // grows would leave smaller copies of itself in memory.
     let mut firsts = Vec::with_capacity(alloc, claims.len())?;
     for i in 0..claims.len() {
         if begins_path(claims, i) {
@@ -171,11 +180,11 @@ fn first_claims<'a>(alloc: Global, claims: &[Claim<'a>]) -> Result<Vec<Claim<'a>
     Ok(firsts)
 }
 
-/// The path as a name.
+/// The path, with its folder and name joined, as a name of a tree.
 ///
 /// # Errors
 ///
-/// Out of memory.
+/// The program is out of memory.
 pub fn name_of_path(alloc: Global, path: &FilePath<'_>) -> Result<Name, AllocError>
     // The path is a valid name.
     requires { IsName (joined_path path.now) }
@@ -185,11 +194,11 @@ pub fn name_of_path(alloc: Global, path: &FilePath<'_>) -> Result<Name, AllocErr
     Name::of(alloc, &bytes)
 }
 
-/// The paths of claims as names, in their order.
+/// The paths of the claims as names of a tree, in the same order.
 ///
 /// # Errors
 ///
-/// Out of memory.
+/// The program is out of memory.
 pub fn names_of_claims(alloc: Global, claims: &[Claim<'_>]) -> Result<Names, AllocError>
     // Each path is a valid name.
     requires { HaveValidPaths (map claim_seen claims.now) }

@@ -1,8 +1,9 @@
-//! Claims in the order of their paths: searched, reduced to one for each path, and made into names.
+//! Operations on claims in byte order of their paths: the search for a path, the first claim of
+//! each path, and the paths as names of a tree. `own_core` uses them.
 //!
-//! `find_claim` finds the first claim of a path, `find_next_claim` the same from a place on, and
-//! `one_of_each_path` keeps only the first ones. `name_of_path` makes a name of a path with its
-//! folder and name apart. The contracts cite `Once` of `specs/`.
+//! `find_claim` finds the first claim of a path, `find_next_claim` does so starting at an index,
+//! and `one_of_each_path` keeps only the first claim of each path. `name_of_path` joins the folder
+//! and the name of a path. The contracts cite `Once` of `specs/`.
 //! The rules are in `docs/commands.md`, "Files that several packages list" (a claim), and "Words"
 //! (which bytes are a name).
 #![tactic(auto)]

@@ -1,10 +1,10 @@
--- The only member that can beat all others.
+-- The only member of a list that may beat all others, found in one pass.
 -- No document has a rule for this: it serves the contract of `last_unbeaten_member` in `src/contest.rt`, by which
 -- *winner* is found with few questions.
 use Rattle.std.specs.Prelude.{ℕ, Bool, if◌then◌else◌, List, [], ◌∷◌}
 
--- the member that is left over after a pass over the members, which begins with the member `c`:
--- each member that the current one does not beat replaces it
+-- The last current member of a pass through the list. The first current member is `c`; each member of the list that
+-- the current one does not beat becomes the current one.
 abbrev pub last_unbeaten_member : (ℕ → ℕ → Bool) → ℕ → List ℕ → ℕ
 last_unbeaten_member beats c [] = c
 last_unbeaten_member beats c (y ∷ ys) =

@@ -1,12 +1,12 @@
 -- The definitions of this crate, whose rules are in `docs/commands.md`, "Files that several
 -- packages list".
 
--- passed on: a crate above that names this one need not name these
+-- definitions of other crates, passed on: a crate that imports this module need not import theirs
 pub use Rattle.adb_fields.specs as adb_fields
--- what the contract of `apk` says
+-- modules that the contract of `apk` cites
 pub mod Contest
 pub mod Claims
--- what only inner contracts and proofs use
+-- modules that only contracts of inner functions and proofs cite
 pub mod LeftOver
 pub mod Seen
 pub mod ContestedSeen

@@ -1,11 +1,11 @@
--- What the values of the program denote.
+-- Claims of the program as contracts see them.
 -- No document has a rule for this: it serves the contracts of `src/claim.rt`, whose paths have their
 -- folders and names apart.
 use Rattle.adb_fields.specs.JoinedPath.{joined_path}
 use Rattle.path_claims.specs.Claims.{PathClaim}
 use Rattle.path_claims.specs.declared.claim.Claim.{Claim}
 
--- a claim as contracts see it: folder and name are joined to one path
+-- a `Claim` of the program as contracts see it: the folder and the name of its path are joined
 abbrev pub claim_seen : Claim → PathClaim
 claim_seen c = record {
   path = joined_path c.path;

@@ -1,4 +1,4 @@
-//! Claims in the order of their paths.
+//! The type of a claim, and claims in byte order of their paths.
 //! `docs/commands.md`, "Files that several packages list", says what a claim is: a package claims
 //! each file that it lists. `src/owner.rt` needs the order, so that the claims of one path are
 //! adjacent.
@@ -13,24 +13,24 @@ ghost use Rattle.path_claims.specs.Seen.{claim_seen};
 use adb_fields::FilePath;
 use std::alloc::{AllocError, Global};
 
-/// A file that a member lists. The member's place counts from 0, those of the folder and of the
-/// file in it count from 1. The number says how many claims are before it in the list of all.
+/// A claim: an entry for a file in a member, that is, in a package installed after a change.
 #[derive(Clone, Copy)]
 pub struct Claim<'a> {
     /// The path of the file.
     pub path: FilePath<'a>,
-    /// The place of the member that lists it, counted from 0.
+    /// The index of the member that lists the file.
     pub member: u32,
     /// The position of the folder in the member's package, counted from 1.
     pub folder: u32,
     /// The position of the file in its folder, counted from 1.
     pub file: u32,
-    /// How many claims are before this one in the list of all.
+    /// How many claims are before this one in the list of the claims of all members.
     pub number: usize,
 }
 
-/// Sorts claims by their paths. Those of one path keep their order.
+/// Sorts the claims by their paths, in byte order. Claims of the same path keep their order.
 pub fn sort_claims(claims: &mut Vec<Claim<'_>>) -> Result<(), AllocError>
+    // On Ok, the claims are sorted, and claims of the same path are in their old order.
     ensures { IfOk result (λ _. map claim_seen claims.new.items
         ≡ sorted_by claim_cmp (map claim_seen claims.old.items)) }
 {
@@ -38,10 +38,10 @@ pub fn sort_claims(claims: &mut Vec<Claim<'_>>) -> Result<(), AllocError>
     Ok(())
 }
 
-/// Whether the claim at a place, counted from 0, is the first one of its path: it is the first
-/// claim, or has another path than the claim before it.
+/// Whether the claim with the index `i` is the first one of its path: it is the first claim of all,
+/// or the claim before it has another path.
 pub fn begins_path(claims: &[Claim<'_>], i: usize) -> bool
-    // The index is that of an element.
+    // The index is that of one of the claims.
     requires { i < length claims.now }
     ensures { result ≡ is_first_of_path (map claim_seen claims.now) i }
 {
@@ -51,8 +51,10 @@ pub fn begins_path(claims: &[Claim<'_>], i: usize) -> bool
     !claims[i - 1].path.compare(&claims[i].path).is_eq()
 }
 
-/// The first claims of a list, up to the first that has another path.
+/// The claims at the beginning of the list that have this path, up to the first one that has
+/// another path.
 fn run_in_front<'c, 'a>(claims: &'c [Claim<'a>], path: &FilePath<'_>) -> &'c [Claim<'a>]
+    // The result is the longest beginning of the list in which each claim has the path.
     ensures { map claim_seen result.now
         ≡ passing_prefix (is_claim_of_path (joined_path path.now)) (map claim_seen claims.now) }
 {
@@ -63,10 +65,13 @@ fn run_in_front<'c, 'a>(claims: &'c [Claim<'a>], path: &FilePath<'_>) -> &'c [Cl
     &claims[..end]
 }
 
-/// The claims from the one at a place on, up to the first that has another path.
+/// The claims from the one with the index `from` on that have the same path as it, up to the first
+/// one that has another path.
 pub fn run_at<'c, 'a>(claims: &'c [Claim<'a>], from: usize) -> &'c [Claim<'a>]
-    // The place is that of a claim.
+    // The index is that of one of the claims.
     requires { from < length claims.now }
+    // If c is the claim at this index, the result is the longest run of claims from it on that have
+    // its path.
     ensures { (c : PathClaim) → slice_get (map claim_seen claims.now) from ≡ Some c
         → map claim_seen result.now
         ≡ passing_prefix (is_claim_of_path c.path) (drop from (map claim_seen claims.now)) }

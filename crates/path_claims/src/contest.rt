@@ -1,4 +1,5 @@
-//! The member that beats every other one, given which members beat which.
+//! The member that beats all others that claim a path, given which members beat which; and the
+//! rivals that are reported if there is no such member. `src/owner.rt` uses both.
 //! The rule is in `docs/commands.md`, "Files that several packages list": "the one that beats every
 //! other owns it", and which two packages are reported if none does. A `Contest` says which member
 //! beats which.
@@ -9,9 +10,9 @@ ghost use Rattle.path_claims.specs.LeftOver.{last_unbeaten_member};
 
 use crate::claim::Claim;
 
-/// Which of two members beats the other. Members are known by their places, which count from 0.
+/// Which of two members beats the other. Members are given by their indexes.
 pub trait Contest {
-    // Whether the first member beats the second, as contracts say it.
+    // The test as a definition for contracts: whether the first member beats the second.
     ghost beats: { Self → ℕ → ℕ → Bool };
 
     /// Whether the first member beats the second.
@@ -19,18 +20,20 @@ pub trait Contest {
         ensures { result ≡ Self.beats self.now one other };
 }
 
-/// The places of two members that claim one path.
+/// The rivals that are reported for a path without an owner: two members that claim it.
 #[derive(Clone, Copy)]
 pub struct Rivals {
-    /// The first member that claims the path, by its place, counted from 0.
+    /// The index of the first member that claims the path.
     pub first: u32,
-    /// The first other member that the first one does not beat.
+    /// The index of the first other member that claims the path and that the first one does not
+    /// beat.
     pub second: u32,
 }
 
-/// The only one of the members that claim a path that can beat all others: each member that the
-/// current one does not beat replaces it.
+/// The only member that may beat all others. The pass begins with the member `first`, and goes
+/// through the members of the claims: each one that the current member does not beat replaces it.
 fn last_unbeaten_member<C: Contest>(contest: &C, first: u32, claims: &[Claim<'_>]) -> u32
+    // The result is the last current member of this pass.
     ensures { result ≡ last_unbeaten_member (C.beats contest.now) first (map
         (λ c. c.member) claims.now) }
 {
@@ -43,7 +46,7 @@ fn last_unbeaten_member<C: Contest>(contest: &C, first: u32, claims: &[Claim<'_>
     left
 }
 
-/// Whether a member beats each other one of those that claim a path.
+/// Whether the member `one` beats each other member of the claims, which are those of one path.
 fn is_winner<C: Contest>(contest: &C, one: u32, claims: &[Claim<'_>]) -> bool
     ensures { result ≡ beats_each (C.beats contest.now) (map (λ c. c.member) claims.now) one }
 {
@@ -55,7 +58,7 @@ fn is_winner<C: Contest>(contest: &C, one: u32, claims: &[Claim<'_>]) -> bool
     true
 }
 
-/// Whether two members are one, or the first beats the second.
+/// Whether the two members are the same, or the first beats the second.
 fn is_same_or_beaten<C: Contest>(contest: &C, one: u32, other: u32) -> bool
     ensures { result ≡ ((one == other) || C.beats contest.now one other) }
 {
@@ -65,16 +68,17 @@ fn is_same_or_beaten<C: Contest>(contest: &C, one: u32, other: u32) -> bool
     contest.beats(one, other)
 }
 
-/// The member that beats every other one that claims a path, if there is one. The contest is asked
-/// at most twice for each claim.
+/// The member that beats every other member of the claims, if there is one. The claims are those of
+/// one path. The contest is asked at most twice for each claim.
 pub(crate) fn winner<C: Contest>(contest: &C, claims: &[Claim<'_>]) -> Option<u32>
-    // No two members beat each other: so only one can be left over.
+    // No two members beat each other, so only the last unbeaten member can beat all others.
     requires { IsAsymmetric (C.beats contest.now) }
     ensures { result ≡ winner (C.beats contest.now) (map (λ c. c.member) claims.now) }
 {
     if claims.is_empty() {
         return None;
     }
+    // One pass finds the only possible member, and a second one tests it.
     let left = last_unbeaten_member(contest, claims[0].member, &claims[1..]);
     if is_winner(contest, left, claims) {
         Some(left)
@@ -83,12 +87,13 @@ pub(crate) fn winner<C: Contest>(contest: &C, claims: &[Claim<'_>]) -> Option<u3
     }
 }
 
-/// The first of the members that claim a path, and the first other one that it does not beat; none
-/// if it beats all others.
+/// The member of the first claim, and the first other member of the claims that it does not beat.
+/// None if it beats all others, or without claims.
 pub(crate) fn first_with_unbeaten_rival<C: Contest>(
     contest: &C,
     claims: &[Claim<'_>],
 ) -> Option<Rivals>
+    // The result has these two members, or is None.
     ensures { result ≡ first_with_unbeaten_rival (C.beats contest.now) (map
         (λ c. c.member) claims.now) }
 {

@@ -1,10 +1,10 @@
 //! Who owns a path that several members list (apk-package(5), "replaces").
 //!
-//! A claim is a file that a member lists. `owners_of` sorts claims by their paths, and finds for
-//! each path the member that beats every other one that claims it. A `Contest` says which member
-//! beats which. The contracts cite `Contest` and `Claims` of `specs/`.
-//! The rules are in `docs/commands.md`, "Files that several packages list"; the terms in
-//! `docs/names.md`, "The installed database and a change of it".
+//! A claim is an entry for a file in a member. `owners_of` sorts claims by their paths, and finds
+//! for each path the member that beats every other member that claims it. A `Contest` says which
+//! member beats which. The contracts cite `Contest` and `Claims` of `specs/`. The rules are in
+//! `docs/commands.md`, "Files that several packages list"; the terms in `docs/names.md`, "The
+//! installed database and a change of it".
 #![tactic(auto)]
 
 mod claim;

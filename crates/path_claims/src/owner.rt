@@ -1,6 +1,6 @@
-//! The owner of each path, and which claims are their owner's.
-//! The rule is in `docs/commands.md`, "Files that several packages list"; it also says which path
-//! is reported if no member owns it.
+//! `owners_of`, which finds the owner of each path that members claim, and the first contested
+//! path. The rule is in `docs/commands.md`, "Files that several packages list"; it also says which
+//! path is reported if no member owns it.
 
 ghost use Rattle.std.specs.Prelude.{◌≡◌, ◌+◌, ◌<◌, ℕ, Bool, Option, Some, true, IfOk, is_none, length, map, option_and_then, option_map, slice_get, ◌==◌, List};
 ghost use Rattle.std.specs.List.Sorted.{IsSorted};
@@ -17,59 +17,63 @@ use crate::contest::{Contest, Rivals, first_with_unbeaten_rival, winner};
 use adb_fields::FilePath;
 use std::alloc::{AllocError, Global};
 
-/// A path that no member owns, with its rivals.
+/// A contested path, which no member owns, with its rivals.
 #[derive(Clone, Copy)]
 pub struct Contested<'a> {
-    /// The path.
+    /// The path that no member owns.
     pub path: FilePath<'a>,
     /// The first member that claims the path, and the first other one that this one does not beat.
     pub rivals: Rivals,
 }
 
-/// Claims in the order of their paths, and the owners of these.
+/// The result of `owners_of`: the claims in byte order of their paths, and the owners of the paths.
 #[derive(Drop)]
 pub struct Owners<'a> {
-    /// The claims in the order of their paths. Those of one path are in the order of the list of
-    /// all.
+    /// The claims in byte order of their paths. Those of the same path are in the order of the
+    /// given list of all claims.
     pub claims: Vec<Claim<'a>>,
-    /// For each of these claims the place of the member that owns its path, if one does.
+    /// For each of these claims, the index of the member that owns its path, or None if no member
+    /// does.
     pub owners: Vec<Option<u32>>,
-    /// For each claim in the list of all, whether its member owns its path.
+    /// For each claim, in the order of the given list of all claims, whether its member owns its
+    /// path.
     pub owned: Vec<bool>,
-    /// The first path in byte order that no member owns, with its rivals; none if each path has an
+    /// The first path in byte order that no member owns, with its rivals. None if each path has an
     /// owner.
     pub contested: Option<Contested<'a>>,
 }
 
-/// The owner of a claim's path, given the owner of the path of the claim before it (`before`).
+/// The owner of the path of the claim with the index `i`. `before` is the owner of the path of the
+/// claim before it.
 fn owner_at<C: Contest>(
     contest: &C,
     claims: &[Claim<'_>],
     i: usize,
     before: Option<u32>,
 ) -> Option<u32>
-    // The place is that of a claim.
+    // The index is that of one of the claims.
     requires at { i < length claims.now }
     // Of two members, at most one beats the other.
     requires one_way { IsAsymmetric (C.beats contest.now) }
-    // The claims are in the order of their paths.
+    // The claims are in byte order of their paths.
     requires sorted { IsSorted claim_cmp (map claim_seen claims.now) }
     // `before` is the owner of the path of the claim before this one, if there is such a claim.
     requires before { (j : ℕ) (c : PathClaim) → j + 1 ≡ i
         → slice_get (map claim_seen claims.now) j ≡ Some c
         → before ≡ owner_among (C.beats contest.now) (map claim_seen claims.now) c.path }
-    // The result is the owner of the claim's path, or none.
+    // The result is the index of the member that owns the claim's path, or None.
     ensures { (c : PathClaim) → slice_get (map claim_seen claims.now) i ≡ Some c
         → result ≡ owner_among (C.beats contest.now) (map claim_seen claims.now) c.path }
 {
-    // Claims of one path are adjacent, so the owner is that of the claim before.
+    // Claims of one path are adjacent, so a claim that is not the first of its path has the owner
+    // of the claim before it.
     if !begins_path(claims, i) {
         return before;
     }
     winner(contest, run_at(claims, i))
 }
 
-/// For each claim, in the order of paths, the owner of its path, if there is one.
+/// For each claim, in the same order, the index of the member that owns its path, or None.
 fn owners_in_order<C: Contest>(
     alloc: Global,
     contest: &C,
@@ -77,8 +81,9 @@ fn owners_in_order<C: Contest>(
 ) -> Result<Vec<Option<u32>>, AllocError>
     // Of two members, at most one beats the other.
     requires one_way { IsAsymmetric (C.beats contest.now) }
-    // The claims are in the order of their paths.
+    // The claims are in byte order of their paths.
     requires sorted { IsSorted claim_cmp (map claim_seen claims.now) }
+    // On Ok, the result has the owner of the path of each claim.
     ensures { IfOk result (λ owners. owners.items
         ≡ map (λ c. owner_among (C.beats contest.now) (map claim_seen claims.now) c.path)
         (map claim_seen claims.now)) }
@@ -92,7 +97,7 @@ fn owners_in_order<C: Contest>(
     Ok(owners)
 }
 
-/// Whether a member is the owner, if there is one.
+/// Whether there is an owner, and it is this member.
 fn is_owning_member(member: u32, owner: Option<u32>) -> bool
     ensures { result ≡ is_owning_member member owner }
 {
@@ -102,18 +107,20 @@ fn is_owning_member(member: u32, owner: Option<u32>) -> bool
     }
 }
 
-/// Sets the flag of each claim, by its number: whether its member owns its path.
+/// Sets, for each claim, the flag at the index that is the claim's number: whether its member owns
+/// its path. `owners` has the owner of the path of each claim.
 fn mark_owned(flags: &mut [bool], claims: &[Claim<'_>], owners: &[Option<u32>])
-    // There is one entry of `owners` for each claim.
+    // `owners` has one entry for each claim.
     requires owners { length owners.now ≡ length claims.now }
-    // There is a flag for the number of each claim.
+    // The number of each claim is the index of a flag.
     requires flags { (j : ℕ) (c : PathClaim) → slice_get (map claim_seen claims.now) j ≡ Some c
         → c.number < length flags.old }
-    // Each number belongs to one claim, so it gets one flag.
+    // Claims with the same number get the same flag.
     requires same { (j k : ℕ) (c d : PathClaim) (o p : Option ℕ)
         → slice_get (map claim_seen claims.now) j ≡ Some c → slice_get owners.now j ≡ Some o
         → slice_get (map claim_seen claims.now) k ≡ Some d → slice_get owners.now k ≡ Some p
         → c.number ≡ d.number → is_owning_member c.member o ≡ is_owning_member d.member p }
+    // The number of flags does not change.
     ensures len { length flags.new ≡ length flags.old }
     // The flag of each claim says whether its member owns its path.
     ensures marked { (j : ℕ) (c : PathClaim) (o : Option ℕ)
@@ -125,19 +132,20 @@ fn mark_owned(flags: &mut [bool], claims: &[Claim<'_>], owners: &[Option<u32>])
     }
 }
 
-/// The path of a claim, which is the first of its path, with the path's rivals; none if the first
-/// member beats all others.
+/// The path of the claim with the index `i`, with its rivals: the first member that claims the
+/// path, and the first other one that it does not beat. None if the first member beats all others.
 fn contested_from<'a, C: Contest>(
     contest: &C,
     claims: &[Claim<'a>],
     i: usize,
 ) -> Option<Contested<'a>>
-    // The place is that of a claim.
+    // The index is that of one of the claims.
     requires at { i < length claims.now }
-    // The claims are in the order of their paths.
+    // The claims are in byte order of their paths.
     requires sorted { IsSorted claim_cmp (map claim_seen claims.now) }
     // No earlier claim has the same path.
     requires first { is_first_of_path (map claim_seen claims.now) i ≡ true }
+    // The result has the path of this claim, and its rivals.
     ensures { (c : PathClaim) → slice_get (map claim_seen claims.now) i ≡ Some c
         → option_map contested_seen result
         ≡ contested_path_at (C.beats contest.now) (map claim_seen claims.now) c.path }
@@ -151,18 +159,20 @@ fn contested_from<'a, C: Contest>(
     }
 }
 
-/// The first path in byte order that no member owns, with its rivals.
+/// The first path in byte order that no member owns, with its rivals. `owners` has the owner of the
+/// path of each claim.
 fn first_contested<'a, C: Contest>(
     contest: &C,
     claims: &[Claim<'a>],
     owners: &[Option<u32>],
 ) -> Option<Contested<'a>>
-    // The claims are in the order of their paths.
+    // The claims are in byte order of their paths.
     requires sorted { IsSorted claim_cmp (map claim_seen claims.now) }
     // `owners` has the owner of each claim's path.
     requires owners { owners.now
         ≡ map (λ c. owner_among (C.beats contest.now) (map claim_seen claims.now) c.path)
         (map claim_seen claims.now) }
+    // The result is the first path, in the order of the claims, that has no owner, with its rivals.
     ensures { option_map contested_seen result
         ≡ option_and_then (contested_path_at (C.beats contest.now) (map claim_seen claims.now))
         (find
@@ -177,23 +187,24 @@ fn first_contested<'a, C: Contest>(
     None
 }
 
-/// The flags of claims by their numbers: whether the claim's member owns its path.
+/// For each claim, whether its member owns its path; the index of a flag is the number of the
+/// claim. `owners` has the owner of the path of each claim.
 fn owned_flags(
     alloc: Global,
     claims: &[Claim<'_>],
     owners: &[Option<u32>],
 ) -> Result<Vec<bool>, AllocError>
-    // There is one entry of `owners` for each claim.
+    // `owners` has one entry for each claim.
     requires owners { length owners.now ≡ length claims.now }
     // The number of each claim is below the number of claims.
     requires numbers { (j : ℕ) (c : PathClaim) → slice_get (map claim_seen claims.now) j ≡ Some c
         → c.number < length claims.now }
-    // Claims of one number have the same flag.
+    // Claims with the same number have the same flag.
     requires same { (j k : ℕ) (c d : PathClaim) (o p : Option ℕ)
         → slice_get (map claim_seen claims.now) j ≡ Some c → slice_get owners.now j ≡ Some o
         → slice_get (map claim_seen claims.now) k ≡ Some d → slice_get owners.now k ≡ Some p
         → c.number ≡ d.number → is_owning_member c.member o ≡ is_owning_member d.member p }
-    // There is one flag for each claim.
+    // There are as many flags as claims.
     ensures len { IfOk result (λ flags. length flags.items ≡ length claims.now) }
     // The flag of each claim says whether its member owns its path.
     ensures marked { IfOk result (λ flags. (j : ℕ) (c : PathClaim) (o : Option ℕ)
@@ -206,13 +217,12 @@ fn owned_flags(
     Ok(flags)
 }
 
-/// Finds the owners of the paths that members claim. It takes a few words for each claim, and
-/// compares as a sort does. The contest is asked at most twice for each claim, and not at all for a
-/// path with one claim.
+/// Finds the owners of the paths that members claim, by sorting the claims. The contest is asked at
+/// most twice for each claim, and not at all for a path with one claim.
 ///
 /// # Errors
 ///
-/// Out of memory.
+/// The program is out of memory.
 pub fn owners_of<'a, C: Contest>(
     alloc: Global,
     contest: &C,
@@ -220,20 +230,23 @@ pub fn owners_of<'a, C: Contest>(
 ) -> Result<Owners<'a>, AllocError>
     // Of two members, at most one beats the other.
     requires one_way { IsAsymmetric (C.beats contest.now) }
-    // The number of each claim is its place in the list.
+    // The number of each claim is its index in the list.
     requires numbered { AreNumberedByPlace (map claim_seen claims.items) }
-    // The claims in the order of their paths; those of one path keep their order.
+    // On Ok, `claims` has the claims in byte order of their paths; those of the same path keep
+    // their order.
     ensures claims { IfOk result (λ found. map claim_seen found.claims.items
         ≡ sorted_by claim_cmp (map claim_seen claims.entry.items)) }
-    // For each of these the place of the member that owns its path, or none.
+    // On Ok, `owners` has, for each of these claims, the index of the member that owns its path, or
+    // None.
     ensures owners { IfOk result (λ found. found.owners.items
         ≡ map (λ c. owner_among (C.beats contest.now) (map claim_seen claims.entry.items) c.path)
         (map claim_seen found.claims.items)) }
-    // For each claim, in the order of the call's claims, whether its member owns its path.
+    // On Ok, `owned` says of each claim, in the order of the given list, whether its member owns
+    // its path.
     ensures owned { IfOk result (λ found. found.owned.items
         ≡ map (is_claim_of_owner (C.beats contest.now) (map claim_seen claims.entry.items))
         (map claim_seen claims.entry.items)) }
-    // The first path in byte order that no member owns, with its rivals.
+    // On Ok, `contested` is the first path in byte order that no member owns, with its rivals.
     ensures contested { IfOk result (λ found. option_map contested_seen found.contested
         ≡ first_contested_path (C.beats contest.now) (map claim_seen claims.entry.items)) }
 {
@@ -250,8 +263,8 @@ pub fn owners_of<'a, C: Contest>(
     })
 }
 
-/// Two members that claim a path, each of which beats every other one, are the same member: so no
-/// path has two owners.
+/// A law: no path has two owners. If x and y are among the members, and each of them beats every
+/// other member, they are the same member.
 pub fn a_path_has_one_owner()
     ensures { (beats : ℕ → ℕ → Bool) (members : List ℕ) (x y : ℕ) → IsAsymmetric beats
         → list_any (λ z. x == z) members ≡ true → list_any (λ z. y == z) members ≡ true

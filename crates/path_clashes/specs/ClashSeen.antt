@@ -1,4 +1,4 @@
--- What a clash of the program denotes.
+-- A clash of the program as contracts see it.
 -- No document has a rule for this: it serves the contracts of `src/clash.rt`.
 use Rattle.path_clashes.specs.Clash.{NamePair}
 use Rattle.path_clashes.specs.declared.clash.Clash.{Clash}

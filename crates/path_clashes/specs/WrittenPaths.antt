@@ -1,4 +1,4 @@
--- A change of names that is given by the paths that it writes.
+-- A change of names, given by the list of the paths that it writes.
 -- No document has a rule for this: it serves the contract of `first_clash`, whose paths have their
 -- folders and names apart.
 use Rattle.std.specs.Prelude.{ℕ, Bool, List, map, bytes_eq}
@@ -11,7 +11,8 @@ use Rattle.path_clashes.specs.Clash.{NameChange}
 abbrev pub is_one_of_paths : List FilePath → List ℕ → Bool
 is_one_of_paths paths name = list_any (bytes_eq name) (map joined_path paths)
 
--- the change of names by which exactly these paths count as written
+-- the change of names by which exactly the paths `written` count as written, and `does_release` says which names are
+-- released
 abbrev pub name_change_of_paths : List FilePath → (List ℕ → Bool) → NameChange
 name_change_of_paths written does_release =
     record { counts_as_written = is_one_of_paths written; does_release = does_release }

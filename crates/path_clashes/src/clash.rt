@@ -1,4 +1,5 @@
-//! The first clash of a change, which says under which names it removes a file.
+//! `first_clash`, which finds the first clash of a change, given the paths that it writes and which
+//! names it releases. `plan` of `own_core` calls it.
 //! The rule is in `docs/commands.md`, "What a change does with files", test 2: "No name may be a
 //! folder of another one afterwards", and the first pair in byte order is reported.
 
@@ -22,17 +23,17 @@ use adb_fields::FilePath;
 use base_core::{Name, Tree, TreeFault};
 use std::alloc::{AllocError, Global};
 
-/// Two names after a change, of which the first is a folder of the second.
+/// A clash: two names after a change, of which the first would be a folder of the second.
 #[derive(Drop)]
 pub struct Clash {
-    /// The name that is a folder of the other.
+    /// The name that would be a folder of the other name.
     pub path: Name,
-    /// The name that is below it.
+    /// The name that would be below the first one.
     pub other: Name,
 }
 
-/// Whether the first of two clashes is before the second: by its first name, and at equal ones by
-/// its second.
+/// Whether the first clash precedes the second: in the byte order of their first names, or, if
+/// these are equal, in that of their second names.
 fn comes_before(one: &Clash, other: &Clash) -> bool
     ensures { result ≡ precedes_pair (clash_seen one.now) (clash_seen other.now) }
 {
@@ -41,8 +42,9 @@ fn comes_before(one: &Clash, other: &Clash) -> bool
     by_path.then(by_other).is_lt()
 }
 
-/// The first of two optional clashes; if one is absent, the other one.
+/// The earlier of two optional clashes. If one of them is absent, it is the other one.
 fn first_of(one: Option<Clash>, other: Option<Clash>) -> Option<Clash>
+    // The result is the earlier of the two clashes.
     ensures { option_map clash_seen result
         ≡ earlier_pair (option_map clash_seen one) (option_map clash_seen other) }
 {
@@ -59,11 +61,12 @@ fn first_of(one: Option<Clash>, other: Option<Clash>) -> Option<Clash>
     }
 }
 
-/// The bytes of a path, whose folder and name are joined by `/`; the root's name is empty.
+/// The bytes of a path: its folder and its name, joined by `/`, or the name alone if the folder is
+/// empty.
 ///
 /// # Errors
 ///
-/// Out of memory.
+/// The program is out of memory.
 pub fn path_bytes(alloc: Global, path: &FilePath<'_>) -> Result<Vec<u8>, AllocError>
     ensures { IfOk result (λ bytes. bytes.items ≡ joined_path path.now) }
 {
@@ -78,11 +81,14 @@ pub fn path_bytes(alloc: Global, path: &FilePath<'_>) -> Result<Vec<u8>, AllocEr
 
 /// The length of the longest common prefix of two texts.
 fn common_len(one: &[u8], other: &[u8]) -> usize
+    // The result is at most the length of the first text.
     ensures one { result ≤ length one.now }
+    // The result is at most the length of the second text.
     ensures other { result ≤ length other.now }
+    // The first bytes of both texts, as many as the result says, are equal.
     ensures same { take result one.now ≡ take result other.now }
-    // A folder above both texts is shorter than their common prefix, since both have the `/` after
-    // it.
+    // A folder above both texts is shorter than their common prefix, since this also has the `/`
+    // after the folder.
     ensures folders { (folder : List ℕ) → IsFolderOf folder one.now
         → IsFolderOf folder other.now → length folder < result }
 {
@@ -93,9 +99,9 @@ fn common_len(one: &[u8], other: &[u8]) -> usize
     len
 }
 
-/// The first clash of a written path (`bytes`) with the names above it and below it. Folders that
-/// it shares with the path before it (`before`) were searched then and are skipped; an equal path
-/// needs no search.
+/// The first clash of one written path, `bytes`, with a folder above it or a name below it.
+/// `written` are all written paths, and `before` is the one before this path, or empty. Folders
+/// above both were searched with `before` and are skipped; if both are equal, nothing is searched.
 fn clash_near<T: Tree, G: IsReleased>(
     alloc: Global,
     tree: &mut T,
@@ -104,17 +110,19 @@ fn clash_near<T: Tree, G: IsReleased>(
     before: &[u8],
     bytes: &[u8],
 ) -> Result<Option<Clash>, TreeFault>
-    // The paths are in byte order.
+    // The written paths are in byte order.
     requires sorted { IsSorted bytes_cmp (map joined_path written.now) }
-    // Each path is a name.
+    // Each written path is a name of a tree.
     requires names { All IsName (map joined_path written.now) }
-    // The name is one of the written paths.
+    // `bytes` is one of the written paths.
     requires written { is_one_of_paths written.now bytes.now ≡ true }
-    // If the tree is observable, the result is the one for its files.
+    // If the tree is observable, the result is the first clash near this path over the tree's
+    // files.
     ensures near { IfOk result (λ found. IfObservable (T.history tree.old) (λ v.
         IsClashNear (name_change_of_paths written.now (G.does_release let_go.now)) (files_of v)
         before.now bytes.now (option_map clash_seen found))) }
-    // Over any tree, even an unobservable one, the result may be the one for some files.
+    // Over any tree, even one that is not observable, the result is a clash over some files. No
+    // clash of the written names alone with a folder above this path precedes it.
     ensures may { IfOk result (λ found. MayBeClashNear
         (name_change_of_paths written.now (G.does_release let_go.now))
         before.now bytes.now (option_map clash_seen found)) }
@@ -122,11 +130,12 @@ fn clash_near<T: Tree, G: IsReleased>(
     ensures tree { OnlyReads TreeFault.Disk (T.history tree.old) (T.history tree.new)
         (T.counts tree.old) (T.counts tree.new) result }
 {
-    // All clashes of this name were searched for with the path before it.
+    // The path is the same as the one before it, with which all its clashes were searched.
     if before == bytes {
         return Ok(None);
     }
     let name = Name::of(alloc, bytes)?;
+    // A folder of at least this length is not above `before`, so it was not searched yet.
     let len = common_len(before, bytes);
     if let Some(path) = first_folder(alloc, tree, written, let_go, bytes, len)? {
         return Ok(Some(Clash { path, other: name }));
@@ -137,32 +146,32 @@ fn clash_near<T: Tree, G: IsReleased>(
     }
 }
 
-/// The first clash of a change that writes these paths, or None if there is none. The paths are in
-/// byte order, and may be repeated. It only reads the tree.
+/// The first clash of a change that writes the paths `written`, or None if there is none. `let_go`
+/// says which names the change releases. The paths are in byte order, and may be repeated.
 ///
 /// The tree is asked for the names below each path, and at most once for each folder above them.
 /// So the calls grow with the paths, and not with the files of the tree.
 ///
 /// # Errors
 ///
-/// `Disk` if the tree failed, `Memory` if out of memory.
+/// `Disk` if a call on the tree failed, `Memory` if the program is out of memory.
 pub fn first_clash<T: Tree, G: IsReleased>(
     alloc: Global,
     tree: &mut T,
     written: &[FilePath<'_>],
     let_go: &G,
 ) -> Result<Option<Clash>, TreeFault>
-    // The paths are in byte order.
+    // The written paths are in byte order.
     requires sorted { IsSorted bytes_cmp (map joined_path written.now) }
-    // Each path is a name.
+    // Each written path is a name of a tree.
     requires names { All IsName (map joined_path written.now) }
-    // If the tree is observable, the result is the first clash over its files, or none.
+    // If the tree is observable, the result is the first clash over the tree's files, or None.
     ensures first { IfOk result (λ found. IfObservable (T.history tree.old) (λ v.
         IsFirstClashOrNone (name_change_of_paths written.now (G.does_release let_go.now))
         (files_of v)
         (option_map clash_seen found))) }
-    // Over any tree, even an unobservable one, the result is right for some files: it is the first
-    // clash, or there is none.
+    // Over any tree, even one that is not observable, the result is the first clash over some
+    // files, or None.
     ensures may { IfOk result (λ found. IsFirstClashOverSomeFiles
         (name_change_of_paths written.now (G.does_release let_go.now))
         (option_map clash_seen found)) }
@@ -181,25 +190,25 @@ pub fn first_clash<T: Tree, G: IsReleased>(
     Ok(first)
 }
 
-/// Which files a change removes, by their names.
+/// Which names a change releases, that is, under which names it removes the file.
 pub trait IsReleased {
-    // Whether a file under a name is removed, as contracts say it.
+    // The test as a definition for contracts: whether the change releases a name.
     ghost does_release: { Self → List ℕ → Bool };
 
-    /// Whether a file under this name is removed.
+    /// Whether the change releases this name: the file under it is removed.
     fn does_release(&self, name: &[u8]) -> bool
         ensures { result ≡ Self.does_release self.now name.now };
 }
 
-/// If a change has no clash, no name that is present after it is a folder of another: so a file
-/// system can have the files after it.
+/// A law: if a change has no clash, no name that is present after the change is a folder of another
+/// one. So a file system can have the files after the change.
 pub fn files_without_a_clash_have_no_file_as_folder()
-    // For the files after a change.
+    // This holds of files `after` that have only names which are present after the change.
     ensures files { (change : NameChange) (files after : Files) → HasNoFileAsFolder files
         → HasNoClash change files
         → ((name : List ℕ) → IsSome (after name) → is_present_after_change change files name ≡ true)
         → HasNoFileAsFolder after }
-    // For a map of the names after a change.
+    // The same holds of a map of names.
     ensures names { (change : NameChange) (files : Files) (after : NameMap)
         → HasNoFileAsFolder files
         → HasNoClash change files
@@ -207,15 +216,16 @@ pub fn files_without_a_clash_have_no_file_as_folder()
         → HasNoFileAsFolder after }
 {}
 
-/// A change has one first clash, or none: so the refusal is a function of the change and the files.
+/// A law: two results of a search for the first clash, for the same change and files, are equal. So
+/// the refusal is determined by the change and the files.
 pub fn a_change_has_one_first_clash()
     ensures { (change : NameChange) (files : Files) (one other : Option NamePair)
         → IsFirstClashOrNone change files one → IsFirstClashOrNone change files other → one
         ≡ other }
 {}
 
-/// Changes that agree on each name have the same first clash: so names may be given as lists or by
-/// claims.
+/// A law: two changes that agree on each name have the same first clash. So the names of a change
+/// may be given by a list or by a test.
 pub fn changes_that_agree_clash_alike()
     ensures { (one other : NameChange) (files : Files) (found : Option NamePair)
         → ((name : List ℕ) → one.counts_as_written name ≡ other.counts_as_written name)

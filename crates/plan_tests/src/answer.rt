@@ -1,5 +1,5 @@
-//! Plans of what a change of packages does with files, as text. `tests/lines.md` describes this
-//! text under `plan`.
+//! The text of a plan of files, and of the fault if a change has no plan, in answers.
+//! `tests/lines.md` describes this text under `plan`.
 
 use base_core::{Name, Names};
 use db_core::Owned;
@@ -7,10 +7,10 @@ use own_core::{FilePlan, PlanFault, Write, Writes};
 use row_lines::{add_number, add_word};
 use std::alloc::{AllocError, Global};
 
-/// Adds a plan: `-NAME` for each name that is removed, and `+NAME:MEMBER.FOLDER.FILE` for each that
-/// is written; `~NAME` for each path beside which a file is written, and `=NAME` for each that is
-/// kept. Then `owned:` has for each file that the packages list `1` if its package owns it, else
-/// `0`.
+/// Adds the text of a plan: `-NAME` for each removed name, `+NAME:MEMBER.FOLDER.FILE` for each
+/// written name, `~PATH` for each path beside which a file is written aside, and `=PATH` for each
+/// path at which the user's file is kept. After `owned:`, each listed file has `1` if its package
+/// owns it, else `0`.
 pub(crate) fn add_files(
     alloc: Global,
     plan: &FilePlan,
@@ -23,7 +23,7 @@ pub(crate) fn add_files(
     add_flags(plan.owned(), answer)
 }
 
-/// Adds each name, with a prefix that says what the plan does with it.
+/// Adds each name, after a prefix that says what the plan does with the name.
 fn add_names(prefix: &[u8], names: &Names, answer: &mut Vec<u8>) -> Result<(), AllocError> {
     for i in 0..names.len() {
         add_prefixed(prefix, names.get(i), answer)?;
@@ -31,13 +31,13 @@ fn add_names(prefix: &[u8], names: &Names, answer: &mut Vec<u8>) -> Result<(), A
     Ok(())
 }
 
-/// Adds a name with its prefix.
+/// Adds a name as a further word of the answer, with the prefix before it.
 fn add_prefixed(prefix: &[u8], name: &Name, answer: &mut Vec<u8>) -> Result<(), AllocError> {
     add_word(answer, prefix)?;
     answer.extend_from_slice(name.as_bytes())
 }
 
-/// Adds each file that the plan writes.
+/// Adds the text of each write of a plan.
 fn add_writes(alloc: Global, writes: &Writes, answer: &mut Vec<u8>) -> Result<(), AllocError> {
     for i in 0..writes.len() {
         add_write(alloc, writes.get(i), answer)?;
@@ -45,8 +45,8 @@ fn add_writes(alloc: Global, writes: &Writes, answer: &mut Vec<u8>) -> Result<()
     Ok(())
 }
 
-/// Adds a file that the plan writes: its name, and the numbers of its package, its folder and
-/// itself.
+/// Adds the text of a write: the name, the index of the member, and the positions of the folder and
+/// of the file in it.
 fn add_write(alloc: Global, write: &Write, answer: &mut Vec<u8>) -> Result<(), AllocError> {
     add_prefixed(b"+", &write.name, answer)?;
     answer.push(b':')?;
@@ -66,7 +66,7 @@ fn add_flags(owned: &Owned, answer: &mut Vec<u8>) -> Result<(), AllocError> {
     Ok(())
 }
 
-/// Adds the reason why the change has no plan.
+/// Adds the text of the fault by which a change has no plan. Out of memory gives no text.
 pub(crate) fn add_fault(fault: PlanFault, answer: &mut Vec<u8>) -> Result<(), AllocError> {
     match fault {
         PlanFault::Reserved { path } => add_prefixed(b"reserved ", &path, answer),

@@ -1,5 +1,5 @@
-//! Changes of packages, from the words of rows, and the plans of their files. `tests/lines.md`
-//! describes how a row writes a package; the rules of plans are in `docs/commands.md`, "What a
+//! Changes of packages, which are described by rows, and the plans of their files. `tests/lines.md`
+//! describes how a row gives a package; the rules of plans are in `docs/commands.md`, "What a
 //! change does with files".
 use crate::answer::{add_fault, add_files};
 use crate::package::{database_file, package_file};
@@ -27,8 +27,8 @@ pub struct ToldChange {
     pub purge: bool,
 }
 
-/// Adds the plan of a change, or why it has none. Returns the file of the database after the
-/// change, with no bytes if there is no plan.
+/// Adds to the answer the plan of a change, or why it has none. Returns the file of the database
+/// after the change, which is empty if there is no plan.
 pub(crate) fn add_plan(
     alloc: Global,
     tree: &mut MemoryTree,
@@ -40,8 +40,8 @@ pub(crate) fn add_plan(
     add_plan_over(alloc, tree, change, &file, &fronts, answer)
 }
 
-/// Adds the plan for the installed database in `file` and the fronts (headers and first blocks) of
-/// the added packages.
+/// Does what `add_plan` does, given the file of the database before the change, and the fronts
+/// (headers and first blocks) of the added packages.
 fn add_plan_over<'a>(
     alloc: Global,
     tree: &mut MemoryTree,
@@ -60,8 +60,8 @@ fn add_plan_over<'a>(
     }
 }
 
-/// Adds the plan for the installed database `db`. Returns the file of the database after the
-/// change, with no bytes if there is no plan.
+/// Does what `add_plan` does, given the database before the change, and the fronts (headers and
+/// first blocks) of the added packages.
 fn add_plan_of<'a>(
     alloc: Global,
     tree: &mut MemoryTree,
@@ -86,7 +86,8 @@ fn add_plan_of<'a>(
     }
 }
 
-/// The file of the database after a change; no bytes if it cannot be written.
+/// The file of the database of these members, or no bytes if it cannot be written. `owned` says for
+/// each listed file whether its package owns it.
 fn database_after(
     alloc: Global,
     members: &Members<'_>,
@@ -105,7 +106,8 @@ fn is_package_kept(row: &Words) -> bool {
     word_at(row, 0) == b"stays".as_slice()
 }
 
-/// The fronts (headers and first blocks) of the added packages; a bad package has none.
+/// The fronts (headers and first blocks) of the added packages among those that these rows
+/// describe. A package that fails a test has no front.
 fn fronts_of(alloc: Global, rows: &[Words]) -> Result<Vec<Front>, AllocError> {
     let mut fronts = Vec::new(alloc);
     for row in rows {
@@ -121,8 +123,8 @@ fn fronts_of(alloc: Global, rows: &[Words]) -> Result<Vec<Front>, AllocError> {
 
 // ---- the packages after the change
 
-/// The packages after a change, of which the added ones have these fronts. None if a package is
-/// bad, absent or not in the order of names.
+/// The members that these rows describe: packages of the database, and added packages, which have
+/// these fronts. None if a package is bad, absent or not in the order of names.
 fn members_of<'a>(
     alloc: Global,
     db: &'a Db<'a>,
@@ -144,11 +146,11 @@ fn members_of<'a>(
     Ok(Some(members))
 }
 
-/// Adds the installed package with this name to the packages after the change. False if there is
-/// none, or it is not in the order of names.
+/// Adds the installed package with this name to the members. Returns false if there is no such
+/// package, or if it is not in the order of names.
 fn add_named<'a>(members: &mut Members<'a>, db: &Db<'a>, name: &[u8]) -> Result<bool, AllocError> {
     for i in 0..db.len() {
-        // `PhantomData` serves the borrow checker alone.
+        // The argument `PhantomData` serves only the borrow checker.
         if name_at(db, i, PhantomData) == name {
             return add_installed(members, i);
         }
@@ -156,8 +158,8 @@ fn add_named<'a>(members: &mut Members<'a>, db: &Db<'a>, name: &[u8]) -> Result<
     Ok(false)
 }
 
-/// Adds the added package with this front to the packages after the change. False if there is no
-/// front, or the package is bad or not in the order of names.
+/// Adds the package with this front to the members, as an added one. Returns false if there is no
+/// front, or if the package is bad or not in the order of names.
 fn add_next<'a>(
     alloc: Global,
     members: &mut Members<'a>,

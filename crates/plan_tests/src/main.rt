@@ -1,6 +1,6 @@
-//! Answers questions to `own_core`: what a change of packages does with files. Its
-//! stored run has all rows; `tests/lines.md` describes their form, and the README of this crate has
-//! a row for each question. The tree and the packages stay from one row to the next.
+//! Tests of `own_core`: what a change of packages does with files. The rows are in the stored run
+//! of this crate; `tests/lines.md` describes their form, and the README of this crate has a row for
+//! each question. The tree and the packages are kept from one row to the next.
 #![tactic(auto)]
 
 mod answer;
@@ -26,8 +26,8 @@ enum Question {
     New,
     /// `installed NAME VERSION PRIORITY FILES REPLACES ..`: a package before the change.
     Installed,
-    /// A package after the change, kept or added: `stays NAME`,
-    /// `comes NAME VERSION PRIORITY FILES REPLACES ..`.
+    /// A package after the change: `stays NAME` for a kept one, and
+    /// `comes NAME VERSION PRIORITY FILES REPLACES ..` for an added one.
     PackageAfter,
     /// `file PATH BYTES`: a file is put into the tree.
     File,
@@ -43,7 +43,7 @@ enum Question {
     Owner,
 }
 
-// The first word of each question.
+// The first word of the rows of each question.
 #[rattlefmt::skip]
 const QUESTIONS: [(&[u8], Question); 10] = [
     (b"new", Question::New),
@@ -72,7 +72,7 @@ struct Planned {
 }
 
 impl Planned {
-    /// No packages, an empty tree, and no plan so far.
+    /// The values before the first row: no packages, an empty tree, and no plan.
     fn new(alloc: Global) -> Planned {
         Planned {
             change: ToldChange {
@@ -86,8 +86,8 @@ impl Planned {
         }
     }
 
-    /// Adds the plan of the change, or why it has none. With `purge`, changed configuration files
-    /// are removed with their package.
+    /// Adds to the answer the plan of the change, or why it has none. With `purge`, configuration
+    /// files that the user changed are removed with their package.
     fn plan(&mut self, alloc: Global, purge: bool, answer: &mut Vec<u8>) -> Result<(), AllocError> {
         self.change.purge = purge;
         let calls_before = self.tree.calls();
@@ -96,7 +96,8 @@ impl Planned {
         Ok(())
     }
 
-    /// Answers `calls N`: adds whether the last plan made at most N calls on the tree.
+    /// Answers `calls N`: adds to the answer whether the last plan made at most N calls on the
+    /// tree.
     fn add_calls(&self, words: &Words, answer: &mut Vec<u8>) -> Result<(), AllocError> {
         let most = number_of(word_at(words, 1)).unwrap_or(0);
         add_yes_or_no(answer, u128::from(self.calls_of_plan) <= most)
@@ -104,8 +105,7 @@ impl Planned {
 }
 
 impl Subject for Planned {
-    /// Answers a question by its first word. Earlier rows describe the packages and files of a
-    /// plan.
+    /// Adds the answer to the row with these words, whose first word names the question.
     fn answer(
         &mut self,
         alloc: Global,
@@ -121,12 +121,12 @@ impl Subject for Planned {
                 Ok(())
             }
             Question::Installed => {
-                // All words of the row.
+                // The package is described by all words of the row.
                 self.change.before.push(words_behind(alloc, words, 0)?)?;
                 Ok(())
             }
             Question::PackageAfter => {
-                // All words of the row.
+                // The package is described by all words of the row.
                 self.change.after.push(words_behind(alloc, words, 0)?)?;
                 Ok(())
             }
@@ -142,7 +142,8 @@ impl Subject for Planned {
     }
 }
 
-/// Answers `file PATH BYTES`: puts a file into the tree, or adds why that is not allowed.
+/// Answers `file PATH BYTES`: puts a file with these bytes into the tree, or adds to the answer why
+/// this is not possible.
 fn put_file(
     alloc: Global,
     tree: &mut MemoryTree,
@@ -158,7 +159,7 @@ fn put_file(
     tree.put(&name, word_at(words, 2))
 }
 
-/// Answers `fail_at N`: lets the call number N from now on fail.
+/// Answers `fail_at N`: the call number N on the tree from now on, counted from 1, will fail.
 fn fail_at(alloc: Global, tree: &mut MemoryTree, words: &Words) -> Result<(), AllocError> {
     let number = number_of(word_at(words, 1)).unwrap_or(0);
     let call = u64::try_from(number).unwrap_or(0);
@@ -167,8 +168,8 @@ fn fail_at(alloc: Global, tree: &mut MemoryTree, words: &Words) -> Result<(), Al
     tree.fail_at(&calls)
 }
 
-/// Answers `owner PATH`: adds the name of the package that lists PATH in the database with these
-/// bytes.
+/// Answers `owner PATH`: adds to the answer the name of the package that lists PATH in the database
+/// whose file is `file`.
 fn add_owner(
     alloc: Global,
     file: &[u8],
@@ -188,7 +189,7 @@ fn add_owner(
     }
 }
 
-/// Answers the rows of standard input.
+/// Answers the rows of standard input, one after another.
 fn main(rt: HostRuntime) -> io::Result<ExitCode> {
     let alloc = rt.alloc();
     let mut planned = Planned::new(alloc);

@@ -1,6 +1,6 @@
-//! Containers of packages and of databases, from the words of rows. `tests/lines.md` describes how
-//! a row writes a package; the fields are in `docs/formats.md`, "Schemas". Fields count from 1
-//! there, and from 0 here.
+//! The containers of the packages and of the database that rows describe. `tests/lines.md`
+//! describes how a row gives a package; the fields are in `docs/formats.md`, "Schemas". Fields
+//! count from 1 there, and from 0 here.
 
 use adb_schema::{IDB_WORD, PACKAGE_WORD};
 use adb_view::Val;
@@ -14,29 +14,30 @@ use std::alloc::{AllocError, Global};
 /// The most bytes of a payload (`docs/formats.md`, "Canonical layout").
 const MOST_BYTES: usize = 268_435_455;
 
-/// How many fields of a package's information are written (table 3): those up to what the package
-/// replaces, which is the last.
+/// How many fields of a package's information are written (table 3): those up to `replaces`, which
+/// has the index 16 and is the last one.
 const INFO_FIELDS: usize = 17;
 
-/// How many fields of a file are written (table 4): those up to its target.
+/// How many fields of a file's entry are written (table 4): those up to the target.
 const FILE_FIELDS: usize = 6;
 
-/// The index of the size among the fields of a file, counted from 0.
+/// The index of the field `size` in a file's entry.
 const SIZE: usize = 2;
 
-/// The index of the digest among the fields of a file, counted from 0.
+/// The index of the field `hashes`, the digest, in a file's entry.
 const HASHES: usize = 4;
 
-/// The index of a link's target among the fields of a file, counted from 0.
+/// The index of the field `target` in a file's entry.
 const TARGET: usize = 5;
 
 /// The bytes before the text of a link's target (`docs/formats.md`, "The texts", field 406).
 const LINK: &[u8] = b"\x00\xa0";
 
-/// The marks that may follow a path; after one of them the row describes the file.
+/// The bytes one of which may follow a path in the list of files of a row. After it the row
+/// describes the file (`write_file`).
 const MARKS: &[u8] = b"=#:>";
 
-/// The container of the package that a row describes, without the contents of its files.
+/// The container of the package that the row describes, without the contents of its files.
 pub(crate) fn package_file(alloc: Global, row: &Words) -> Result<Vec<u8>, AllocError> {
     let mut writer = Writer::new(alloc);
     let root = write_package(alloc, &mut writer, row)?;
@@ -56,8 +57,8 @@ pub(crate) fn database_file(alloc: Global, rows: &[Words]) -> Result<Vec<u8>, Al
     container(alloc, writer, root, IDB_WORD)
 }
 
-/// The container with this root value and schema. A payload that is too large counts as out of
-/// memory.
+/// The container whose payload is that of `writer`, with the root value `root`. A payload that is
+/// too large counts as out of memory.
 fn container(alloc: Global, writer: Writer, root: Val, schema: u32) -> Result<Vec<u8>, AllocError> {
     let Ok(payload) = writer.finish(root) else {
         return Err(AllocError);
@@ -68,10 +69,12 @@ fn container(alloc: Global, writer: Writer, root: Val, schema: u32) -> Result<Ve
     file_of(alloc, schema, &payload)
 }
 
-/// Writes the package of `WORD NAME VERSION PRIORITY FILES REPLACES..`. Files have commas between
-/// them. What is replaced is `NAME:VERSION:MATCH`; the number says which versions match. The
-/// name is field 0 and the version field 1 of its information.
+/// Writes the package that a row `WORD NAME VERSION PRIORITY FILES REPLACES..` describes, and
+/// returns the word (32-bit reference) of its value. FILES has commas between the files. Each of
+/// REPLACES is `NAME:VERSION:MATCH`, where MATCH are the match bits of the version operator.
 fn write_package(alloc: Global, writer: &mut Writer, row: &Words) -> Result<Val, AllocError> {
+    // In the package's information, field 0 is the name, field 1 the version, and field 16
+    // `replaces`.
     let mut info = [Val::of(0); INFO_FIELDS];
     info[0] = writer.blob(word_at(row, 1))?;
     info[1] = writer.blob(word_at(row, 2))?;
@@ -84,7 +87,7 @@ fn write_package(alloc: Global, writer: &mut Writer, row: &Words) -> Result<Val,
     writer.obj(&fields)
 }
 
-/// The number that a word is; 0 if it is none.
+/// The decimal number in a word of a row, or 0 if the word is no number.
 fn number_in(word: &[u8]) -> u64 {
     u64::try_from(number_of(word).unwrap_or(0)).unwrap_or(0)
 }
@@ -97,7 +100,7 @@ fn write_number(writer: &mut Writer, number: u64) -> Result<Val, AllocError> {
     writer.int(number)
 }
 
-/// Writes what the package replaces: the words of the row from the sixth on.
+/// Writes the field `replaces` of the package: the words of the row from the sixth on.
 fn write_replaces(alloc: Global, writer: &mut Writer, row: &Words) -> Result<Val, AllocError> {
     let mut replaces = Vec::new(alloc);
     for i in 5..row.len() {
@@ -106,10 +109,10 @@ fn write_replaces(alloc: Global, writer: &mut Writer, row: &Words) -> Result<Val
     writer.arr(&replaces)
 }
 
-/// Writes an entry of `replaces`, by its words `NAME:VERSION:MATCH`.
+/// Writes an entry of `replaces`, from its text `NAME:VERSION:MATCH` in a row.
 fn write_replaced(writer: &mut Writer, word: &[u8]) -> Result<Val, AllocError> {
-    let (name, rest) = parted(word, b':');
-    let (version, matching) = parted(rest, b':');
+    let (name, rest) = split_at_first(word, b':');
+    let (version, matching) = split_at_first(rest, b':');
     let name = writer.blob(name)?;
     let version = writer.blob(version)?;
     let matching = write_number(writer, number_in(matching))?;
@@ -117,26 +120,28 @@ fn write_replaced(writer: &mut Writer, word: &[u8]) -> Result<Val, AllocError> {
     writer.obj(&fields)
 }
 
-/// The folders that are written so far, and the files of the folder that is written next.
+/// The folders of a package that are written so far, and the files that are written so far of the
+/// folder that is to be written next.
 #[derive(Drop)]
 struct Folders {
-    /// The words of the folders that are written so far.
+    /// The words (32-bit references) of the folders that are written so far.
     written: Vec<Val>,
-    /// The words of the files of the folder that is written next.
+    /// The words of those files of the next folder that are written so far.
     files: Vec<Val>,
 }
 
-/// Writes folders with their files. Neighbours in the list that have the same folder share it.
+/// Writes the folders of a package with their files, from the list FILES of a row. Adjacent files
+/// of the list that have the same folder are in one folder of the package.
 fn write_folders(alloc: Global, writer: &mut Writer, files: &[u8]) -> Result<Val, AllocError> {
     let mut folders = Folders {
         written: Vec::new(alloc),
         files: Vec::new(alloc),
     };
-    // The folder of the file before in the list.
+    // The folder of the previous file of the list.
     let mut previous: Option<&[u8]> = None;
     for file in files.split(|byte| *byte == b',') {
-        let (path, _) = listed_parts(file);
-        let (folder, _) = parted_last(path);
+        let (path, _) = path_and_description(file);
+        let (folder, _) = folder_and_name(path);
         if previous != Some(folder) {
             folders.end(writer, previous)?;
         }
@@ -151,10 +156,10 @@ fn write_folders(alloc: Global, writer: &mut Writer, files: &[u8]) -> Result<Val
 }
 
 impl Folders {
-    /// Adds a file. A path that ends in a slash is a folder without files.
+    /// Writes a file of the next folder. A path that ends in a slash is a folder without files.
     fn add(&mut self, alloc: Global, writer: &mut Writer, file: &[u8]) -> Result<(), AllocError> {
-        let (path, description) = listed_parts(file);
-        let (_, name) = parted_last(path);
+        let (path, description) = path_and_description(file);
+        let (_, name) = folder_and_name(path);
         if name.is_empty() {
             return Ok(());
         }
@@ -163,7 +168,7 @@ impl Folders {
         Ok(())
     }
 
-    /// Writes the folder with the files that were collected for it, if there is one.
+    /// Writes the folder with this name and the files that were written for it, if there is one.
     fn end(&mut self, writer: &mut Writer, folder: Option<&[u8]>) -> Result<(), AllocError> {
         let Some(name) = folder else {
             return Ok(());
@@ -179,8 +184,9 @@ impl Folders {
     }
 }
 
-/// Writes a file as the row describes it after the path: `=BYTES` with their SHA-256, `#BYTES` with
-/// their SHA-1, `:SIZE` without a digest, `>TEXT` as a link; else an empty file.
+/// Writes the entry of a file. The description follows the path in the row: `=BYTES` stands for
+/// these contents with a SHA-256, `#BYTES` for these with a SHA-1, `:SIZE` for a size without a
+/// digest, and `>TEXT` for a link. Without a description the file is empty.
 fn write_file(
     alloc: Global,
     writer: &mut Writer,
@@ -205,31 +211,34 @@ fn write_file(
     writer.obj(&fields)
 }
 
-/// Writes the target of a symbolic link.
+/// Writes the target of a symbolic link with this text.
 fn write_target(alloc: Global, writer: &mut Writer, text: &[u8]) -> Result<Val, AllocError> {
     let mut target = Vec::from_slice(alloc, LINK)?;
     target.extend_from_slice(text)?;
     writer.blob(&target)
 }
 
-/// Splits an entry of the list of files into its path, and the rest from a mark (`MARKS`) on.
-fn listed_parts(file: &[u8]) -> (&[u8], &[u8]) {
+/// Splits an entry of the list FILES into the path, and the description, which begins with one of
+/// `MARKS`, or is empty.
+fn path_and_description(file: &[u8]) -> (&[u8], &[u8]) {
     match file.iter().position(|byte| MARKS.contains(byte)) {
         Some(i) if i < file.len() => (&file[..i], &file[i..]),
         _ => (file, b""),
     }
 }
 
-/// The text before the first byte `mark`, and the text after it. Without `mark`, all and nothing.
-fn parted(text: &[u8], mark: u8) -> (&[u8], &[u8]) {
+/// The text before the first byte `mark`, and the text after it. Without such a byte, the whole
+/// text and an empty one.
+fn split_at_first(text: &[u8], mark: u8) -> (&[u8], &[u8]) {
     match text.iter().position(|byte| *byte == mark) {
         Some(i) if i < text.len() => (&text[..i], &text[i + 1..]),
         _ => (text, b""),
     }
 }
 
-/// The folder of a path, and the name after its last slash.
-fn parted_last(path: &[u8]) -> (&[u8], &[u8]) {
+/// The folder of a path, before its last slash, and the name after it. Without a slash the folder
+/// is empty.
+fn folder_and_name(path: &[u8]) -> (&[u8], &[u8]) {
     match path.iter().rposition(|byte| *byte == b'/') {
         Some(i) if i < path.len() => (&path[..i], &path[i + 1..]),
         _ => (b"", path),

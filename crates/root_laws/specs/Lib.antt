@@ -1,4 +1,4 @@
--- passed on: a crate above that names this one need not name these
+-- definitions of other crates, passed on: a crate that imports this module need not import theirs
 pub use Rattle.engine_core.specs as engine_core
 pub use Rattle.engine_core.specs.candidate_core as candidate_core
 pub use Rattle.engine_core.specs.change_files as change_files
@@ -12,6 +12,6 @@ pub use Rattle.make_index.specs.adb_copy as adb_copy
 pub use Rattle.make_index.specs.adb_schema as adb_schema
 pub use Rattle.make_index.specs.make_info as make_info
 pub use Rattle.make_index.specs.pkg_core as pkg_core
--- cited by laws of runs
+-- modules that laws of later runs cite
 pub mod RootLeft
 pub mod NextInputs

@@ -1,4 +1,4 @@
--- The inputs of a command that reads the root which a change has left. The rules are in
+-- The inputs of a later command that reads the root which a change has left. The rules are in
 -- `docs/commands.md`, "`add` and `del`", what is read.
 use Rattle.std.specs.Prelude.{◌≡◌, ℕ, List, Option}
 use Rattle.engine_core.specs.change_inputs.Inputs.{Inputs}
@@ -10,17 +10,17 @@ use Rattle.report_core.specs.declared.refusal.Refusal.{Refusal}
 use Rattle.report_core.specs.declared.refusal.Refusal.TheVariants.{IndexBad, IndexMissing, RepositoriesBad, Untrusted}
 use Rattle.root_laws.specs.RootLeft.{IsRootLeftByChange, database_of_members}
 
--- inputs are what a change has left: the packages before are those after the change, and world is
--- the one that it was made for
+-- the inputs of a later command are those of the root that a change has left: the database is that of the packages
+-- after the change, and world is the new world of the change
 pub record AreInputsOfRootLeft {command : CommandLine} {read : Reads} {chosen : Option (List ℕ)}
     {done : ChangeDone} (left : IsRootLeftByChange command read chosen done)
     (inputs : Inputs) : Type 0 where
-  -- the packages before are those after the earlier change
+  -- the database of the later command has the packages after the earlier change
   pub database : inputs.root.database ≡ database_of_members (found_members left.found) left.bytes
-  -- world is the new world of the earlier change
+  -- world of the later command is the new world of the earlier change
   pub world : inputs.root.world ≡ left.selected.inputs.root.new_world
 
--- a refusal reports a fault of the repositories, or of an index of one
+-- the refusal is for the list of repositories, because it is not trusted, or for the index of a repository
 abbrev pub IsRefusalOfRepositories : Refusal → Type 0
 IsRefusalOfRepositories (RepositoriesBad line) = Unit {0}
 IsRefusalOfRepositories Untrusted = Unit {0}

@@ -18,44 +18,47 @@ use Rattle.engine_core.specs.file_owners.Owners.{owned_flags_of}
 use Rattle.make_index.specs.make_info.Reads.{Reads}
 use Rattle.root_names.specs.RootNames.{database_name, world_name}
 
--- each file that reads find has bytes: numbers below 256
+-- each file that the reads find consists of bytes, that is, numbers below 256
 abbrev pub AreAllReadFilesBytes : Reads → Type 0
 AreAllReadFilesBytes read =
     (n : ℕ) (name bytes : List ℕ) → read n name ≡ Some bytes → All (λ b. b < 256) bytes
 
--- reads find the database and world of these files
+-- the reads of the database and of world find those among these files
 pub record ReadsDatabaseAndWorldOfFiles (files : Files) (read : Reads) : Type 0 where
-  -- the read of the database finds the file under its name
+  -- the read of the database finds what the files have under the database's name
   pub database : read database_read_number database_name ≡ files database_name
-  -- the read of world finds the file under its name
+  -- the read of world finds what the files have under world's name
   pub world : read world_read_number world_name ≡ files world_name
 
--- the database of packages, each with the files that it owns, in a container of these bytes
+-- the database, as a command reads it, of the members of a change, each with the files that it owns; `bytes` are those
+-- of its container
 abbrev pub database_of_members : List Member → List ℕ → Database
 database_of_members members bytes =
     database_from_parts (list_of (packages_in_new_database members (owned_flags_of members)))
     (Some bytes) false
 
--- A change leaves a root in which each later command finds a database with the packages after the
--- change, and the world that the change was made for.
+-- A change of this command, which is done with the result `done`, leaves a root in which each later command finds a
+-- database with the packages after the change, and the change's new world.
 pub record IsRootLeftByChange (command : CommandLine) (read : Reads) (chosen : Option (List ℕ))
     (done : ChangeDone) : Type 0 where
-  -- what the change read, and the packages before with the candidates that replace them
+  -- the inputs of the change, and its replacement: the packages before, and the selected ones
   pub selected : InputsAndReplacement
+  -- these are what the command reads and selects
   pub is_selected : selected_from_reads_by_choice command read chosen ≡ Ok selected
-  -- the packages after the change
+  -- the packages after the change, and for each added one its file and the contents of its files
   pub found : List MemberFound
+  -- these are the members of this replacement
   pub members : members_after_change selected.inputs selected.replacement (wishes_of command) read
       ≡ Ok found
   -- the bytes of the new database
   pub bytes : List ℕ
-  -- a later command that reads these files finds a database with the packages after the change
+  -- a later command that reads the files after the change finds a database of the packages after the change
   pub database : (later : CommandLine) (next : Reads) → ReadsDatabaseAndWorldOfFiles done.files next
       → database_for later next ≡ Ok (database_of_members (found_members found) bytes)
-  -- a later command finds the new world of the change
+  -- a later command that reads these files finds the new world of the change
   pub world : (next : Reads) → ReadsDatabaseAndWorldOfFiles done.files next
       → root_world (found_text_or_empty (next world_read_number world_name))
       ≡ Ok selected.inputs.root.new_world
-  -- the text of world is that of this new world
+  -- the text of the file of world is that of this new world
   pub text : (next : Reads) → ReadsDatabaseAndWorldOfFiles done.files next
       → found_text_or_empty (next world_read_number world_name) ≡ world_text selected.inputs.root.new_world

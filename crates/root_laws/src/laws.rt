@@ -1,6 +1,5 @@
-//! What follows from the definition of a command that changes the installed packages, for the
-//! command that reads the root after it. The rules are in `docs/formats.md`, "The database after a
-//! change" and "World".
+//! Laws on the root that a change of the installed packages leaves: what the next command reads of
+//! it. The rules are in `docs/formats.md`, "The database after a change" and "World".
 
 ghost use Rattle.std.specs.Prelude.{◌≡◌, ℕ, false, Err, List, Ok, Option};
 ghost use Rattle.base_core.specs.Files.{HaveValidNamesAndBytes, Files};
@@ -26,9 +25,9 @@ use make_index::{
     no_text_is_bad_where_each_keeps_its_rule,
 };
 
-/// If a change is not refused, each command that reads the files that it leaves finds a database,
-/// whose packages are those after the change, each with the files that it owns; and the world that
-/// the change was made for.
+/// A law: if a change is neither refused nor simulated, each later command that reads the files
+/// after the change finds the new world, and a database of the packages after the change, each with
+/// the files that it owns.
 pub fn what_a_change_leaves_is_read_by_the_next_run()
     ensures { (command : CommandLine) (read : Reads) (files : Files) (chosen : Option (List ℕ))
         (clash : Option NamePair) (done : ChangeDone) → AreAllReadFilesBytes read
@@ -51,23 +50,24 @@ pub fn what_a_change_leaves_is_read_by_the_next_run()
     worlds_are_read_back();
 }
 
-/// A later command whose inputs are read begins with the packages and the world that the change has
-/// left. Any other is refused for its repositories or their indexes alone, neither for the database
-/// nor for the world.
+/// A law on a later command that reads the root which a change has left. If its inputs can be read,
+/// they have the packages and the world that the change has left. Otherwise it is refused for the
+/// list of repositories or an index, and never for the database or world.
 pub fn a_command_begins_with_what_the_last_change_left()
-    // A command whose inputs are read.
+    // If the inputs can be read, they are those of the root that the change has left.
     ensures inputs { (command later : CommandLine) (read next : Reads) (chosen : Option (List ℕ))
         (done : ChangeDone) (inputs : Inputs) (left : IsRootLeftByChange command read chosen done)
         → ReadsDatabaseAndWorldOfFiles done.files next → inputs_of later next ≡ Ok inputs
         → AreInputsOfRootLeft left inputs }
-    // A command that does not.
+    // If the inputs cannot be read, the refusal is one of the repositories or of an index.
     ensures refused { (command later : CommandLine) (read next : Reads) (chosen : Option (List ℕ))
         (done : ChangeDone) (refusal : Refusal) → IsRootLeftByChange command read chosen done
         → ReadsDatabaseAndWorldOfFiles done.files next → inputs_of later next ≡ Err refusal
         → IsRefusalOfRepositories refusal }
 {}
 
-/// What is read of the files of a tree has bytes.
+/// A law: if the files have valid names and bytes, and reads find these files, then all files that
+/// the reads find consist of bytes.
 pub fn reads_of_named_files_find_bytes()
     ensures { (files : Files) (read : Reads) → HaveValidNamesAndBytes files
         → ((n : ℕ) (name : List ℕ) → read n name ≡ files name) → AreAllReadFilesBytes read }

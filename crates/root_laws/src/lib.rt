@@ -1,5 +1,6 @@
-//! A change leaves a root that the next run can read: its database and world are those that the
-//! change has made. The rules are in `docs/formats.md`, "The database after a change" and "World".
+//! Laws: a change leaves a root that the next command can read, with the database and world that
+//! the change has made. The rules are in `docs/formats.md`, "The database after a change" and
+//! "World".
 //!
 //! The functions are laws. They cite `RootLeft` and `NextInputs` of `specs/`, and the definitions
 //! of `engine_core` and of the crates below it.

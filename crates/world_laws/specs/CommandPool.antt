@@ -1,4 +1,5 @@
--- What a command chooses from, in a reader's words: the candidates, the world, and the upgraded names.
+-- What a command chooses from, in terms of its indexes and the database: the candidates, the world, and the names that
+-- are upgraded.
 -- The rules are in `docs/selection.md`, "What there is to choose from", and in `docs/commands.md`,
 -- "`upgrade` and `fix`".
 use Rattle.std.specs.Prelude.{◌≡◌, ◌⊎◌, ◌↔◌, ◌≤◌, ◌+◌, ℕ, true, false, List, [], ◌∷◌, length, Some, Ok, slice_get}
@@ -22,53 +23,57 @@ use Rattle.engine_core.specs.make_info.Reads.{Reads}
 
 -- ---- the candidates
 
--- the repository at this place of the list, counted from 0, has this package in its index
+-- the repository with the index `place` in the list of repositories has a package with this information in its index
 pub record IsIndexed (inputs : Inputs) (read : Reads) (place : ℕ) (repository : Repository)
     (info : Plain) : Type 0 where
-  -- the list has this repository at the place
+  -- the list of repositories has this repository there
   pub listed : slice_get inputs.root.repositories place ≡ Some repository
-  -- the bytes of its index
+  -- the bytes of the file of the repository's index
   pub file : List ℕ
+  -- these bytes were read under the repository's path
   pub is_index : read (first_index_read_number + place) repository.path ≡ Some file
-  -- the index has this package
+  -- the index has a package with this information
   pub has : IsIn info (entries_at INDEX_PACKAGES (root_value Index (payload_in file)))
 
--- a candidate is this package of the repository at this place, installed or not; repositories are
--- numbered from 1
+-- the candidate is the package with this information, of the repository with the index `place`, and is installed or
+-- not. Candidates number repositories from 1
 abbrev pub IsCandidateFor : ℕ → Repository → Plain → Candidate → Type 0
 IsCandidateFor place repository info c =
     c ≡ candidate_of info (Some (1 + place)) repository.tag c.installed
 
--- some installed package is this candidate: name, text of the version and id are equal
+-- some installed package is the same as the candidate, which is from an index: they have the same name, the same text
+-- of the version, and the same id
 abbrev pub IsSameAsInstalled : Inputs → Candidate → Type 0
 IsSameAsInstalled inputs c =
     (pkg : Plain)
     × IsIn pkg inputs.root.database.packages
     × (is_same_package (installed_candidate pkg) c ≡ true)
 
--- a candidate is a package of an index, and counts as installed exactly if an installed package is the
--- same
+-- the candidate is a package of an index, and counts as installed exactly if an installed package is the same
 pub record IsOfIndex (inputs : Inputs) (read : Reads) (c : Candidate) : Type 0 where
-  -- the place of the repository in the list, counted from 0
+  -- the index of the repository in the list of repositories
   pub place : ℕ
+  -- the repository
   pub repository : Repository
   -- the information of the package in the index
   pub info : Plain
+  -- the repository has the package in its index
   pub indexed : IsIndexed inputs read place repository info
   -- the candidate has this information and this repository
   pub is : IsCandidateFor place repository info c
-  -- it counts as installed exactly if an installed package is the same
+  -- the candidate counts as installed exactly if an installed package is the same
   pub counts : (c.installed ≡ true) ↔ IsSameAsInstalled inputs c
 
--- a candidate is an installed package that no index has
+-- the candidate is an installed package that no candidate from an index is the same as
 pub record IsInstalledAlone (inputs : Inputs) (candidates : List Candidate) (c : Candidate) :
     Type 0 where
   -- an installed package
   pub pkg : Plain
+  -- the database has this package
   pub installed : IsIn pkg inputs.root.database.packages
   -- the candidate is this package
   pub is : c ≡ installed_candidate pkg
-  -- no candidate of an index is the same package
+  -- none of the candidates, if it is from an index, is the same package
   pub alone : (other : Candidate) → IsIn other candidates → is_same_package c other ≡ false
 
 -- The candidates of a command are the packages of all indexes, and the installed packages that no index
@@ -89,7 +94,8 @@ pub record AreCandidates (inputs : Inputs) (read : Reads) (candidates : List Can
 
 -- ---- the names that are upgraded
 
--- a command upgrades this name: `upgrade` those of its operands, or each if it has none
+-- the command upgrades this name: `upgrade` the names that are its operands, or all names without operands; no other
+-- command upgrades a name
 abbrev pub IsToUpgrade : Applet → List Operand → List ℕ → Type 0
 IsToUpgrade Upgrade [] name = Unit {0}
 IsToUpgrade Upgrade (o ∷ operands) name =
@@ -98,10 +104,11 @@ IsToUpgrade applet operands name = ⊥
 
 -- ---- what a command chooses from
 
--- a command chooses from its candidates, which are not too many, under the new world
+-- `pool` is what the command chooses from: the candidates, the world to be satisfied, and the names to be upgraded
 pub record IsCommandPool (command : CommandLine) (read : Reads) (pool : SealedPool) : Type 0 where
   -- what the command reads of the root
   pub inputs : Inputs
+  -- the inputs are what the reads find
   pub is_inputs : inputs_of command read ≡ Ok inputs
   -- the candidates are those of the indexes and the installed packages
   pub candidates : AreCandidates inputs read pool.candidates
@@ -109,6 +116,6 @@ pub record IsCommandPool (command : CommandLine) (read : Reads) (pool : SealedPo
   pub few : length pool.candidates ≤ MOST_CANDIDATES
   -- the world to be satisfied is the new world
   pub world : pool.world ≡ inputs.root.new_world
-  -- a name is upgraded exactly if the command asks for that
+  -- a name is upgraded exactly if the command asks for it
   pub upgraded : (name : List ℕ)
       → (is_upgraded pool.upgraded name ≡ true) ↔ IsToUpgrade command.applet command.operands name

@@ -1,4 +1,4 @@
--- cited by the laws
+-- modules that the laws of this crate cite
 pub mod NewWorld
 pub mod CommandPool
 pub mod NextNeed

@@ -1,5 +1,6 @@
--- Which need (a dependency or name to be satisfied) is next, in a reader's words: of world, then of the
--- choices, then by install-if. The rules are in `docs/selection.md`, "Which selection is taken".
+-- Which need (a dependency or name to be met) is next after some choices: an entry of world, then a dependency of a
+-- choice, then a name that an install-if asks for. In all these definitions, `chosen` are the indexes of the candidates
+-- chosen so far. The rules are in `docs/selection.md`, "Which selection is taken".
 use Rattle.std.specs.Prelude.{◌≡◌, ◌⊎◌, ℕ, true, false, List, ◌∷◌, ◌++◌, Option, Some, None}
 use Rattle.dep_core.specs.Dependency.{Dependency}
 use Rattle.base_core.specs.ByteOrder.{precedes}
@@ -8,69 +9,77 @@ use Rattle.engine_core.specs.candidate_core.Options.{IsIn}
 use Rattle.engine_core.specs.candidate_core.Rank.{SealedPool, meets_at}
 use Rattle.engine_core.specs.search_tables.Selection.{depends_at}
 
--- a chosen candidate meets a need
+-- one of the chosen candidates meets the need
 abbrev pub IsMetByChoice : SealedPool → List ℕ → Need → Type 0
 IsMetByChoice pool chosen need = (c : ℕ) × IsIn c chosen × (meets_at pool c need ≡ true)
 
 -- ---- dependencies
 
--- each dependency of the list that is no conflict is met by a choice
+-- each dependency of the list that is no conflict is met by one of the chosen candidates
 abbrev pub AreMetByChoices : SealedPool → List ℕ → List Dependency → Type 0
 AreMetByChoices pool chosen deps = (d : Dependency) → IsIn d deps → d.conflict ≡ false
     → IsMetByChoice pool chosen (entry d)
 
--- the dependency is the first of the list that is no conflict and that no choice meets
+-- `d` is the first dependency of the list that is no conflict and that no chosen candidate meets
 pub record IsFirstUnmet (pool : SealedPool) (chosen : List ℕ) (deps : List Dependency)
     (d : Dependency) : Type 0 where
-  -- the dependencies before it, and those after it
+  -- the dependencies of the list before `d`
   pub front : List Dependency
+  -- the dependencies of the list after `d`
   pub behind : List Dependency
+  -- these make up the list, in this order
   pub located : deps ≡ front ++ d ∷ behind
-  -- the dependencies before it are met
+  -- the dependencies before `d` that are no conflicts are met
   pub before : AreMetByChoices pool chosen front
-  -- it is no conflict
+  -- `d` is no conflict
   pub positive : d.conflict ≡ false
-  -- no choice meets it
+  -- no chosen candidate meets `d`
   pub unmet : ¬ IsMetByChoice pool chosen (entry d)
 
--- ---- of the choices
+-- ---- dependencies of the choices
 
--- the dependencies of each of these choices are met
+-- the dependencies of each candidate of `choices` that are no conflicts are met by the chosen candidates
 abbrev pub AreDependenciesOfEachMet : SealedPool → List ℕ → List ℕ → Type 0
 AreDependenciesOfEachMet pool chosen choices = (c : ℕ) → IsIn c choices
     → AreMetByChoices pool chosen (depends_at pool c)
 
--- a dependency is the first unmet one of a choice, and those of the choices before it are met
+-- `d` is the first unmet dependency of one of the `choices`, and all dependencies of the choices before this one are
+-- met
 pub record IsFirstOfChoices (pool : SealedPool) (chosen choices : List ℕ)
     (d : Dependency) : Type 0 where
-  -- the choices before one of them, this choice, and those after it
+  -- the choices before this one
   pub front : List ℕ
+  -- the choice whose dependency is not met
   pub choice : ℕ
+  -- the choices after it
   pub behind : List ℕ
+  -- these make up the list of choices, in this order
   pub located : choices ≡ front ++ choice ∷ behind
-  -- all dependencies of the choices before it are met
+  -- all dependencies of the choices before this one are met
   pub before : AreDependenciesOfEachMet pool chosen front
-  -- the dependency is the first of this choice that is not met
+  -- `d` is the first dependency of this choice that is not met
   pub first : IsFirstUnmet pool chosen (depends_at pool choice) d
 
--- ---- by install-if
+-- ---- names that an install-if asks for
 
--- an install-if asks for a name: a candidate has the name, its install-if can apply and is met entry by
--- entry, and no choice meets the name
+-- An install-if asks for the name: a candidate has this name, its install-if may be used, and the chosen candidates
+-- meet each entry of the install-if, but none of them meets the need for the name.
 pub record IsAskedByInstallIf (pool : SealedPool) (chosen name : List ℕ) : Type 0 where
   -- a candidate of this name
   pub candidate : Candidate
+  -- it is one of the candidates of the command
   pub located : IsIn candidate pool.candidates
+  -- it has the name
   pub is_named : candidate.name ≡ name
-  -- its install-if can apply
+  -- it may be selected, and its install-if is not empty and has no conflict
   pub usable : has_usable_install_if pool.world candidate ≡ true
-  -- a choice meets each entry of its install-if
+  -- a chosen candidate meets each entry of its install-if
   pub applies : (d : Dependency) → IsIn d candidate.install_if
       → IsMetByChoice pool chosen (entry d)
-  -- no choice has the name
+  -- no chosen candidate meets the need for the name
   pub unmet : ¬ IsMetByChoice pool chosen (named name)
 
--- a name is the first in byte order of those that an install-if asks for
+-- the name is the first in byte order of the names that an install-if asks for
 pub record IsFirstByInstallIf (pool : SealedPool) (chosen name : List ℕ) : Type 0 where
   -- an install-if asks for the name
   pub asked : IsAskedByInstallIf pool chosen name
@@ -80,15 +89,16 @@ pub record IsFirstByInstallIf (pool : SealedPool) (chosen name : List ℕ) : Typ
 
 -- ---- the next need
 
--- Which need is next: that of world before all others; then of the choices in their order; last a name
--- that an install-if asks for.
+-- The need is the next one. A dependency is next if it is the first unmet entry of world, or if world is met and it is
+-- the first unmet dependency of the choices, in their order. A name is next if all these are met, and it is the first
+-- name that an install-if asks for.
 abbrev pub IsNextNeed : SealedPool → List ℕ → Need → Type 0
 IsNextNeed pool chosen (entry d) = IsFirstUnmet pool chosen pool.world d
     ⊎ (AreMetByChoices pool chosen pool.world × IsFirstOfChoices pool chosen chosen d)
 IsNextNeed pool chosen (named name) = AreMetByChoices pool chosen pool.world
     × AreDependenciesOfEachMet pool chosen chosen × IsFirstByInstallIf pool chosen name
 
--- the next need, if there is one; if there is none, all are met
+-- the option is the next need; None means that world, the dependencies of the choices and all install-ifs are met
 abbrev pub IsNextNeedOrNone : SealedPool → List ℕ → Option Need → Type 0
 IsNextNeedOrNone pool chosen (Some need) = IsNextNeed pool chosen need
 IsNextNeedOrNone pool chosen None = AreMetByChoices pool chosen pool.world

@@ -6,24 +6,26 @@ use Rattle.command_core.specs.Flags.{with_flag}
 use Rattle.command_core.specs.declared.command.Flag.TheVariants.{Simulate}
 use Rattle.report_core.specs.Reports.{report_line, bytes_and_package_count_text}
 
--- a command with `--simulate`, and else as it is
+-- the command line with the flag `--simulate` added
 abbrev pub with_simulation : CommandLine → CommandLine
 with_simulation command = record command { flags = with_flag Simulate command.flags }
 
--- A simulation foretells the report of a change: all that precedes the last line of its own report, a
--- sum, is also the beginning of the change's report, to the byte; and this ends with a sum of its own.
+-- The report of a simulation predicts the report of the change. All lines of the simulation's report except the last
+-- one, which is a sum, are the beginning of the change's report. This report ends with a sum of its own.
 pub record IsReportPredicted (simulation report : List ℕ) : Type 0 where
-  -- the lines that both reports have at their beginning
+  -- the bytes of the lines with which both reports begin
   pub told : List ℕ
-  -- the sum in the last line of the simulation's report: bytes and packages
+  -- the number of bytes in the last line of the simulation's report
   pub bytes : ℕ
+  -- the number of packages in this line
   pub packages : ℕ
-  -- the report of the simulation is these lines and the line with the sum
+  -- the report of the simulation is the common lines and the line with these numbers
   pub simulated : simulation ≡ told ++ report_line (bytes_and_package_count_text bytes packages)
-  -- the lines that only the report of the change has
+  -- the bytes of the lines that only the report of the change has
   pub more : List ℕ
-  -- the sum in the last line of the change's report
+  -- the number of bytes in the last line of the change's report
   pub new_bytes : ℕ
+  -- the number of packages in this line
   pub new_packages : ℕ
-  -- the report of the change is the common lines, its own lines and the line with its sum
+  -- the report of the change is the common lines, its own lines and the line with these numbers
   pub made : report ≡ told ++ more ++ report_line (bytes_and_package_count_text new_bytes new_packages)

@@ -1,8 +1,8 @@
-//! What a command asks of world, what it chooses from, which dependency it satisfies next, what
-//! holds of the selected packages, when there are none that satisfy world, and what a simulation
-//! reports of a change, in a reader's words.
-//! The rules are in `docs/formats.md`, "World", in `docs/selection.md`, and in `docs/commands.md`,
-//! "`add` and `del`".
+//! Laws that restate the choice of packages without the solver's terms: what a command asks of
+//! world, and what it chooses from; which need is next; what holds of the selected packages; when
+//! no packages satisfy world; and what a simulation reports of a change. The rules are in
+//! `docs/formats.md`, "World", in `docs/selection.md`, and in `docs/commands.md`, "`add` and
+//! `del`".
 //!
 //! The functions are laws. They cite the definitions of `specs/`, and those of `change_inputs`,
 //! `search_tables` and `engine_core` that they speak of.
@@ -44,30 +44,31 @@ ghost use Rattle.world_laws.specs.SatisfiedWorld.{IsUnsatisfiable};
 
 use engine_core::{a_change_that_is_made_passes_each_test, a_choice_is_unique};
 
-/// After some choices, the next need (the dependency to be satisfied next) is the first of these
-/// that no choice meets: the entries of world; then the dependencies of each choice in turn; then
-/// the names, in byte order, that a candidate's install-if asks for. There is none if all are met,
-/// and never more than one.
+/// A law on the next need (the dependency to be met next) after some choices. It is the first of
+/// these that no choice meets: the entries of world; the dependencies of each choice in turn; the
+/// names, in byte order, that a candidate's install-if asks for. If all are met, there is none.
 pub fn the_next_need_is_the_first_that_is_unmet()
-    // The next need of the search (*next_need*) is this one.
+    // The next need of the solver (*next_need*) is the one that *IsNextNeedOrNone* describes.
     ensures next { (pool : SealedPool) (chosen : List ℕ)
         → IsNextNeedOrNone pool chosen (next_need pool chosen) }
-    // After the same choices there is only one next need.
+    // For the same choices, *IsNextNeedOrNone* holds of at most one next need.
     ensures one { (pool : SealedPool) (chosen : List ℕ) (need other : Option Need)
         → IsNextNeedOrNone pool chosen need → IsNextNeedOrNone pool chosen other → need ≡ other }
 {}
 
-/// A simulation reports what the change does, by the same candidates: which packages are added and
-/// removed, and which are kept that were to be removed. The report of the change begins with the
-/// same bytes. The same holds of a command with and without `--simulate`, over the same reads and
-/// files.
+/// A law: the report of a simulation predicts that of the change. The report of the change begins
+/// with the lines of the simulation's report, to the byte, all but the last one, which is a sum
+/// (*IsReportPredicted*).
 pub fn a_simulation_predicts_the_change()
-    // The reports of a simulated change and of the same change, with one and the same replacement.
+    // For one replacement, and any wishes, plan of files (`change`) and files: the report of the
+    // simulation predicts that of the change.
     ensures reports { (r : Replacement) (wishes : ChangeWishes) (change : FileChange)
         (files : Files)
         → IsReportPredicted (simulated_report r wishes.to_remove)
         (change_report r wishes change files) }
-    // Of one command with and without `--simulate`.
+    // For one command, with and without `--simulate`, over the same reads and files: if neither is
+    // refused, the report of the former predicts that of the latter. `expected` and `chosen` are
+    // the selections of the two, `other` and `clash` their first clashes.
     ensures commands { (command : CommandLine) (read : Reads) (files : Files)
         (expected chosen : Option (List ℕ)) (other clash : Option NamePair)
         (simulation done : ChangeDone) → command.flags.simulate ≡ false
@@ -82,7 +83,8 @@ pub fn a_simulation_predicts_the_change()
     a_choice_is_unique();
 }
 
-/// If a simulation is refused, the command without `--simulate` is refused in the same way.
+/// A law: if a command with `--simulate` is refused, the command without it is refused with the
+/// same refusal, over the same reads and files.
 pub fn a_refused_simulation_refuses_the_change()
     // `expected` is the selection of the simulation, and `other` its first clash; `chosen` and
     // `clash` are those of the command without `--simulate`.
@@ -97,40 +99,40 @@ pub fn a_refused_simulation_refuses_the_change()
     a_choice_is_unique();
 }
 
-/// World after `add` has the operands, for each name the last one, and the entries of all other
-/// names. After `del` it has the entries of all names except the operands. Any other command leaves
-/// it. Exactly one world holds what was asked. The same holds of what a change reads of a root.
+/// A law on world after a command. After `add` it has the operands, for each name the last one, and
+/// the old entries of all other names. After `del` it has the old entries of all names that are no
+/// operands. Any other command leaves world unchanged.
 pub fn the_new_world_has_what_was_asked()
-    // The new world of a command, whichever world was before.
+    // The new world of a command, whatever world was before, has these entries.
     ensures world { (applet : Applet) (operands : List Operand) (world : List Dependency)
         → IsWorld world
         → IsWorldAfterApplet applet operands world (new_world applet operands world) }
-    // The new world among what a change reads of a root.
+    // The same holds of the new world among the inputs of a command.
     ensures read { (command : CommandLine) (read : Reads) (inputs : Inputs)
         → inputs_of command read ≡ Ok inputs → HasReadAndRequestedWorld command read inputs.root }
-    // Exactly one world has the requested entries.
+    // No two different worlds have these entries.
     ensures one { (applet : Applet) (operands : List Operand) (world after other : List Dependency)
         → IsWorldAfterApplet applet operands world after
         → IsWorldAfterApplet applet operands world other → after ≡ other }
 {}
 
-/// A command chooses from the packages of all indexes, and the installed packages that no index
-/// has. A package of an index counts as installed if an installed package is the same. It chooses
-/// under the world that was asked for, and with the names that the command upgrades.
+/// A law: a command chooses from the packages of all indexes, and the installed packages that no
+/// index has. A package of an index counts as installed if an installed package is the same. The
+/// packages are to satisfy the command's new world, and `upgrade` upgrades the names it is given.
 pub fn a_command_chooses_from_its_indexes_and_its_database()
     ensures { (command : CommandLine) (read : Reads) (pool : SealedPool)
         → pool_of_command command read ≡ Ok pool → IsCommandPool command read pool }
 {}
 
-/// The packages that a command selects satisfy the new world, and each of them is needed: by world,
-/// by one that depends on it, or by an install-if.
+/// A law: the packages that a command selects satisfy the new world. Each of them is needed: by
+/// world, by another selected package that depends on it, or by an install-if.
 pub fn the_selected_packages_satisfy_the_new_world()
     // The selected packages satisfy the new world.
     ensures satisfied { (command : CommandLine) (read : Reads) (chosen : Option (List ℕ))
         (s : InputsAndReplacement) → IsChoiceFrom (pool_of_command command read) chosen
         → selected_from_reads_by_choice command read chosen ≡ Ok s
         → SatisfyWorld (candidates_of s.inputs) s.inputs.root.new_world s.replacement.selected }
-    // Each selected package is needed.
+    // Each selected package c is needed by world, by a selected package, or by an install-if.
     ensures needed { (command : CommandLine) (read : Reads) (chosen : Option (List ℕ))
         (s : InputsAndReplacement) (c : Candidate)
         → IsChoiceFrom (pool_of_command command read) chosen
@@ -139,13 +141,15 @@ pub fn the_selected_packages_satisfy_the_new_world()
         (candidates_of s.inputs) s.inputs.root.new_world s.replacement.selected c }
 {}
 
-/// A selection of places satisfies world exactly if packages do in a reader's words. So a command
-/// finds no selection exactly if no packages satisfy its new world.
+/// A law: *IsSatisfying*, by which the solver works on indexes of candidates, agrees with
+/// *SatisfyWorld*, which speaks of packages. So a command finds no selection exactly if no packages
+/// satisfy its new world.
 pub fn a_selection_satisfies_world_exactly_if_packages_do()
-    // The packages of a satisfying selection satisfy world.
+    // The packages at the indexes of a satisfying selection satisfy world.
     ensures satisfied { (pool : SealedPool) (selection : List ℕ) → IsSatisfying pool selection
         → SatisfyWorld pool.candidates pool.world (candidates_at pool selection) }
-    // Packages that satisfy world are those of a satisfying selection.
+    // Packages that satisfy world are, in any order and number, those at the indexes of a
+    // satisfying selection.
     ensures found { (pool : SealedPool) (packages : List Candidate)
         → SatisfyWorld pool.candidates pool.world packages
         → (selection : List ℕ) × IsSatisfying pool selection
@@ -155,7 +159,7 @@ pub fn a_selection_satisfies_world_exactly_if_packages_do()
         → inputs_of command read ≡ Ok inputs → pool_of_command command read ≡ Ok pool
         → IsPreferredChoice pool None
         ↔ IsUnsatisfiable (candidates_of inputs) inputs.root.new_world }
-    // If it is refused as unsatisfied, no packages satisfy its new world.
+    // If a command is refused as unsatisfied, no packages satisfy its new world.
     ensures refused { (command : CommandLine) (read : Reads) (chosen : Option (List ℕ))
         → IsChoiceFrom (pool_of_command command read) chosen
         → selected_from_reads_by_choice command read chosen ≡ Err Unsatisfied
