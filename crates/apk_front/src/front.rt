@@ -102,8 +102,8 @@ pub fn apk<T: Tree, O: Sink, E: Sink>(
     ensures proper { IfObservable (T.history tree.old) (λ v. AreRunPathsFree words.now (files_of v)
         → (T.counts tree.new).misuses ≡ (T.counts tree.old).misuses) }
 
-    // If moreover no failure of the tree and the sinks is planned, the run ends as its outcome
-    // says, unless memory ran out: the run's, or the own memory of the tree or of a sink.
+    // If these paths are free, and no failure of the tree and the sinks is planned, the run ends as
+    // its outcome says, unless memory ran out: the run's, or the own memory of the tree or a sink.
     ensures unless_memory { IfObservable (T.history tree.old) (λ v.
         AreRunPathsFree words.now (files_of v) → HasNoPlannedFailure (T.counts tree.old)
         → HasNoPlannedFailure (O.counts out.old) → HasNoPlannedFailure (E.counts err.old)
@@ -115,11 +115,12 @@ pub fn apk<T: Tree, O: Sink, E: Sink>(
 
     // ---- effect on the tree
 
-    // If the outcome depends on the arguments alone, no call is made on the tree.
+    // If the outcome depends on the arguments alone, the run leaves the tree as it is, with its
+    // counts: no call is made on it.
     ensures untouched { IsTrue (depends_only_on_arguments (command_of words.now)) → tree.new
         ≡ tree.old }
 
-    // A command that only reads leaves the tree as it is.
+    // A command that only reads makes no new state of the tree.
     ensures same { IsTrue (reads_only (command_of words.now))
         → T.history tree.new ≡ T.history tree.old }
 
@@ -181,7 +182,7 @@ pub fn apk<T: Tree, O: Sink, E: Sink>(
         words.now))
         ignored v (T.history tree.old) (T.history tree.new)) }
 
-    // The tree is durable again, whatever is answered.
+    // A tree that was durable when the run began is durable after the run, whatever is answered.
     ensures is_durable { IfObservable (T.history tree.old) (λ v. (ignored : List ℕ → Bool)
         → IsDurable (StateDependsOn ignored) v
         → IgnoresScratchNameOfOutput (output words.now) ignored

@@ -27,7 +27,7 @@ pub(crate) fn report<T: Tree>(
 }
 
 // The answer as a verdict: the report, with the refusal after it, if there is one; or a refusal
-// instead.
+// alone. An I/O error of the tree and out of memory are returned instead of a verdict.
 fn verdict_of(
     alloc: Global,
     answer: Result<ReportAndRefusal, Refused>,
