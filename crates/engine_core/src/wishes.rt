@@ -1,4 +1,5 @@
-//! What a command asks of a change besides world. The rules are in `docs/commands.md`, "`add` and
+//! What a command asks of a change besides its new world: names to be removed, upgraded or
+//! reinstalled; and which operand is unknown. The rules are in `docs/commands.md`, "`add` and
 //! `del`" and "`upgrade` and `fix`".
 ghost use Rattle.change_report.specs.change_inputs.Seen.{inputs_seen};
 ghost use Rattle.change_report.specs.db_core.Seen.{packages_of};
@@ -62,7 +63,8 @@ pub(crate) fn names_of_upgrade(alloc: Global, command: &Command) -> Result<Words
     }
 }
 
-/// The names that `upgrade` upgrades, given the texts of its operands.
+/// The names that the command upgrades, given the texts `names` of the operands of `upgrade`: none
+/// if the command is not `upgrade`.
 pub(crate) fn names_to_upgrade<'a>(command: &Command, names: &'a Words) -> Upgrade<'a>
     requires { names.now ≡ names_of_upgrade command.now.applet command.now.operands }
     ensures { names_upgraded_by result
@@ -86,9 +88,11 @@ fn all_or_listed(names: &Words) -> Upgrade<'_>
     Upgrade::Listed(names)
 }
 
-/// The place of the first operand that the command does not know: for `del` one that is neither in
-/// world nor installed, for `upgrade` and `fix` one that is not installed.
+/// The place on the command line of the operand that is refused as unknown: for `del` the first
+/// name that is neither in world nor installed, for `upgrade` and `fix` the first that is not
+/// installed.
 pub(crate) fn unknown_operand(command: &Command, loaded: &Loaded, db: &Db<'_>) -> Option<u32>
+    // The opened database has the packages that were read of the root.
     requires { packages_of db.now ≡ (inputs_seen loaded.now).root.database.packages }
     ensures { result
         ≡ unknown_operand_place command.now.applet (inputs_seen loaded.now) command.now.operands }
@@ -100,8 +104,10 @@ pub(crate) fn unknown_operand(command: &Command, loaded: &Loaded, db: &Db<'_>) -
     }
 }
 
-// The place of the first operand that is neither in world nor installed.
+// The place on the command line of the first operand whose text is neither a name in world nor that
+// of an installed package.
 fn place_of_first_unknown_operand(operands: &Operands, loaded: &Loaded, db: &Db<'_>) -> Option<u32>
+    // The opened database has the packages that were read of the root.
     requires { packages_of db.now ≡ (inputs_seen loaded.now).root.database.packages }
     ensures { result ≡ place_of_first_unknown_operand (is_known_name
         (inputs_seen loaded.now)) operands.now }
@@ -115,7 +121,7 @@ fn place_of_first_unknown_operand(operands: &Operands, loaded: &Loaded, db: &Db<
     None
 }
 
-// The place of the first operand that is not installed.
+// The place on the command line of the first operand whose text is no name of an installed package.
 fn first_not_installed(operands: &Operands, db: &Db<'_>) -> Option<u32>
     ensures { result ≡ place_of_first_unknown_operand (was_installed
         (packages_of db.now)) operands.now }
@@ -140,7 +146,7 @@ fn is_known(name: &[u8], loaded: &Loaded, db: &Db<'_>) -> bool
     is_installed(name, db)
 }
 
-// Whether world has an entry of a name, by bisection: in time linear in log n for n entries.
+// Whether world has an entry of a name. World is sorted by name, so this is a binary search.
 fn is_in_world(name: &[u8], world: &World) -> bool
     ensures { result ≡ has_dependency_named name.now world.now }
 {
