@@ -1,6 +1,6 @@
-//! The outcome of a command that changes the installed packages: what it returns, prints and
-//! leaves. The rules are in `docs/commands.md`, "`add` and `del`" and "What a change does with
-//! files".
+//! The result of a command that changes the installed packages: its refusal, or its report and the
+//! files that it leaves. The rules are in `docs/commands.md`, "`add` and `del`" and "What a change
+//! does with files".
 //!
 //! This crate consists of definitions, and of laws about them. `ChangeOutcome` of `specs/` defines
 //! the outcome of a selection that replaces the packages before: its refusals in their order, the
@@ -9,9 +9,10 @@
 //! reported of configuration that the user changed, and `Triggers` which triggers are due.
 //!
 //! The laws hold for all changes and files: the actions of a change lead to the files of its
-//! definition, its names are those that a change may have, it keeps the paths of the next one free,
-//! and it has at most one first clash of names. They cite `Premises` (what they require of a
-//! change) and `Made` (what is known of one that is not refused).
+//! definition, each name that a change removes or writes may be in an intent (journal entry), a
+//! change keeps the paths that the next one stages free, and it has at most one first clash of
+//! names. They cite `Premises` (what they require of a change) and `Made` (what is known of one
+//! that is not refused).
 #![tactic(auto)]
 
 mod laws;
