@@ -1,5 +1,5 @@
 -- The definitions of this crate, whose rules are in `docs/commands.md`, "`add` and `del`",
--- **What is read** and **What is refused**.
+-- parts "What is read" and "What is refused".
 
 -- passed on: a crate above that names this one need not name these
 pub use Rattle.change_outcome.specs.adb_write as adb_write
