@@ -58,7 +58,7 @@ does_only_read AsksRoot = false
 does_only_read Makes = false
 does_only_read Changes = false
 
--- whether a command first recovers: it finishes the change of an intent that is found
+-- whether a command first recovers: it completes the change of an intent (journal entry) that is found
 abbrev pub does_recover : Effect → Bool
 does_recover Computes = false
 does_recover OnlyReadsFiles = false
@@ -76,7 +76,7 @@ output_name_for_effect Changes command = None
 
 -- ---- of a command line; a usage error reads and changes nothing
 
--- the effect of a command line; a usage error counts as a command that computes
+-- the effect of the command of parsed arguments; a usage error counts as a command that computes
 abbrev pub effect_of_arguments : Result CommandLine ℕ → Effect
 effect_of_arguments (Ok command) = effect_of command.applet
 effect_of_arguments (Err place) = Computes
@@ -86,7 +86,7 @@ abbrev pub depends_only_on_arguments : Result CommandLine ℕ → Bool
 depends_only_on_arguments (Ok command) = ignores_files (effect_of command.applet)
 depends_only_on_arguments (Err place) = true
 
--- whether a command line writes and removes no file of the root
+-- whether a command line writes and removes no file of the root, as is so for a usage error
 abbrev pub reads_only : Result CommandLine ℕ → Bool
 reads_only (Ok command) = does_only_read (effect_of command.applet)
 reads_only (Err place) = true
