@@ -5,7 +5,7 @@ use Rattle.base_core.specs.Lists.{IsIn}
 use Rattle.command_core.specs.declared.operands.Operand.{Operand}
 use Rattle.version_core.specs.Order.{is_version}
 
--- both operands are versions
+-- the texts of both operands are versions
 pub record AreBothVersions (a b : Operand) : Type 0 where
   pub first : is_version a.text ≡ true
   pub second : is_version b.text ≡ true
@@ -16,6 +16,7 @@ pub record IsPlaceOfFirstInvalidVersion (operands : List Operand) (place : ℕ) 
   pub front : List Operand
   pub operand : Operand
   pub rest : List Operand
+  -- together these are all operands
   pub operands_are : operands ≡ front ++ operand ∷ rest
   -- the operand has this place in the command line
   pub place_is : operand.place ≡ place
