@@ -11,16 +11,17 @@ use std::alloc::{AllocError, Global};
 use std::env::{Env, FillError};
 use std::io::{ErrorKind, Write};
 
-/// The most words that a command line may have: 2^32 - 2.
+/// The most words that a command line may have: 2^32 - 2, the most that `Words` of `base_core`
+/// holds.
 const MOST_WORDS: usize = 4294967294;
 
-/// How often an argument is read with a buffer that is doubled after each try for which it was too
-/// short. An argument that never fits counts as out of memory. The buffer has 4,096 bytes at first
-/// and is never made smaller, so that an argument may have two gigabytes.
+/// How often one argument is read, each time with a buffer twice as long as before. An argument
+/// that never fits counts as out of memory. The buffer has 4,096 bytes at first and is never made
+/// smaller, so that an argument may have two gigabytes.
 const MOST_DOUBLINGS: u32 = 20;
 
 /// How many bytes of stack a run takes, after it has read its words and before any call on the
-/// tree. The deepest run of the tests needs some 280,000.
+/// tree. The run of the tests that needs most stack takes some 280,000 bytes.
 const STACK: usize = 524_288;
 
 /// Why the arguments of the command line are not read.
@@ -44,6 +45,7 @@ impl From<AllocError> for ArgumentsFault {
 pub fn words_of(rt: &impl Env, alloc: Global) -> Result<Words, ArgumentsFault> {
     let mut words = Words::new(alloc);
     let mut buffer = vec![in alloc; 0u8; 4096]?;
+    // The argument of the host with number 0 is the name of the program.
     for i in 1..=MOST_WORDS + 1 {
         let Some(len) = read_word(rt, i, &mut buffer)? else {
             return Ok(words);
