@@ -205,6 +205,7 @@ fn read_name<T: Tree>(
 
 /// The kept package at a place of the database, counted from 0, if there is one.
 fn staying(db: &Db<'_>, place: Option<usize>) -> Option<MemberRead>
+    // A kept package at this place, or None without a place.
     ensures { IsReadOfKeptPackage (packages_of db.now)
         (option_and_then (slice_get (packages_of db.now)) place) result }
 {
@@ -248,6 +249,7 @@ pub fn members_of_change<'a>(
     // The packages can be members: kept ones have places in the database, names are in order, few
     // enough.
     requires { CanBeMembers (packages_of db.now) (arrivals_seen arrivals.now) }
+    // The members are those of the definition, in the same order.
     ensures { IfOk result (λ members. members_of members
         ≡ members_of_read_packages (packages_of db.entry.now) (arrivals_seen arrivals.entry.now)) }
 {

@@ -274,6 +274,7 @@ fn package_differs(
 
 /// The end of a call with this refusal, or out of memory if there was no memory for its texts.
 pub(crate) fn told(made: Result<Refusal, AllocError>) -> Refused
+    // If the call made the wanted refusal, the result is this refusal, or out of memory.
     ensures { (wanted : RefusalValue) → IfOk made (λ refusal. refusal ≡ wanted)
         → IsRefusalReported wanted result }
 {

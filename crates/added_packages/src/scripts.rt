@@ -99,7 +99,9 @@ fn first_script(change: &Change<'_>, scripts: &ScriptsView<'_>) -> Option<u16>
 /// The number of the first of two scripts that has bytes, or None if both are empty. `number` is
 /// the number of the script `first`; the script `second` has the next number.
 fn first_of_two(number: u16, first: &[u8], second: &[u8]) -> Option<u16>
+    // The number after it fits into 16 bits too.
     requires { number + 1 < 2 ^ 16 }
+    // The number of the first of the two with bytes, or None.
     ensures { result ≡ (if not (length first.now == 0) then Some number
         else if not (length second.now == 0) then Some (number + 1) else None) }
 {

@@ -49,11 +49,13 @@ pub record IsAnsweredInFull (outcome : Outcome) (answer : Answer)
     (out err : SinkBeforeAndAfter) : Type 0 where
   -- the answer is that of the outcome
   pub same : answer ≡ answer_of outcome
-  -- each sink gets all bytes of the outcome
+  -- standard output gets all bytes of the outcome
   pub out_gets : SinkGets out outcome.out
+  -- standard error gets all bytes of the outcome
   pub err_gets : SinkGets err outcome.err
-  -- no sink failed
+  -- standard output did not fail
   pub out_kept : DidNotFail out
+  -- standard error did not fail
   pub err_kept : DidNotFail err
 
 -- exactly one of the two sinks failed while an outcome was printed
@@ -62,15 +64,17 @@ pub record IsSingleSinkFault (outcome : Outcome) (out err : SinkBeforeAndAfter) 
   pub which :
       (FailedWithBytesToPrint out outcome.out × SinkGets err [] × DidNotFail err)
       ⊎ (FailedWithBytesToPrint err outcome.err × SinkGets out outcome.out × DidNotFail out)
-  -- each sink got the first bytes of what was to be printed on it, or all of them
+  -- standard output got the first bytes of what was to be printed, or all
   pub out_gets : SinkGetsPrefix out outcome.out
+  -- standard error got the first bytes of what was to be printed, or all
   pub err_gets : SinkGetsPrefix err outcome.err
 
 -- no outcome was printed: `err` gets only this line, or a prefix of it if `err` fails; `out` gets nothing, and
 -- does not fail
 pub record PrintsOnlyErrorLine (line : List ℕ) (out err : SinkBeforeAndAfter) : Type 0 where
-  -- standard output gets nothing, and does not fail
+  -- standard output gets nothing
   pub out_gets : SinkGets out []
+  -- standard output does not fail
   pub out_kept : DidNotFail out
   -- standard error gets the line, or the first bytes of it
   pub err_gets : GetsLineOrFailsWithPrefix err line
@@ -127,9 +131,11 @@ IsAnswerExplainedByCounts Memory before after out err =
 
 -- a run in which no count of faults rose: neither the tree's, nor a sink's
 pub record IsFaultless (before after : Counts) (out err : SinkBeforeAndAfter) : Type 0 where
-  -- the count of faults did not rise, and is not at its greatest value: of the tree, and of each sink
+  -- the tree's count of faults did not rise, and is not at its greatest value
   pub tree : ¬ RoseOrIsSaturated before.faults after.faults
+  -- the same for the count of faults of standard output
   pub out_sink : ¬ RoseOrIsSaturated out.before.faults out.after.faults
+  -- the same for the count of faults of standard error
   pub err_sink : ¬ RoseOrIsSaturated err.before.faults err.after.faults
 
 -- the answer is that of an outcome of the command line `words` over these files, unless memory ran out

@@ -104,6 +104,7 @@ IsIndexOutcome command files outcome = outcome ≡ mkndx (reads_in files) files 
 pub record IsIndexFound (command : CommandLine) (made : Result (List ℕ) MakeFault) : Type 0 where
   -- some contents for each read; under an operand it finds nothing, or bytes that a file may have
   pub read : Reads
+  -- under each operand the read finds nothing, or bytes that a file may have
   pub files : AreOperandReadsFileBytes read 0 command.operands
   -- the index of these reads, or the reason for which none is made
   pub is : made_index command read ≡ made

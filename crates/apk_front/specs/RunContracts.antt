@@ -86,15 +86,16 @@ pub record IsRecoveredRun (command : CommandLine) (old now : List TreeState)
   -- on every tree the verdict is that of an outcome for some listing and some contents at each read
   pub by_reads : IfOk judged
       (λ verdict. ReportsOneOfOutcomes (IsPossibleOutcomeAfterRecovery command) verdict)
-  -- on such a tree, the effect of the run is as *IsRunAfterRecovery* says
+  -- on an observable tree without an intent and staged files, the effect of the run is as *IsRunAfterRecovery* says
   pub tree : IfNothingStaged old (λ v. IsRunAfterRecovery (IsOutcomeOverRecoveredFiles command (files_of v))
       (effect_of command.applet)
       (output_name_for_effect (effect_of command.applet) command) judged v old now)
-  -- on such a tree, if memory ran out, nothing was written
+  -- on an observable tree without an intent and staged files: if memory ran out, nothing was written
   pub undone : IfNothingStaged old (λ v. IsErrOf judged Memory → now ≡ old)
   -- if there is a verdict, the tree counted no failed call; an I/O error has its cause in the counts
   pub counts : IsVerdictExplainedByCounts counts_before counts_now judged
-  -- on such a tree, no call is a misuse if the paths that an outcome that commits writes are free
+  -- on an observable tree without an intent and staged files, no call is a misuse if the paths that an outcome that
+  -- commits writes are free
   pub proper : IfNothingStaged old (λ v.
       ((outcome : Outcome) → IsOutcomeOverRecoveredFiles command (files_of v) outcome → outcome.commits
       ≡ true

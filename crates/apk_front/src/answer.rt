@@ -17,7 +17,7 @@ use std::alloc::Global;
 /// The answer of a run.
 #[derive(Drop)]
 pub enum Answer {
-    /// The command was carried out.
+    /// The command ended without a refusal, and its report was printed.
     Ok,
     /// The command was refused, for a fault of its arguments or files.
     Refused(Refusal),
@@ -170,6 +170,7 @@ fn print_report<O: Sink>(bytes: &[u8], out: &mut O) -> Result<(), SinkFault>
 // Prints the line of a refusal, if there is one, and returns the run's answer: the refusal, Ok
 // without one, or the fault of the sink.
 fn print_refusal<E: Sink>(refusal: Option<Refusal>, err: &mut E) -> Answer
+    // The answer and the bytes are those of the refusal, or of the sink's fault.
     ensures printed { IsRefusalPrinted refusal result
         (sink_before_and_after E.bytes E.counts err.old err.new) }
     // No count of the sink falls, and no call is a misuse.
@@ -185,7 +186,7 @@ fn print_refusal<E: Sink>(refusal: Option<Refusal>, err: &mut E) -> Answer
 }
 
 // Prints the line of an I/O error of the tree, or of running out of memory. A fault of the sink is
-// dropped: the answer stays that first fault.
+// dropped: the run answers the first fault.
 fn print_line<E: Sink>(line: &[u8], err: &mut E)
     // The sink gets the whole line, or a prefix of it if the sink fails.
     ensures line { GetsLineOrFailsWithPrefix

@@ -20,6 +20,7 @@ pub(crate) fn change_root<T: Tree>(
     command: &Command,
     tree: &mut T,
 ) -> Result<Verdict, TreeFault>
+    // The command is `add`, `del`, `upgrade` or `fix`.
     requires { effect_of command.now.applet ≡ Changes }
     // The verdict is that of the command's outcome, with its effect on the tree and on the counts.
     ensures run { IsRecoveredRun command.now

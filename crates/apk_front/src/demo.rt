@@ -38,6 +38,7 @@ const REPOSITORIES: &[u8] = b"etc/apk/repositories";
 /// Makes, indexes and installs as many packages as the one operand says. Reports the last line that
 /// the installation printed, or the first refusal. `demo` fails only by running out of memory.
 pub(crate) fn demo(alloc: Global, operands: &Operands) -> Result<Verdict, TreeFault>
+    // There is exactly one operand, and its text is a number.
     requires { IsTrue (are_allowed_operands (Some (exactly 1 Number)) operands.now) }
     // The verdict is that of an outcome of `demo`. The only fault is a lack of memory.
     ensures { MatchResult result
@@ -69,6 +70,7 @@ fn told(alloc: Global, count: u16, last: Verdict) -> Result<Verdict, TreeFault>
 
 // The verdict with the refusal, if there is one, and with the report otherwise.
 fn unless_refused(alloc: Global, refusal: Option<Refusal>, report: Text) -> Verdict
+    // The verdict is that of this outcome, whatever the files are.
     ensures { (files : Files) → as_outcome files result
         ≡ just_report_unless_refusal files refusal report }
 {
@@ -186,6 +188,7 @@ fn run_words(alloc: Global, words: &Words, tree: &mut MemoryTree) -> Result<Verd
 // Puts a file with these bytes under a name in the tree. Each name of `demo` is valid, and is no
 // folder of another name of `demo`. Any other name would be reported as out of memory.
 fn put(alloc: Global, name: &[u8], bytes: &[u8], tree: &mut MemoryTree) -> Result<(), AllocError>
+    // If Ok, the files are those before with this file added.
     ensures { OnOk result (files_of (tree_state tree.new)
         ≡ put_name (files_of (tree_state tree.old)) name.now bytes.now) }
 {

@@ -31,6 +31,7 @@ pub(crate) fn adbdump<T: Tree>(
     operands: &Operands,
     tree: &mut T,
 ) -> Result<Verdict, TreeFault>
+    // There is exactly one operand.
     requires one { length operands.now ≡ 1 }
     // The text of the operand is a valid name of a file.
     requires files { IsTrue (are_files operands.now) }
@@ -47,6 +48,7 @@ pub(crate) fn adbdump<T: Tree>(
 // The verdict on the file that was found for the operand at this place of the command line: its
 // dump text, or a refusal.
 fn verdict_of(alloc: Global, place: u32, found: &Option<Vec<u8>>) -> Result<Verdict, AllocError>
+    // The verdict is that of the definition, whatever the files are.
     ensures { IfOk result (λ verdict. (files : Files)
         → as_outcome files verdict ≡ dump_outcome files place (bytes_in found.now)) }
 {
@@ -66,7 +68,9 @@ fn verdict_of(alloc: Global, place: u32, found: &Option<Vec<u8>>) -> Result<Verd
 // fails.
 #[tactic(auto, unfolding(outcome::specs::Dump::dump_of), using(crate::proofs::Dumping::root_known, crate::proofs::Dumping::dump_is))]
 fn text_of(alloc: Global, bytes: &[u8]) -> Result<Text, ReadFault>
+    // The text is the one that the definition gives for these bytes.
     ensures ok { IfOk result (λ text. dump_of bytes.now ≡ Ok text) }
+    // The fault is that of the definition, or out of memory.
     ensures bad { IfErr result (λ fault. IsDumpFault fault (dump_of bytes.now)) }
 {
     let mut blocks = Blocks::new(bytes)?;
@@ -85,8 +89,10 @@ fn text_of_blocks(alloc: Global, blocks: &mut Blocks<'_>, which: Which) -> Resul
     requires first { blocks.old.last ≡ None }
     // The table is one that may be at a root.
     requires root { IsTrue (is_some (schema_word which)) }
+    // The text is the one that the definition gives for these blocks.
     ensures ok { IfOk result (λ text. dump_of_blocks which (block_stream_from blocks.old)
         ≡ Ok text) }
+    // The fault is that of the definition, or out of memory.
     ensures bad { IfErr result (λ fault.
         IsDumpFault fault (dump_of_blocks which (block_stream_from blocks.old))) }
 {
@@ -104,6 +110,7 @@ fn shape_first<'a>(blocks: &mut Blocks<'a>, which: Which) -> Result<Shaped<'a>, 
     // The returned cause is the first fault of the first block.
     ensures bad { IfErr result (λ cause.
         first_block_head_or_shape_fault which (block_stream_from blocks.old) ≡ Some cause) }
+    // The values were tested by the table `which`.
     ensures table { IfOk result (λ shaped. table_of shaped ≡ which) }
     // The result is the payload of the first block, and the reader is then after this block.
     ensures behind { IfOk result (λ shaped. IsAfterShapedFirstBlock which (payload_of
@@ -121,6 +128,7 @@ fn shape_first<'a>(blocks: &mut Blocks<'a>, which: Which) -> Result<Shaped<'a>, 
 fn shape_payload<'a>(payload: &'a [u8], which: Which) -> Result<Shaped<'a>, Cause>
     // The error is exactly the first fault; without a fault there is no error.
     ensures exact { result_err result ≡ payload_head_or_shape_fault which payload.entry.now }
+    // The values were tested by the table `which`.
     ensures table { IfOk result (λ shaped. table_of shaped ≡ which) }
     // The shaped payload is this payload, not a copy.
     ensures lent { IfOk result (λ shaped. payload_of (adb_of shaped) ≡ payload.entry.now) }

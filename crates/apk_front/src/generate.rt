@@ -22,6 +22,7 @@ pub(crate) fn adbgen<T: Tree>(
     operands: &Operands,
     tree: &mut T,
 ) -> Result<Verdict, TreeFault>
+    // There is exactly one operand.
     requires one { length operands.now ≡ 1 }
     // The text of the operand is a valid name of a file.
     requires files { IsTrue (are_files operands.now) }
@@ -38,6 +39,7 @@ pub(crate) fn adbgen<T: Tree>(
 // The verdict on the text that was found for the operand at this place of the command line: the
 // container that is made of the text, or a refusal.
 fn verdict_of(alloc: Global, place: u32, found: &Option<Vec<u8>>) -> Result<Verdict, AllocError>
+    // The verdict is that of the definition, whatever the files are.
     ensures { IfOk result (λ verdict. (files : Files)
         → as_outcome files verdict ≡ generate_outcome files place (bytes_in found.now)) }
 {

@@ -113,6 +113,7 @@ pub(crate) fn run<T: Tree>(
 // Runs an applet that only reads: nothing is written.
 #[tactic(auto, using(crate::proofs::Operands::dump_operands, crate::proofs::Operands::gen_operands, crate::proofs::Operands::verify_operands, crate::proofs::Operands::version_operand_rule))]
 fn look<T: Tree>(alloc: Global, command: &Command, tree: &mut T) -> Result<Verdict, TreeFault>
+    // The applet only reads, by its effect.
     requires { IsTrue (does_only_read (effect_of command.now.applet)) }
     // The verdict is that of the outcome, and the tree is only read.
     ensures run { IsReadingRun (read_only_outcome command.now)
@@ -158,6 +159,7 @@ pub enum RootAccess {
 /// What the run of a command line does below its root. A run with a usage error counts as one that
 /// only reads. A host asks this before it opens its tree.
 pub fn access_for(alloc: Global, words: &Words) -> Result<RootAccess, AllocError>
+    // `Read` exactly if the command line only reads.
     ensures { IfOk result (λ access. access
         ≡ root_access_if_read_only (reads_only (command_of words.now))) }
 {

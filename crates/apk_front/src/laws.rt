@@ -54,8 +54,10 @@ pub fn what_is_carried_out_is_durable()
 /// From the clause `reads` of `apk`, if there is nothing to recover: while the tree is being
 /// recovered, its files are those at the start of the run, and the command works on these.
 pub fn without_recovery_the_files_are_the_old_ones()
+    // At each moment of a recovery the files are those at the start of the run.
     ensures moments { (effect : Effect) (v w : TreeState) → HasNothingToRecover effect v
         → (does_recover effect ≡ true) × IsStateDuringRecovery v w → files_of w ≡ files_of v }
+    // The files on which the command works are those at the start.
     ensures work { (effect : Effect) (v : TreeState) → HasNothingToRecover effect v
         → files_recovered_if_needed effect (files_of v) ≡ files_of v }
 {}

@@ -46,7 +46,9 @@ pub(crate) fn mkpkg<T: Tree>(
     command: &Command,
     tree: &mut T,
 ) -> Result<Verdict, TreeFault>
+    // The command is one that the grammar of the command line allows.
     requires command { IsValidCommand command.now }
+    // The applet is `mkpkg`.
     requires applet { command.now.applet ≡ Mkpkg }
     // On an observable tree the verdict is that of the outcome over its files.
     ensures found { IfOk result (λ verdict. IfObservable (T.history tree.old) (λ v.
@@ -82,13 +84,15 @@ pub(crate) fn mkndx<T: Tree>(
     command: &Command,
     tree: &mut T,
 ) -> Result<Verdict, TreeFault>
+    // The command is one that the grammar of the command line allows.
     requires command { IsValidCommand command.now }
+    // The applet is `mkndx`.
     requires applet { command.now.applet ≡ Mkndx }
     // On an observable tree the verdict is that of the outcome over its files.
     ensures found { IfOk result (λ verdict. IfObservable (T.history tree.old) (λ v.
         ReportsOneOfOutcomes (IsIndexOutcome command.now (files_of v)) verdict)) }
     // On every tree the verdict is the specification's, for some contents at each read. The files
-    // are not used, so `no_names` stands for them.
+    // are not used, so that `no_names` is written for them.
     ensures by_reads { IfOk result (λ verdict. (read : Reads)
         × AreOperandReadsFileBytes read 0 command.now.operands
         × Reports verdict (mkndx read no_names command.now)) }
@@ -163,6 +167,7 @@ fn finish<T: Tree>(
     report: Text,
     tree: &mut T,
 ) -> Result<Verdict, TreeFault>
+    // The command is one that the grammar of the command line allows.
     requires command { IsValidCommand command.now }
     // If a container was made, the command has an output.
     requires output { IfOk container (λ file. IsSome (output_name command.now)) }
@@ -213,6 +218,7 @@ fn write<T: Tree>(
     report: Text,
     tree: &mut T,
 ) -> Result<Verdict, TreeFault>
+    // The command is one that the grammar of the command line allows.
     requires command { IsValidCommand command.now }
     // The command has an output.
     requires output { IsSome (output_name command.now) }

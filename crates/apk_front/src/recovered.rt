@@ -32,6 +32,7 @@ pub(crate) fn recover_and_run<T: Tree>(
     command: &Command,
     tree: &mut T,
 ) -> Result<Verdict, TreeFault>
+    // The command recovers first, by its effect.
     requires { does_recover (effect_of command.now.applet) ≡ true }
     // What the run answers, and its effect on the tree.
     ensures { IsJudgedRun T.accepts (IsOutcomeWithoutDemo (Ok command.now))
@@ -57,6 +58,7 @@ fn run_recovered<T: Tree>(
     command: &Command,
     tree: &mut T,
 ) -> Result<Verdict, TreeFault>
+    // The command recovers first, by its effect.
     requires { does_recover (effect_of command.now.applet) ≡ true }
     // The verdict is that of the outcome, with its effect on the tree and the tree's counts.
     ensures run { IsRecoveredRun command.now

@@ -46,7 +46,9 @@ fn verdict_by(
     operands: &Operands,
     refusal: Option<Refusal>,
 ) -> Result<Verdict, AllocError>
+    // The text of each operand is a valid name of a file.
     requires { IsTrue (are_files operands.now) }
+    // The verdict is that of this outcome, whatever the files are.
     ensures { IfOk result (λ verdict. (files : Files)
         → as_outcome files verdict
         ≡ just_report_unless_refusal files refusal (sound_lines operands.now)) }
@@ -64,6 +66,7 @@ fn first_refusal<T: Tree>(
     operands: &Operands,
     tree: &mut T,
 ) -> Result<Option<Refusal>, TreeFault>
+    // The text of each operand is a valid name of a file.
     requires { IsTrue (are_files operands.now) }
     // On an observable tree the result is the first refusal of the tree's files, if there is one.
     ensures found { IfOk result (λ refusal. IfObservable (T.history tree.old) (λ v.
@@ -95,6 +98,7 @@ fn test_file<T: Tree>(
     file: &Name,
     tree: &mut T,
 ) -> Result<Option<Refusal>, TreeFault>
+    // The refusal is that of the tree's file, or of some bytes, and the tree is only read.
     ensures { IsFileTest place file.now
         (T.history tree.old) (T.history tree.new) (T.counts tree.old) (T.counts tree.new) result }
 {
@@ -116,6 +120,7 @@ fn test_whole<T: Tree>(
     file: &Name,
     tree: &mut T,
 ) -> Result<Option<Refusal>, TreeFault>
+    // The refusal is that of the tree's file, or of some bytes, and the tree is only read.
     ensures { IsFileTest place file.now
         (T.history tree.old) (T.history tree.new) (T.counts tree.old) (T.counts tree.new) result }
 {
@@ -145,6 +150,7 @@ fn refusal_of(
 
 // The report if all files are sound: a line `FILE: OK` for each operand.
 fn lines(alloc: Global, operands: &Operands) -> Result<Text, AllocError>
+    // The text of each operand is a valid name of a file.
     requires { IsTrue (are_files operands.now) }
     ensures { IfOk result (λ report. report ≡ sound_lines operands.now) }
 {

@@ -22,6 +22,7 @@ pub(crate) fn version(
     flags: Flags,
     operands: &Operands,
 ) -> Result<Verdict, AllocError>
+    // With `--test` there are exactly two operands.
     requires { flags.test ≡ true → length operands.now ≡ 2 }
     // The verdict is that of the outcome, whatever the files are.
     ensures { IfOk result (λ verdict. (files : Files)
@@ -37,6 +38,7 @@ pub(crate) fn version(
 // The verdict of `--test`: the order of two versions, or the refusal of the first operand that is
 // no version.
 fn compare(alloc: Global, operands: &Operands) -> Result<Verdict, AllocError>
+    // There are exactly two operands.
     requires { length operands.now ≡ 2 }
     // The verdict is that of the specification, whatever the files are.
     ensures { IfOk result (λ verdict. (files : Files) → as_outcome files verdict

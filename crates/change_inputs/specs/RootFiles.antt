@@ -16,4 +16,5 @@ pub record AreRootFilesInTree (history : List TreeState) (files : RootFiles) : T
       → IsFileFoundInTree history text_database_name (bytes_in files.text_database)
   -- the same for world and for the list of repositories
   pub world : IsFileFoundInTree history world_name (bytes_in files.world)
+  -- the list of repositories is the file under its name
   pub repositories : IsFileFoundInTree history repositories_name (bytes_in files.repositories)

@@ -64,7 +64,7 @@ impl DatabaseFile {
 
     /// The database of a root, given the database's file and the text database, each None if
     /// absent. The text is used only if there is no database file. If both are absent, `may_begin`
-    /// says whether a database without packages is begun.
+    /// says whether the command may begin a database without packages.
     ///
     /// # Errors
     ///
@@ -89,6 +89,7 @@ impl DatabaseFile {
 
     // The database in the container `file`. Its bytes are tested as a database, and kept.
     fn in_container(alloc: Global, file: Vec<u8>) -> Result<DatabaseFile, Refused>
+        // The result is that of the definition, or out of memory.
         ensures { Agrees database_seen result (container_database file.items) }
     {
         match test_file(alloc, &file, Which::Idb) {
@@ -105,6 +106,7 @@ impl DatabaseFile {
         may_begin: bool,
         text: Option<Vec<u8>>,
     ) -> Result<DatabaseFile, Refused>
+        // The result is that of the definition, or out of memory.
         ensures { Agrees database_seen result (root_database may_begin None (bytes_in text)) }
     {
         match text {
@@ -116,6 +118,7 @@ impl DatabaseFile {
     // The database to which the text database `text` is converted. The converted payload is tested
     // like that of any other database.
     fn in_text(alloc: Global, text: &[u8]) -> Result<DatabaseFile, Refused>
+        // The result is that of the definition, or out of memory.
         ensures { Agrees database_seen result (text_database text.now) }
     {
         match payload_of_text(alloc, text) {
@@ -246,7 +249,9 @@ fn add_packages<'a>(
 // The payload to which a text database is converted, after its tests; or the first fault of the
 // text.
 fn payload_of_text(alloc: Global, text: &[u8]) -> Result<DatabasePayload, V2Fault>
+    // The payload is the one that the definition gives for this text.
     ensures ok { IfOk result (λ own. payload_of_text text.now ≡ Ok own.payload.items) }
+    // The fault is that of the definition, or out of memory.
     ensures err { IfErr result (λ fault. IsV2Fault fault (payload_of_text text.now)) }
 {
     let payload = read_v2(alloc, text)?;

@@ -66,6 +66,7 @@ impl IndexFiles {
 
     /// Opens the index of repository number i + 1, which passed its tests.
     pub(crate) fn open(&self, i: usize) -> IndexView<'_>
+        // `i` is below the number of index files.
         requires { i < length (indexes_seen self.now) }
         ensures { slice_get (indexes_seen self.now) i ≡ Some (index_value result) }
     {
@@ -158,6 +159,7 @@ fn test_index_file(alloc: Global, number: u64, file: &[u8]) -> Result<(), Refuse
     // Ok only if the file passes each test of an index. Otherwise its first fault is refused, or
     // memory ran out.
     ensures answer { Agrees (λ _. index_of_file file.now) result (index_in_file number file.now) }
+    // Ok only if the file passes each test of an index.
     ensures passed { OnOk result (is_index file.now ≡ true) }
 {
     match test_file(alloc, file, Which::Index) {
@@ -183,6 +185,7 @@ pub(crate) fn repositories_of(
     is_allowed: bool,
     found: Option<Vec<u8>>,
 ) -> Result<Repos, Refused>
+    // The result is that of the definition: the repositories, or the refusal; or out of memory.
     ensures { Agrees (λ repositories. repositories) result
         (root_repositories is_allowed (found_text_or_empty (bytes_in found))) }
 {

@@ -175,6 +175,7 @@ impl Loaded {
 
     // Adds the packages of each index to an empty pool; repositories count from 1.
     fn add_indexes<'a>(&'a self, pool: &mut Pool<'a>) -> Result<(), PoolFault>
+        // The pool has no candidate yet.
         requires { pool.old ≡ [] }
         // The pool has no more candidates than it may have.
         ensures fits { OnOk result (length pool.new ≤ MOST_CANDIDATES) }

@@ -73,6 +73,7 @@ pub(crate) fn found_text_or_empty(alloc: Global, found: Option<Vec<u8>>) -> Vec<
 
 // The entries of world that a text has, or the number of its first bad line.
 fn read_world(alloc: Global, text: &[u8]) -> Result<World, Refused>
+    // The result is that of the definition: the entries, or the refusal; or out of memory.
     ensures { Agrees (λ world. world) result (root_world text.now) }
 {
     match World::read(alloc, text) {

@@ -1,6 +1,6 @@
-//! The report of a change of packages that is carried out (apk(8)): lines on the changes, on kept
-//! packages that were to be removed, on modified configuration files and on due triggers, and the
-//! sum over the packages after the change.
+//! The report of a change of packages that is made, not only simulated (apk(8)): lines on the
+//! changes, on kept packages that were to be removed, on modified configuration files and on due
+//! triggers, and the sum over the packages after the change.
 //!
 //! A package watches folders by patterns (apk-package(5)). Its trigger is due for each watched
 //! folder in which a file is written or removed, if the package has a trigger script.

@@ -40,8 +40,8 @@ pub struct ReportedChange<'c, 'd, 'm> {
     pub plan: &'c FilePlan,
 }
 
-/// The report of a change that is carried out. All its memory is allocated before anything is
-/// written.
+/// The report of a change that is made, not only simulated. All its memory is allocated before
+/// anything is written.
 ///
 /// # Errors
 ///
@@ -111,6 +111,7 @@ fn installed_bytes(members: &Members<'_>) -> u128
 
 /// The installed size of the package at a place, counted from 0.
 fn size_at(members: &Members<'_>, i: usize) -> u64
+    // The place is one of the members.
     requires { i < length (members_of members.now) }
     ensures { option_map member_installed_size (slice_get (members_of members.now) i)
         ≡ Some result }

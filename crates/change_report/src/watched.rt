@@ -51,6 +51,7 @@ pub(crate) fn watches_folder(pkg: &PackageView<'_>, folder: &[u8]) -> bool
 
 /// Whether the pattern with index i, counted from 0, matches a folder.
 fn is_matched_at<'a>(patterns: &List<'a, &'a [u8]>, i: usize, folder: &[u8]) -> bool
+    // `i` is below the number of patterns.
     requires { i < count_of (entries_in (list_value patterns.now)) }
     ensures { result
         ≡ is_folder_matched_by_pattern folder.now (text_in (entry_in (list_value patterns.now) i)) }

@@ -51,16 +51,21 @@ pub record IsRefusalOfSpoiledPackage (packages : Result (List MemberFound) Refus
     Type 0 where
   -- the packages after the change, as the reads found them
   pub found : List MemberFound
+  -- `found` are these packages
   pub are : packages ≡ Ok found
   -- one of these packages, which is spoiled
   pub one : MemberFound
+  -- `one` is one of the packages found
   pub among : Contains found one
   -- the bytes of its file when it was tested
   pub tested : List ℕ
+  -- these bytes were read as the file of `one`
   pub read : one.file ≡ Some tested
-  -- a file with the same values and other contents, and the test that it fails
+  -- the bytes of a file with the same values and other contents
   pub file : List ℕ
+  -- the test that this file fails
   pub cause : Cause
+  -- the file differs from `tested` only in contents of files, and fails this test
   pub spoiled : IsFileWithOnlyContentsSpoiled tested file cause
   -- the refusal reports this package as bad, with this cause
   pub is : refusal ≡ PackageBad (member_name one.member) (package_version_text one.member.pkg) cause
@@ -75,9 +80,9 @@ pub record IsPackageFileChangedSinceTested (packages : Result (List MemberFound)
       → ⊥)
   -- the change is not refused, and would write or remove something
   pub commits : DoesCommit wanted
-  -- the refusal reports the package that is spoiled
+  -- the refusal
   pub refusal : Refusal
-  -- the refusal is that of a spoiled package
+  -- the refusal reports one of these packages as spoiled
   pub spoiled : IsRefusalOfSpoiledPackage packages refusal
   -- the run ends with this refusal
   pub is : result ≡ Err (IsRefused refusal)
@@ -90,12 +95,13 @@ pub record IsRunThatCommitsChange (wanted : Result ChangeDone Refusal) (v : Tree
     (old now : List TreeState) (result : Result (List ℕ) Refused) : Type 0 where
   -- the result of the change
   pub done : ChangeDone
+  -- the change is not refused, and has this result
   pub is : wanted ≡ Ok done
   -- the change writes or removes a file
   pub commits : done.commits ≡ true
-  -- what holds in each state of a run that leads to the files of the change
+  -- the states of the run are those of a staged change that leads to the files of `done`
   pub run : IsRunOfStagedChange done.files v old now
-  -- if the run succeeds, the change is complete
+  -- if the run answers Ok, the change is complete (*IsStagedChangeComplete*): the files as read are those of `done`
   pub ok : OnOk result (IsStagedChangeComplete done.files v now)
   -- the run fails only with an I/O error of the tree
   pub err : IfErr result (λ refused. refused ≡ Disk)

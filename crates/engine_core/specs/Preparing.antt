@@ -160,6 +160,7 @@ pub record AreNewRecordsOf (inputs : Inputs) (records : NewRecords) : Type 0 whe
   pub world : records.world ≡ world_text inputs.root.new_world
   -- both have the names of their files
   pub database_name : records.database_name ≡ Names.database_name
+  -- the name for world is that of its file
   pub world_name : records.world_name ≡ Names.world_name
 
 -- the bytes that are to be written of a file: these bytes if the test is true, and otherwise None

@@ -72,7 +72,7 @@ pub record IsRunCounted {A : Type 0} (before after : Counts) (result : Result A 
   pub goes_on : CountsOnlyRise before after
   -- an I/O error is answered only if a failed call was counted, with its cause
   pub disk : IsErrOf result Disk → IsFaultCountedWithCause before after
-  -- in a run that answers otherwise, neither the count of faults nor that of calls without memory rose: after Ok,
-  -- and after a refusal or out of memory
+  -- after Ok, neither the count of faults nor that of calls without memory rose
   pub kept : OnOk result (CountsNoNewFault before after)
+  -- after a refusal or out of memory, neither of these two counts rose
   pub others : IfErr result (λ refused. (refused ≡ Disk → ⊥) → CountsNoNewFault before after)

@@ -1,6 +1,5 @@
--- What a selection of the program means. Serves the contracts of `src/choosing.rt`, which makes a
--- `Selection`, and of the steps that use one; the rules are in `docs/commands.md`, "`add` and `del`", part "What is
--- refused", and
+-- What a selection of the program means. Serves the contracts of `src/choosing.rt`, which makes a `Selection`, and of
+-- the steps that use one; the rules are in `docs/commands.md`, "`add` and `del`", part "What is refused", and
 -- "`upgrade` and `fix`".
 use Rattle.std.specs.Prelude.{◌≡◌, ℕ, List, Ok, Option, Result}
 use Rattle.change_report.specs.change_inputs.Answers.{Agrees}

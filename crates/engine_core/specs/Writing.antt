@@ -38,7 +38,9 @@ pub record IsFileOfWrite (packages : PackagesRead) (w : FileWrite) (f : Packaged
   pub read : packages w.member ≡ Some f.package.now
   -- the write and the file are of the same member, folder and place in the folder
   pub member : f.member ≡ w.member
+  -- the folder has the same position in the package
   pub folder : f.folder ≡ w.folder
+  -- the file has the same position in the folder
   pub file : f.file ≡ w.file
 
 -- the source of a write's bytes: a link's text, or the file in the package
@@ -55,6 +57,7 @@ pub record IsFileWrite (members : List Member) (packages : PackagesRead) (planne
     (write : StagedWrite) : Type 0 where
   -- a file of the plan
   pub file : FileWrite
+  -- this file is one that the plan writes
   pub planned_file : Contains planned file
   -- the staged file has the name of this file
   pub named : name_of_write write ≡ file.name

@@ -67,6 +67,7 @@ pub fn change<T: Tree>(alloc: Global, command: &Command, tree: &mut T) -> Result
 fn simulate(alloc: Global, selection: &Selection<'_>) -> Result<Text, AllocError>
     // The opened database is the one that was read of the root.
     requires { HasDatabaseOfInputs selection.now }
+    // The report is that of the definition, for the replacement of this selection.
     ensures { IfOk result (λ report. report ≡ simulated_report (replacement_seen selection.now)
         (names_to_remove selection.now.command.now.applet
         selection.now.command.now.operands)) }

@@ -52,6 +52,7 @@ pub(crate) fn choose<'a>(
     upgraded: &'a Words,
     loaded: &'a Loaded,
 ) -> Result<Selection<'a>, Refused>
+    // `upgraded` are the operands of `upgrade`.
     requires { upgraded.now ≡ names_of_upgrade command.now.applet command.now.operands }
     // The result is what the command selects by the one choice among its candidates, or its
     // refusal.
@@ -86,6 +87,7 @@ fn first_selection<'a>(
     loaded: &'a Loaded,
     pool: &Sealed<'a>,
 ) -> Result<Trace, Refused>
+    // The candidates are to satisfy the new world of what was read.
     requires { pool.now.world ≡ (inputs_seen loaded.now).root.new_world }
     // There is a choice (a selection, or None), and the result is the answer to this choice.
     ensures { (chosen : Option (List ℕ)) × IsPreferredChoice pool.now chosen

@@ -77,6 +77,7 @@ fn package_bad(
     place: usize,
     cause: Cause,
 ) -> Result<Refusal, AllocError>
+    // The place is one of the members.
     requires { place < length (members_of members.now) }
     ensures { IfOk result (IsPackageBad (members_of members.now) place cause) }
 {
@@ -93,6 +94,7 @@ fn package_bad(
 /// How a change ends if the package of the member at this place (index) is bad when it is read once
 /// more: the refusal of `package_bad`, or out of memory.
 fn refused_package(alloc: Global, members: &Members<'_>, place: usize, cause: Cause) -> Refused
+    // The place is one of the members.
     requires { place < length (members_of members.now) }
     ensures { IsRefusedPackage (members_of members.now) place cause result }
 {

@@ -166,6 +166,7 @@ fn test_triggers(
 
 /// The name of the member at this place (index): a package that is installed after the change.
 fn member_name(alloc: Global, members: &Members<'_>, place: usize) -> Result<Text, AllocError>
+    // The place is one of the members.
     requires { place < length (members_of members.now) }
     ensures { IfOk result (λ name. name ≡ member_name_at_place (members_of members.now) place) }
 {

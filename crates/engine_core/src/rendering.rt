@@ -33,7 +33,7 @@ use journal_staging::StagedWrite;
 use root_names::{database_name, world_name};
 use std::alloc::{AllocError, Global};
 
-/// A change as it is to be carried out: what is written, the journal entry, and the report.
+/// A change as it is to be committed: its writes, the journal entry, and the report.
 #[derive(Drop)]
 pub(crate) struct Rendered<'c> {
     /// What is written, in byte order of the names: files of packages, the database and world.

@@ -51,6 +51,7 @@ fn target_in_folders<'c>(folders: &List<'c, DirInfo<'c>>, folder: u32, file: u32
 
 /// The link target of the file at position `file`, counted from 1, among the files of one folder.
 fn target_in_files<'c>(files: &List<'c, FileInfo<'c>>, file: u32) -> &'c [u8]
+    // The position is at least 1, and at most the number of files.
     requires low { 0 < file }
     requires high { file ≤ count_of (entries_in (list_value files.now)) }
     ensures { result.now ≡ file_target (entry_in (list_value files.now) (file - 1)) }

@@ -66,6 +66,7 @@ pub(crate) fn names_of_upgrade(alloc: Global, command: &Command) -> Result<Words
 /// The names that the command upgrades, given the texts `names` of the operands of `upgrade`: none
 /// if the command is not `upgrade`.
 pub(crate) fn names_to_upgrade<'a>(command: &Command, names: &'a Words) -> Upgrade<'a>
+    // `names` are the operands of `upgrade`.
     requires { names.now ≡ names_of_upgrade command.now.applet command.now.operands }
     ensures { names_upgraded_by result
         ≡ names_to_upgrade command.now.applet command.now.operands }
@@ -78,7 +79,9 @@ pub(crate) fn names_to_upgrade<'a>(command: &Command, names: &'a Words) -> Upgra
 
 // The names that `upgrade` upgrades: the listed ones, or all if none is listed.
 fn all_or_listed(names: &Words) -> Upgrade<'_>
+    // Without operands, all names are upgraded.
     ensures all { names.entry.now ≡ [] → names_upgraded_by result ≡ all_names }
+    // With operands, just their texts are upgraded.
     ensures listed { (names.entry.now ≡ [] → ⊥)
         → names_upgraded_by result ≡ listed_names names.entry.now }
 {
@@ -137,6 +140,7 @@ fn first_not_installed(operands: &Operands, db: &Db<'_>) -> Option<u32>
 
 // Whether world has an entry of a name, or a package of this name is installed.
 fn is_known(name: &[u8], loaded: &Loaded, db: &Db<'_>) -> bool
+    // The opened database has the packages that were read of the root.
     requires { packages_of db.now ≡ (inputs_seen loaded.now).root.database.packages }
     ensures { result ≡ is_known_name (inputs_seen loaded.now) name.now }
 {

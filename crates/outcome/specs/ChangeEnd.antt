@@ -73,6 +73,7 @@ pub record IsInputRefused (command : CommandLine) (files : Files) (o : Outcome) 
 pub record IsRefusedAsUnsatisfiable (command : CommandLine) (files : Files) (o : Outcome) : Type 0 where
   -- the candidates of the command, under its new world
   pub pool : SealedPool
+  -- the command has these candidates
   pub is_pool : pool_of_command command (reads_in files) ≡ Ok pool
   -- no selection of them satisfies the new world
   pub none : (selection : List ℕ) → IsSatisfying pool selection → ⊥
@@ -94,7 +95,7 @@ pub record IsChangeDoneAndReported (command : CommandLine) (files : Files) (sele
   -- a simulated change leaves the files unchanged, and commits nothing
   pub simulated : command.flags.simulate ≡ true → (o.files ≡ files) × (o.commits ≡ false)
 
--- how a change ends once its candidates are selected: it is carried out and reported, or refused for a
+-- how a change ends once its candidates are selected: it is made (or simulated) and reported, or refused for a
 -- fault of its packages (*is_refusal_after_choice*)
 abbrev pub IsEndOfSelectedChange :
     CommandLine → Files → InputsAndReplacement → Result ChangeDone Refusal → Outcome → Type 0
@@ -104,7 +105,7 @@ IsEndOfSelectedChange command files selected (Err refusal) o =
     (is_refusal_after_choice refusal ≡ true) × (o ≡ just_refusal files refusal)
 
 -- the preferred selection (`trace`, places of candidates) replaces the packages before, and the change
--- ends with it: carried out, or refused
+-- ends with this selection: made (or simulated), or refused
 pub record TakesFirstPreferredSelection (command : CommandLine) (files : Files) (o : Outcome) : Type 0 where
   -- the candidates of the command
   pub pool : SealedPool

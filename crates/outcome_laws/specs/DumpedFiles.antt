@@ -22,9 +22,11 @@ use Rattle.container_laws.specs.pkg_core.Whole.{table_of_schema}
 pub record HasDumpTextOfRootValue (file text : List ℕ) : Type 0 where
   -- the schema number in the header of the file
   pub schema : ℕ
+  -- the header has this schema
   pub header : schema_of_header file ≡ Ok schema
   -- the table that this schema has at its root
   pub which : Which
+  -- the schema has this table at its root
   pub root : table_of_schema schema ≡ Some which
   -- the text is that of the value of the file, by this table
   pub text_is : text ≡ dump_text which (root_value which (payload_in file))

@@ -39,7 +39,9 @@ pub record IsRefusalOfFirstUnsoundFile (read : Reads) (operands : List Operand)
     (refusal : Refusal) : Type 0 where
   -- the index of the operand, counted from 0
   pub number : ℕ
+  -- the operand with this index
   pub operand : Operand
+  -- the operand has this index among all operands
   pub at : slice_get operands number ≡ Some operand
   -- the refusal is that of the file under this operand
   pub refused : IsFileRefusal (read number (without_dot_slash operand.text)) operand.place refusal

@@ -75,7 +75,9 @@ impl<'a> OldPackage<'a> {
     /// The fields of this installed package. `_mark` serves only the borrow checker: it does not
     /// know the parts of a view that is made and lent here unless the signature names the view.
     pub(crate) fn of(pkg: &PackageView<'a>, _mark: PhantomData<PackageView<'a>>) -> OldPackage<'a>
+        // The version is the text that the package's information has.
         ensures version { result.version.now ≡ package_version_text (package_value pkg.now) }
+        // The id is that of the installed package.
         ensures id { result.id.now ≡ installed_id (package_value pkg.now) }
     {
         let info = pkg.info();
@@ -102,6 +104,7 @@ pub(crate) fn purge<'a>(
     i: usize,
     _mark: PhantomData<PackageView<'a>>,
 ) -> Change<'a>
+    // The place is one of the database.
     requires { i < length (packages_of db.now) }
     // The result is the change between the package at this place and no candidate.
     ensures { option_map (λ p. change_between false name.entry.now (Some p) None)
@@ -124,6 +127,7 @@ pub(crate) fn replace<'a>(
     is_again: bool,
     _mark: PhantomData<PackageView<'a>>,
 ) -> Option<Change<'a>>
+    // The place is one of the database.
     requires { i < length (packages_of db.now) }
     // The result is the change between the package at this place and the new candidate.
     ensures { option_map (λ p. change_between is_again name.entry.now (Some p)

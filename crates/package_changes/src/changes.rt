@@ -72,6 +72,7 @@ impl<'a> Changes<'a> {
 
     /// The change with index i among the changes, counted from 0.
     pub fn get(&self, i: usize) -> &PlacedChange<'a>
+        // `i` is below the number of changes.
         requires { i < length (changes_seen self.now) }
         ensures { slice_get (changes_seen self.now) i ≡ Some (placed_change_seen result.now) }
     {

@@ -98,6 +98,7 @@ impl<'a> PlacedNames<'a> {
 
     /// The name with index i, counted from 0, and what happens to its package.
     pub fn get(&self, i: usize) -> &PlacedName<'a>
+        // `i` is below the number of names.
         requires { i < length (placed_names_seen self.now) }
         ensures { slice_get (placed_names_seen self.now) i ≡ Some (placed_name_seen result.now) }
     {
@@ -139,6 +140,7 @@ fn push_old_names<'a>(names: &mut Vec<&'a [u8]>, db: &Db<'a>) -> Result<(), Allo
 /// borrow checker: it does not know the parts of a view that is made and lent here unless the
 /// signature names the view.
 fn name_at<'a>(db: &Db<'a>, i: usize, _mark: PhantomData<PackageView<'a>>) -> &'a [u8]
+    // The place is one of the database.
     requires { i < length (packages_of db.now) }
     ensures { option_map package_name (slice_get (packages_of db.now) i) ≡ Some result.now }
 {

@@ -50,6 +50,7 @@ fn selected_among<'n>(
     names: &[&'n [u8]],
     selected: &SelectedNames<'_>,
 ) -> Result<Vec<&'n [u8]>, AllocError>
+    // Exactly the names for which the table `selected` has a place, in their order.
     ensures { IfOk result (λ found. found.items
         ≡ filter (λ name. is_some (place_paired_with_name name.now selected.now)) names.now) }
 {

@@ -29,14 +29,17 @@ use Rattle.apk_front.specs.words_core.Grammar.{command_of}
 pub record Run : Type 0 where
   -- the command line, without the program's name
   pub words : List (List ℕ)
-  -- the tree's history before the run (`old`) and after it (`now`)
+  -- the tree's history before the run, the newest state first
   pub old : List TreeState
+  -- the tree's history after the run
   pub now : List TreeState
-  -- the tree's counts of failed calls before the run and after it
+  -- the tree's counts of failed calls before the run
   pub before : Counts
+  -- the tree's counts after the run
   pub after : Counts
-  -- standard output and standard error, before the run and after it
+  -- standard output, before the run and after it
   pub out : SinkBeforeAndAfter
+  -- standard error, before the run and after it
   pub err : SinkBeforeAndAfter
   -- how the run ended
   pub answer : Answer

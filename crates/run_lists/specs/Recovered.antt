@@ -84,7 +84,7 @@ pub record IsRecoveredBy (HasState : Files → Type 0) (w : TreeState) (next : R
   pub unrefused : IsNotRefusedForIntent next
   -- the intent, if there is one, is not bad
   pub works : recovery_fault (effect_of_arguments (command_of next.words)) (files_of w) ≡ None
-  -- recovery leaves files of this state, with nothing left to do
+  -- recovery leaves files of this state, without an intent and staged files
   pub files : AreRecoveredWithState HasState (unstaged_files (files_of w))
   -- after an answer whose outcome commits nothing, the files as read are the recovered ones
   pub read : IsOkRefusedOrOutputFault next.answer → HasOutcomeWithoutCommit (IsOutcomeFrom w next)

@@ -41,6 +41,7 @@ pub record LeavesFilesOfAnsweredOutcome (ignored : List ℕ → Bool) (v : TreeS
     (w : TreeState) : Type 0 where
   -- an outcome of the run
   pub outcome : Outcome
+  -- this is an outcome of the run's command line over the files as read in v
   pub is_outcome : IsOutcomeFrom v run outcome
   -- the answer is that of the outcome, or a fault of a sink
   pub answered : (run.answer ≡ answer_of outcome) ⊎ (run.answer ≡ OutFault)

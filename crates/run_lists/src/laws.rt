@@ -134,7 +134,8 @@ pub fn a_root_that_commits_nothing_keeps_its_state()
 /// recovered ones or the outcome's. The same holds along runs that follow each other without a
 /// crash. This excludes the intent's name and temporary names, and needs no file to be synced.
 pub fn each_name_keeps_old_recovered_or_new_bytes()
-    // At each moment of a run each name has such bytes, except names of the journal and temporary
+    // At each moment of a run each name has its old bytes, its recovered ones or those of
+    // an outcome that commits, except names of the journal and temporary
     // ones.
     ensures moments { (v m : TreeState) (run : Run) (q : List ℕ) → IsRunFrom v run
         → IsMomentOf run m → IsNoJournalOrDraftName run q
@@ -176,6 +177,7 @@ pub fn a_bad_intent_and_all_files_are_kept()
 /// of an outcome of the run, and each crash leaves exactly these bytes. Names of the journal, of
 /// the output and ignored names are left out.
 pub fn the_actions_of_an_intent_are_durably_done()
+    // v is the state in which the run begins, m a moment of this run, and q a name.
     ensures { (ignored : List ℕ
         → Bool) (first v m : TreeState) (events : List RootEvent) (run : Run)
         → ignored intent_name ≡ false → IsDurable (StateDependsOn ignored) first
