@@ -117,8 +117,8 @@ pub fn read_arrivals<T: Tree>(
         (members_after (replacement_of
         (placed_replacement_from_parts db.now pool.now trace again)) read
         repositories.now no_scripts)) }
-    // The packages can be members: each kept one has a place in the database, they are in byte
-    // order of names, and few enough if the candidates are.
+    // The packages can be members (*CanBeMembers*), if there are no more candidates than members
+    // are allowed: they are in byte order of names, and each kept one has a place in the database.
     ensures members { (trace : List ℕ) (again : List (List ℕ))
         → placed_names_seen names.now
         ≡ placed_names_of (placed_replacement_from_parts db.now pool.now trace again)

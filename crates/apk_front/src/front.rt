@@ -155,25 +155,27 @@ pub fn apk<T: Tree, O: Sink, E: Sink>(
         (effect_of_arguments (command_of words.now)) (output words.now) v (T.history tree.old)
         (T.history tree.new)) }
 
-    // If there was an intent, then from the moment at which none is read a crash undoes no change
-    // of a name: the intent's change is durable. This excludes OUTPUT, OUTPUT.apk-tmp and staged
-    // files.
+    // If an intent was found, then from the moment at which no intent is read a crash undoes no
+    // change of a name: the change of the intent is durable. This excludes OUTPUT, OUTPUT.apk-tmp
+    // and staged files.
     ensures last { IfObservable (T.history tree.old) (λ v. IsSome (v.names intent_name)
         → Since (NamesAreDurableWithoutIntentExcept (output words.now)) (T.history tree.old)
         (T.history tree.new)) }
 
     // ---- what a crash leaves of a durable tree
 
-    // A run that commits nothing leaves the state unchanged: at each moment a crash leaves a state
-    // from before, and the files as read have the old one.
+    // A run that is refused, runs out of memory or commits nothing leaves the state unchanged: at
+    // each moment a crash leaves a state from before the run, and the files as read have the old
+    // state.
     ensures left { IfObservable (T.history tree.old) (λ v.
         IsRefusedOrCommitsNothing (IsOutcome (command_of words.now) (files_of v)) result
         → (ignored : List ℕ → Bool) → IsDurable (StateDependsOn ignored) v
         → Since (StateIsUnchanged ignored v) (T.history tree.old) (T.history tree.new)) }
 
-    // Every run leaves the state unchanged, or it has an outcome that commits, and at each moment a
-    // crash leaves the old files or the outcome's; OUTPUT.apk-tmp may be left too. A state includes
-    // a bad intent, so a crash leaves one only if it might have left one before.
+    // Every run leaves the state unchanged, or has an outcome that commits, and at each moment a
+    // crash leaves an old state or that of the outcome's files; OUTPUT.apk-tmp may be left too. A
+    // state includes a bad intent, so a crash leaves a bad intent only if it might have left one
+    // before.
     ensures crash { IfObservable (T.history tree.old) (λ v. (ignored : List ℕ → Bool)
         → IsDurable (StateDependsOn ignored) v
         → IgnoresScratchNameOfOutput (output words.now) ignored
@@ -189,8 +191,8 @@ pub fn apk<T: Tree, O: Sink, E: Sink>(
         → HoldsNow (T.history tree.new) (IsDurable (StateDependsOn ignored))) }
 
     // Once the outcome is answered, even a refusal, or a sink's fault instead, each crash leaves
-    // its files. If it commits nothing, this holds if each crash left the old ones before, or if an
-    // intent was found and done.
+    // the outcome's files. For an outcome that commits nothing, one of two things must hold: each
+    // crash left the files as read before the run, or an intent was found and its change completed.
     ensures settled { IfObservable (T.history tree.old) (λ v. (ignored : List ℕ → Bool)
         → IsDurable (StateDependsOn ignored) v
         → IgnoresScratchNameOfOutput (output words.now) ignored

@@ -165,7 +165,8 @@ impl DatabaseFile {
         // The installed packages are then in the pool: each is marked or appended as a candidate.
         ensures ok { OnOk result (pool.new
             ≡ with_all_installed pool.old (database_seen self.entry.now).packages) }
-        // The only errors are too many candidates, and a lack of memory.
+        // The errors are too many candidates, with the number that there would be, and out of
+        // memory.
         ensures fault { IfErr result (λ fault. IsPoolFault fault (length
             (with_all_installed pool.old (database_seen self.entry.now).packages))) }
     {
@@ -206,7 +207,7 @@ impl DatabaseContainer {
         payload_in(&self.file)
     }
 
-    // The database in the file.
+    // The database in the file, opened.
     fn idb(&self) -> IdbView<'_>
         ensures { idb_value result ≡ root_value Tables.Idb (payload_in self.now.file.items) }
     {
@@ -215,7 +216,7 @@ impl DatabaseContainer {
 }
 
 impl DatabasePayload {
-    // The database in the payload.
+    // The database in the payload, opened.
     fn idb(&self) -> IdbView<'_>
         ensures { idb_value result ≡ root_value Tables.Idb self.now.payload.items }
     {
@@ -223,7 +224,7 @@ impl DatabasePayload {
     }
 }
 
-// Adds each installed package to a pool. A list's entries count from 1.
+// Adds each installed package to a pool. The entries of `packages` are numbered from 1.
 fn add_packages<'a>(
     pool: &mut Pool<'a>,
     packages: &List<'a, PackageView<'a>>,

@@ -163,7 +163,8 @@ impl Loaded {
         ensures ok { IfOk result (λ pool. pool ≡ candidates_of (inputs_seen self.now)) }
         // The pool has no more candidates than it may have.
         ensures fits { IfOk result (λ pool. length pool ≤ MOST_CANDIDATES) }
-        // The candidates are refused only for their count, or if memory runs out.
+        // The errors are too many candidates, with the number that there would be, and out of
+        // memory.
         ensures fault { IfErr result (λ fault.
             IsPoolFault fault (length (candidates_of (inputs_seen self.now)))) }
     {
@@ -183,7 +184,8 @@ impl Loaded {
         ensures ok { OnOk result (pool.new
             ≡ candidates_of_repositories_from 1 self.entry.now.root.repositories
             (indexes_seen self.entry.now.indexes)) }
-        // Too many candidates are refused by the number that the list would have.
+        // The errors are too many candidates, with the number that there would be, and out of
+        // memory.
         ensures fault { IfErr result (λ fault. IsPoolFault fault (length
             (candidates_of_repositories_from 1 self.entry.now.root.repositories
             (indexes_seen self.entry.now.indexes)))) }

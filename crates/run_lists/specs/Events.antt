@@ -199,8 +199,8 @@ IsEventWithoutCommit v Crashes = Unit {0}
 IsEventWithoutCommit v Edits = ⊥
 IsEventWithoutCommit v (Touches theirs) = Unit {0}
 
--- a root that was in the state `first` has seen these events, the newest first, and is in state w; no event was an edit
--- by others or a run that commits
+-- a root that was in the state `first` has seen these events, the newest first, and is in state w; each event is a
+-- crash, a touch by others, or a run that commits nothing
 abbrev pub ReachesWithoutCommit : TreeState → List RootEvent → TreeState → Type 0
 ReachesWithoutCommit first [] w = w ≡ first
 ReachesWithoutCommit first (event ∷ earlier) w =
