@@ -2,10 +2,10 @@
 //! and each file is read in pieces and tested once.
 //!
 //! The input is the change of each name (crate `package_changes`). `read_arrivals` returns the
-//! packages after the change, each as it is kept in the database or as its file has it, or the
-//! refusal of the first bad package; `members_of_change` makes members from them. The contracts
-//! cite `members_after` of crate `change_outcome`, and `Arrivals` of `specs/`: a package that was
-//! read is the one that the definition finds.
+//! packages after the change, or the refusal of the first bad package. A kept package is as the
+//! database has it, an added one as its file has it. `members_of_change` makes members from them.
+//! The contracts cite `members_after` of crate `change_outcome`, and `Arrivals` of `specs/`: a
+//! package that was read is the one that the definition finds.
 //! The rules are in `docs/commands.md`, "`add` and `del`": parts "What is read" and "What is
 //! refused" (package by package, in byte order of the names); the terms in `docs/names.md`, "A
 //! change of what is installed".

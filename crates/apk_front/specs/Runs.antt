@@ -1,5 +1,5 @@
--- The effect of a run on a tree. `IsOne` says which outcomes the run has, `judged` is its verdict or error, `v` the
--- state in which it begins, `old` and `now` are the histories before and after it. Serves the contracts of `judge`, of
+-- The effect of a run on a tree. `IsOne` says which outcomes the run has, and `judged` is its verdict or error. The run
+-- begins in the state `v`; `old` and `now` are the histories before and after it. Serves the contracts of `judge`, of
 -- `recover_and_run` and of each command that `recover_and_run` runs. The rules are in `docs/crash-safety.md`,
 -- "Recovery".
 use Rattle.std.specs.Prelude.{◌≡◌, ◌⊎◌, ℕ, Bool, true, false, is_some, IsSome, IsErrOf, List, Option, None, Result, OnOk}
@@ -70,8 +70,8 @@ pub record IsRunAfterRecovery (IsOne : Outcome → Type 0) (effect : Effect) (ou
       (IsDurableAndLeavesFiles (ignored_except_output output ignored) outcome.files))
   -- in each state the files as read are those at the start, or the states are those of a run that commits
   pub reads : AreFilesReadWithoutRecovery IsOne effect output v old now
-  -- if no crash undoes a change of a name at the start, none does as long as no intent is read, except
-  -- for the output and staged files
+  -- Suppose that no crash undoes a change of a name at the start. Then none does so as long as no intent is read,
+  -- except for the names of the output and of staged files
   pub last : NamesOutsideJournalAreDurable v → Since (NamesAreDurableWithoutIntentExcept output) old now
   -- if there is a verdict, the files as read are those of the outcome
   pub leaves : (outcome : Outcome) → IsOne outcome

@@ -130,8 +130,8 @@ pub fn apk<T: Tree, O: Sink, E: Sink>(
     ensures promised { effect_of_arguments (command_of words.now) ≡ Changes
         → AreRecoveryTargetsAccepted T.accepts (T.history tree.old) (T.history tree.new) }
 
-    // If there is nothing to recover, nothing is written by a run that is refused, that runs out of
-    // memory, or whose outcome commits nothing, whatever is answered instead.
+    // If there is nothing to recover, these runs write nothing, whatever is answered instead: those
+    // that are refused, that run out of memory, or whose outcome commits nothing.
     ensures idle { IfObservable (T.history tree.old) (λ v.
         IsRefusedOrCommitsNothing (IsOutcome (command_of words.now) (files_of v)) result
         → HasNothingToRecover (effect_of_arguments (command_of words.now)) v

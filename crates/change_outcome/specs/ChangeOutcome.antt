@@ -148,8 +148,8 @@ member_sum_line members =
 abbrev pub touched_paths : FileChange → Files → List (List ℕ)
 touched_paths change files = map (λ w. w.name) (file_writes_of change files) ++ removals_of change files
 
--- The report of a change, in this order: a line for each package that changes, for each kept name that was to be
--- removed, for each modified configuration file, for each due trigger, and the sums.
+-- The report of a change. It has these lines, in this order: one for each package that changes, for each kept name that
+-- was to be removed, for each modified configuration file, and for each due trigger; and the sums.
 abbrev pub change_report : Replacement → ChangeWishes → FileChange → Files → List ℕ
 change_report r wishes change files =
     change_lines (changes_of r) ++ still_needed_lines r.before r.selected wishes.to_remove

@@ -4,14 +4,14 @@
 //!
 //! This crate consists of definitions, and of laws about them. `ChangeOutcome` of `specs/` defines
 //! the outcome of a selection that replaces the packages before: its refusals in their order, the
-//! files afterwards, and the report. `MembersAfter` defines the packages after the change,
-//! `PackageFiles` how the file of an added one is found and tested, `ConfigurationLines` what is
-//! reported of configuration that the user changed, and `Triggers` which triggers are due.
+//! files afterwards, and the report. `MembersAfter` defines the packages after the change, and
+//! `PackageFiles` how the file of an added package is found and tested. `ConfigurationLines`
+//! defines the report on modified configuration files, and `Triggers` which triggers are due.
 //!
-//! The laws hold for all changes and files: the actions of a change lead to the files of its
-//! definition, each name that a change removes or writes may be in an intent (journal entry), a
-//! change keeps the paths that the next one stages free, and it has at most one first clash of
-//! names. They cite `Premises` (what they require of a change) and `Made` (what is known of one
+//! The laws hold for all changes and files. The actions of a change lead to the files of its
+//! definition. Each name that a change removes or writes may be in an intent (journal entry). A
+//! change keeps the paths that the next one stages free, and has at most one first clash of names.
+//! The laws cite `Premises` (what they require of a change) and `Made` (what is known of a change
 //! that is not refused).
 #![tactic(auto)]
 

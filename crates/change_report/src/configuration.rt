@@ -22,8 +22,8 @@ pub(crate) struct Notice<'p> {
     pub(crate) is_kept: bool,
 }
 
-/// Adds a line for each path beside which a new file is written, and for each path at which a
-/// modified file is kept, in byte order of the paths.
+/// Adds two kinds of lines, in byte order of the paths: one for each path beside which a new file
+/// is written, and one for each path at which a modified file is kept.
 #[tactic(auto, unfolding(change_outcome::specs::ConfigurationLines::configuration_lines))]
 pub(crate) fn push_configuration_lines(
     alloc: Global,

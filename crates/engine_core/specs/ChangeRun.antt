@@ -115,11 +115,11 @@ IsUnchangedOrCommit wanted v old now result =
 
 -- ---- the answer and the effect together
 
--- How a run ends whose change has the result `wanted`, and for which the reads find these packages. The run answers
--- the report or the refusal of `wanted`, or that one of these packages has changed, or that the tree failed or memory
--- ran out. If there is neither an intent nor a staged file at its start, the tree is unchanged, or the change is
--- committed, or the tree fails on the way. No call is a misuse if the paths are free for the stage of a change that
--- commits.
+-- How a run ends whose change has the result `wanted`, and for which the reads find these packages. The run answers the
+-- report or the refusal of `wanted`, or that one of these packages has changed, or that the tree failed or memory ran
+-- out. Suppose that there is neither an intent nor a staged file at the start. Then the tree is unchanged, or the
+-- change is committed, or the tree fails on the way. No call is a misuse if the paths are free for the stage of a
+-- change that commits.
 pub record IsEndOfRunOfWantedChange (packages : Result (List MemberFound) Refusal)
     (wanted : Result ChangeDone Refusal) (old now : List TreeState) (before after : Counts)
     (result : Result (List ℕ) Refused) : Type 0 where

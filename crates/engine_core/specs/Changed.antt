@@ -74,8 +74,8 @@ change_of_selected command read files clash s =
     if command.flags.simulate then Ok (simulated_change s.replacement (wishes_of command) files) else
     change_or_refusal s.inputs s.replacement (wishes_of command) read clash files
 
--- the result of a command that changes what is installed, or its first refusal, given the places `chosen` of the chosen
--- candidates and the first clash of names
+-- the result of a command that changes what is installed, or its first refusal. `chosen` are the places of the chosen
+-- candidates, and `clash` is the first clash of names
 unfoldable pub change_of_command :
     CommandLine → Reads → Files → Option (List ℕ) → Option NamePair → Result ChangeDone Refusal
 change_of_command command read files chosen clash =

@@ -1,11 +1,11 @@
 //! A change of the installed packages: `add`, `del`, `upgrade` and `fix`, from their arguments to
 //! their report or refusal. `apk_front` calls `change` after recovery.
 //!
-//! The contract of `change` cites these modules of `specs/`: `ChangeRun` (the answer of a run, and
-//! its effect on the tree), `Changed` (the result of a command, by the files that are read and the
-//! candidates that are chosen) and `Choice` (which candidates are chosen). Laws in `choosing` say
-//! that there is exactly one choice. Each command's rules are in `docs/commands.md`, under its
-//! name.
+//! The contract of `change` cites three modules of `specs/`. `ChangeRun` defines the answer of a
+//! run and its effect on the tree. `Changed` defines the result of a command, by the files that are
+//! read and the candidates that are chosen. `Choice` defines which candidates are chosen. Laws in
+//! `choosing` say that there is exactly one choice. Each command's rules are in `docs/commands.md`,
+//! under its name.
 #![tactic(auto)]
 
 mod changing;

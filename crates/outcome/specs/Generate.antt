@@ -11,8 +11,8 @@ use Rattle.make_core.specs.make_info.Reads.{Reads}
 use Rattle.report_core.specs.declared.refusal.Refusal.TheVariants.{FileMissing, ResultTooLarge, TextBad}
 use Rattle.outcome.specs.Outcome.{Outcome, just_refusal, just_report}
 
--- the outcome with the generated container as its report; or the refusal: of the operand at this place for the first
--- bad line of its text, or of a container that is too large, with its counts of bytes and values
+-- the outcome with the generated container as its report, or with a refusal: of the operand at this place, for the
+-- first bad line of its text; or of a container that is too large, with its counts of bytes and values
 abbrev pub container_outcome : Files → ℕ → Result (List ℕ) GenFault → Outcome
 container_outcome files place (Ok file) = just_report files file
 container_outcome files place (Err (Bad line)) = just_refusal files (TextBad place line)

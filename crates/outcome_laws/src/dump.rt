@@ -35,10 +35,10 @@ pub fn adbdump_prints_what_passes_every_test()
         → (adbdump read files (o ∷ [])).refusal ≡ Some (FileMissing o.place) }
 {}
 
-/// The cause for which `adbdump` refuses a file is that of the first failed test. The order is: the
-/// header, the schema, which is one of the four, the first block, the head of its payload, the
-/// shapes of its values, the framing of the further blocks. `adbdump` is refused exactly if one of
-/// these tests fails, and prints nothing then. The files stay as they are.
+/// The cause for which `adbdump` refuses a file is that of the first failed test. The tests are, in
+/// this order: the header; that the schema is one of the four; the first block; the head of its
+/// payload; the shapes of its values; the framing of the further blocks. `adbdump` is refused
+/// exactly if one of these tests fails, and prints nothing then. The files stay as they are.
 pub fn adbdump_refuses_the_first_failed_test()
     // The cause is the first test that the file fails.
     ensures refused { (read : Reads) (files : Files) (o : Operand) (file : List ℕ) (cause : Cause)

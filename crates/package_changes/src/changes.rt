@@ -22,9 +22,9 @@ pub struct Changes<'a> {
 }
 
 impl<'a> Changes<'a> {
-    /// The changes if the candidates at the places `trace` of the pool replace the packages of the
-    /// database, and the names `again` are to be installed again. Takes as long as
-    /// `PlacedNames::of`.
+    /// The changes if candidates replace the packages of the database. `trace` are the places of
+    /// these candidates in the pool, and the names `again` are to be installed again. Takes as long
+    /// as `PlacedNames::of`.
     pub fn of(
         alloc: Global,
         db: &Db<'a>,

@@ -61,9 +61,10 @@ pub struct PlacedNames<'a> {
 }
 
 impl<'a> PlacedNames<'a> {
-    /// What happens to each package, if the candidates at the places `trace` of the pool replace
-    /// the packages of the database, and the names `again` are to be installed again. The time is
-    /// in proportion to n log n, for n packages, candidates and names to be installed again.
+    /// What happens to each package, if candidates replace the packages of the database. `trace`
+    /// are the places of these candidates in the pool, and the names `again` are to be installed
+    /// again. The time is in proportion to n log n, for n packages, candidates and names to be
+    /// installed again.
     pub fn of(
         alloc: Global,
         db: &Db<'a>,

@@ -109,9 +109,9 @@ IsMomentOf run m =
 
 -- ---- events
 
--- An event is a run that ends, a run that is stopped, a crash, or a change of files by others while no run of `apk` is
--- in progress. Others change any files, and sync them (an edit), or change files under given names, and do not sync
--- them (a touch). A run that a crash cuts off is a stop, and then a crash.
+-- An event is a run that ends, a run that is stopped, a crash, or a change of files by others. Others change files only
+-- while no run of `apk` is in progress. They change any files, and sync them (an edit), or change files under given
+-- names, and do not sync them (a touch). A run that a crash cuts off is a stop, and then a crash.
 pub data RootEvent : Type 0 where
   -- a run that ends
   Ends : Run → RootEvent
@@ -304,8 +304,8 @@ ignored_after ignored (Edits ∷ earlier) = nothing_ignored
 ignored_after ignored (Touches theirs ∷ earlier) =
     ignored_with_touched theirs (ignored_after ignored earlier)
 
--- in a list of events, the newest first: since the last crash or edit (after which all files are synced), no run with
--- an output was stopped or ended by an I/O error of the tree, and others touched nothing
+-- In a list of events, the newest first: since the last crash or edit, no run with an output was stopped or ended by an
+-- I/O error of the tree. Since then, others touched nothing. (After a crash or an edit all files are synced.)
 abbrev pub HasNoUnfinishedOutputSinceSync : List RootEvent → Type 0
 HasNoUnfinishedOutputSinceSync [] = Unit {0}
 HasNoUnfinishedOutputSinceSync (Ends run ∷ earlier) =

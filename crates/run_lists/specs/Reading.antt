@@ -92,8 +92,8 @@ HasBadIntent files = (cause : Cause) × IsIntentFault files cause
 
 -- ---- an intent's change
 
--- the name q is neither that of the intent, nor of a staged file, nor that of the run's output or its scratch name, nor
--- an ignored one
+-- the name q is none of these: the intent's name, the name of a staged file, the name of the run's output or its
+-- scratch name, an ignored name
 pub record IsNoJournalOutputOrIgnoredName (ignored : List ℕ → Bool) (run : Run) (q : List ℕ) : Type 0 where
   -- the name is not that of the intent or of a staged file
   pub waits : IsJournalName q → ⊥

@@ -47,8 +47,8 @@ pub record LeavesFilesOfAnsweredOutcome (ignored : List ℕ → Bool) (v : TreeS
   pub answered : (run.answer ≡ answer_of outcome) ⊎ (run.answer ≡ OutFault)
   -- the files as read are those of the outcome
   pub reads : files_of w ≡ outcome.files
-  -- each crash leaves the state of these files, if the outcome commits, if each crash left the files as read before the
-  -- run, or if an intent was found and its change completed
+  -- each crash leaves the state of these files in three cases: the outcome commits; each crash left the files as read
+  -- before the run; or an intent was found and its change completed
   pub settled : MustOutcomeBeDurable (effect_of_arguments (command_of run.words))
       (ignored_during_run run ignored) v outcome
       → EachCrashLeavesStateOf (ignored_during_run run ignored) outcome.files w
@@ -104,8 +104,8 @@ IsSafeAfterAnyEvents v run =
     → ignored intent_name ≡ false → IsDurable (StateDependsOn ignored) first → Reaches first events v
     → IsSafeRun (ignored_after ignored events) v run
 
--- a run that begins in the state v is all or nothing, after any list of events by which a root has reached v, and after
--- which each crash leaves one state
+-- Suppose that a root has reached the state v by any list of events, after which each crash leaves one state. Then a
+-- run that begins in v is all or nothing.
 abbrev pub IsAtomicAfterAnyEvents : TreeState → Run → Type 0
 IsAtomicAfterAnyEvents v run =
     (ignored : List ℕ → Bool) (first : TreeState) (events : List RootEvent)

@@ -52,8 +52,8 @@ pub fn a_run_is_safe_after_any_events()
         → let names = ignored_with_scratch (output words) (ignored_after ignored events) in
         IsDurable (StateDependsOn names) v × IgnoresScratchNameOfOutput (output words) names }
 
-    // On an ordinary root no name is ignored, and none is until a run with an output is stopped, or
-    // ends by an I/O error of the tree.
+    // On an ordinary root no name is ignored at first. None becomes ignored until a run with an
+    // output is stopped, or ends by an I/O error of the tree.
     ensures ordinary { (events : List RootEvent) (q : List ℕ)
         → HasNoUnfinishedOutputSinceSync events
         → ignored_after nothing_ignored events q ≡ false }
@@ -71,9 +71,9 @@ pub fn a_run_is_safe_after_any_events()
         → ReachesOneCrashState first events v
         → IsDurableAndLeavesFiles (ignored_after ignored events) (files_of v) v }
 
-    // Each crash leaves one state after a list (*ReachesOneCrashState*), if since the last crash or
-    // synced change by others no run was stopped, and none ended by an I/O error of the tree. A
-    // power cut during a run counts as a stop and then a crash.
+    // Suppose that since the last crash or synced change by others no run was stopped, and none
+    // ended by an I/O error of the tree. Then each crash leaves one state after the list
+    // (*ReachesOneCrashState*). A power cut during a run counts as a stop and then a crash.
     ensures without_pending_run { (first v : TreeState) (events : List RootEvent)
         → Reaches first events v → HasNoUnfinishedRunSinceCrash events
         → ReachesOneCrashState first events v }
@@ -98,8 +98,9 @@ pub fn a_root_that_commits_nothing_keeps_its_state()
         → IsDurableAndLeavesFiles ignored (files_of v) v → ReachesWithoutCommit v events w
         → IsDurableAndLeavesFiles (ignored_with_all_touched events ignored) (files_of v) w }
 
-    // So two trees that come from the same tree by events without a commit have the same state,
-    // except under the names `names`, which include all names that are ignored along both lists.
+    // Suppose that two trees come from the same tree by events without a commit. They have the same
+    // state, except under the names `names`, which include all names that are ignored along both
+    // lists.
     ensures agree { (ignored names : List ℕ → Bool) (v w u : TreeState)
         (events others : List RootEvent) → IsDurableAndLeavesFiles ignored (files_of v) v
         → ReachesWithoutCommit v events w → ReachesWithoutCommit v others u
@@ -134,9 +135,8 @@ pub fn a_root_that_commits_nothing_keeps_its_state()
 /// recovered ones or the outcome's. The same holds along runs that follow each other without a
 /// crash. This excludes the intent's name and temporary names, and needs no file to be synced.
 pub fn each_name_keeps_old_recovered_or_new_bytes()
-    // At each moment of a run each name has its old bytes, its recovered ones or those of
-    // an outcome that commits, except names of the journal and temporary
-    // ones.
+    // At each moment of a run each name has its old bytes, its recovered ones, or those of an
+    // outcome that commits. Names of the journal and temporary names are left out.
     ensures moments { (v m : TreeState) (run : Run) (q : List ℕ) → IsRunFrom v run
         → IsMomentOf run m → IsNoJournalOrDraftName run q
         → HasOldRecoveredOrOutcomeBytes v run m q }
@@ -145,9 +145,10 @@ pub fn each_name_keeps_old_recovered_or_new_bytes()
     ensures commits { (words : List (List ℕ)) (files : Files) (o : Outcome)
         → IsOutcome (command_of words) files o → o.commits ≡ true → o.files intent_name ≡ None }
 
-    // Suppose that a test of the file under a name (say, that the file exists) holds at first, of
-    // the file as read and as recovered, and in each outcome that commits. Then the test holds
-    // after each run, and at each moment at which a run is stopped between two calls.
+    // Suppose that a test of the file under a name holds at first, of the file as read and as
+    // recovered, and in each outcome that commits. (An example of a test is that the file exists.)
+    // Then the test holds after each run, and at each moment at which a run is stopped between two
+    // calls.
     ensures along { (test : Option (List ℕ) → Bool) (q : List ℕ) (first w : TreeState)
         (events : List RootEvent) → (IsJournalName q → ⊥)
         → HoldsAsReadAndAsRecovered test q (files_of first)
@@ -172,10 +173,10 @@ pub fn a_bad_intent_and_all_files_are_kept()
         → ReachesByRuns IsUnrestrictedRun first events w → w ≡ first }
 {}
 
-/// The change of an intent that the next run finds is durable at each moment of this run at which
-/// no intent is read, also if the run is stopped. Each name then has its recovered bytes, or those
-/// of an outcome of the run, and each crash leaves exactly these bytes. Names of the journal, of
-/// the output and ignored names are left out.
+/// The change of an intent that a run finds is durable at each moment of this run at which no
+/// intent is read, also if the run is stopped. At such a moment each name has its recovered bytes,
+/// or those of an outcome of the run, and each crash leaves exactly these bytes. Names of the
+/// journal, of the output and ignored names are left out.
 pub fn the_actions_of_an_intent_are_durably_done()
     // v is the state in which the run begins, m a moment of this run, and q a name.
     ensures { (ignored : List ℕ
@@ -221,9 +222,9 @@ pub fn no_events_leave_a_bad_intent()
     only_a_bad_intent_is_refused_as_one();
 }
 
-/// A run that is stopped at any moment is recovered, after any list of events that the root had
-/// seen, and however often crashes and stopped recoveries followed. The next run that recovers is
-/// not refused for an intent. It works on files without an intent and staged files, which have a
+/// A run that is stopped at any moment is recovered. This holds after any list of events, and
+/// however often crashes and stopped recoveries followed the stop. The next run that recovers is
+/// not refused for an intent. It works on files without an intent and staged files. These have a
 /// state from before the stopped run, or that of the stopped run's outcome.
 pub fn a_stopped_run_is_recovered()
     // The next run that recovers works on recovered files.
@@ -249,8 +250,8 @@ pub fn a_stopped_run_is_recovered()
         (image : Files) × IsCrashImage m image
         × IsRecoveredBy (HasSameState (ignored_with_all_touched later names) image) w next }
 
-    // If each crash left one state when the stopped run began, files with a state from before it or
-    // that of its outcome have that one state or that of the outcome.
+    // Suppose that each crash left one state when the stopped run began. Then files with a state
+    // from before the run, or that of its outcome, have this one state or that of the outcome.
     ensures two { (ignored : List ℕ → Bool) (v : TreeState) (run : Run) (files : Files)
         → EachCrashLeavesStateOf ignored (files_of v) v
         → HasStateOfCrashBeforeOrOutcome ignored v run files
