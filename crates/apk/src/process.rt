@@ -64,25 +64,25 @@ pub fn words_of(rt: &impl Env, alloc: Global) -> Result<Words, ArgumentsFault> {
 ///
 /// `seed` is a number that the compiler does not know, so that it cannot leave out the writes.
 pub fn take_stack(alloc: Global, seed: usize) -> Result<(), AllocError> {
-    let mut room = Vec::with_capacity(alloc, STACK)?;
-    room.push(1)?;
-    room.push(0)?;
-    let mark = room[seed % 2];
-    drop(room);
+    let mut requested = Vec::with_capacity(alloc, STACK)?;
+    requested.push(1)?;
+    requested.push(0)?;
+    let byte = requested[seed % 2];
+    drop(requested);
     // The result is 0 or 1. Because of this test the compiler cannot leave out the call.
-    if touch_stack(seed, mark) > 1 {
+    if touch_stack(seed, byte) > 1 {
         return Err(AllocError);
     }
     Ok(())
 }
 
-/// Fills `STACK` bytes of the stack with zeros and one byte `mark`, and returns one of these bytes.
-/// The call must not be inlined: the frame of its caller would keep the bytes for the whole run,
-/// and later calls would need more stack than was taken.
+/// Fills `STACK` bytes of the stack with zeros and the one byte `byte`, and returns one of these
+/// bytes. The call must not be inlined: the frame of its caller would keep the bytes for the whole
+/// run, and later calls would need more stack than was taken.
 #[inline(never)]
-fn touch_stack(seed: usize, mark: u8) -> u8 {
+fn touch_stack(seed: usize, byte: u8) -> u8 {
     let mut stack = [0u8; STACK];
-    stack[seed % STACK] = mark;
+    stack[seed % STACK] = byte;
     stack[seed / 2 % STACK]
 }
 
