@@ -67,6 +67,7 @@ pub fn take_stack(alloc: Global, seed: usize) -> Result<(), AllocError> {
     let mut requested = Vec::with_capacity(alloc, STACK)?;
     requested.push(1)?;
     requested.push(0)?;
+    // 1 or 0; the compiler does not know which.
     let byte = requested[seed % 2];
     drop(requested);
     // The result is 0 or 1. Because of this test the compiler cannot leave out the call.

@@ -61,7 +61,7 @@ pub record IsRefusalOfSpoiledPackage (packages : Result (List MemberFound) Refus
   pub tested : List ℕ
   -- these bytes were read as the file of `one`
   pub read : one.file ≡ Some tested
-  -- the bytes of a file with the same values and other contents
+  -- the bytes of a file with the length and the values of `tested`, and with other contents
   pub file : List ℕ
   -- the test that this file fails
   pub cause : Cause

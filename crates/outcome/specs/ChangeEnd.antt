@@ -28,6 +28,7 @@ use Rattle.outcome.specs.Work.{recovery_fault, files_recovered_if_needed}
 -- whether a refusal is for a fault of the input: of the files that are read of the root, of too many candidates, or of
 -- an operand whose package is not installed
 abbrev pub is_input_refusal : Refusal → Bool
+-- a fault of the files of the root
 is_input_refusal NoDatabase = true
 is_input_refusal (DatabaseBad cause) = true
 is_input_refusal (WorldBad line) = true
@@ -35,7 +36,9 @@ is_input_refusal (RepositoriesBad line) = true
 is_input_refusal Untrusted = true
 is_input_refusal (IndexMissing repository) = true
 is_input_refusal (IndexBad repository cause) = true
+-- too many candidates
 is_input_refusal (TooMany count) = true
+-- an operand that is refused as not installed
 is_input_refusal (NotInstalled place) = true
 -- a text database with more data than a container may have
 is_input_refusal (ResultTooLarge bytes values) = true
@@ -44,14 +47,19 @@ is_input_refusal other = false
 -- whether a refusal is for a fault of the packages, once candidates are chosen: of their files, scripts and triggers,
 -- and of the files that they would leave
 abbrev pub is_refusal_after_choice : Refusal → Bool
+-- a fault of the file of an added package
 is_refusal_after_choice (PackageMissing name version) = true
 is_refusal_after_choice (PackageBad name version cause) = true
 is_refusal_after_choice (PackageDiffers name version field wanted found) = true
+-- a script that would have to run
 is_refusal_after_choice (ScriptNeeded name script) = true
+-- a fault of the paths of the change
 is_refusal_after_choice (Reserved path) = true
 is_refusal_after_choice (PathClash path other) = true
 is_refusal_after_choice (Owned path first second) = true
+-- a trigger that is due
 is_refusal_after_choice (TriggerNeeded name) = true
+-- a new database or intent that exceeds a limit
 is_refusal_after_choice (ResultTooLarge bytes values) = true
 is_refusal_after_choice other = false
 

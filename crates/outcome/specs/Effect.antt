@@ -22,21 +22,26 @@ pub data Effect : Type 0 where
 
 -- the effect of a command, by the applet that it names
 abbrev pub effect_of : Applet → Effect
+-- applets that read their arguments only
 effect_of Version = Computes
 effect_of Demo = Computes
 effect_of Help = Computes
 effect_of ProgramVersion = Computes
+-- applets that read files, without recovery
 effect_of Verify = OnlyReadsFiles
 effect_of Adbdump = OnlyReadsFiles
 effect_of Adbgen = OnlyReadsFiles
+-- applets that report on the root
 effect_of Info = AsksRoot
 effect_of Audit = AsksRoot
 effect_of Manifest = AsksRoot
 effect_of ListApplet = AsksRoot
 effect_of Search = AsksRoot
 effect_of Policy = AsksRoot
+-- applets that make one file
 effect_of Mkpkg = Makes
 effect_of Mkndx = Makes
+-- applets that change the installed packages
 effect_of Add = Changes
 effect_of Del = Changes
 effect_of Upgrade = Changes
