@@ -80,7 +80,7 @@ pub record IsRecordWrite (name bytes : List ℕ) (write : StagedWrite) : Type 0 
   pub source : HasBytes bytes write.source
 
 -- a write is that of the database or of world, whose file has this name and gets these bytes; with None this file is
--- not written, and no write is that of it
+-- not written, and there is no such write
 abbrev pub IsWriteOfRecord : List ℕ → Option (Bor (List ℕ)) → StagedWrite → Type 0
 IsWriteOfRecord name None write = ⊥
 IsWriteOfRecord name (Some bytes) write = IsRecordWrite name bytes.now write

@@ -29,7 +29,7 @@ pub record HasGoodPast (ignored : List ℕ → Bool) (first : TreeState) (events
     (v : TreeState) : Type 0 where
   -- the name of the intent is not ignored
   pub counts : ignored intent_name ≡ false
-  -- at first no crash changed the bytes of a file on which the state depends, apart from the ignored names
+  -- at first no crash could change the bytes of a file on which the state depends, apart from the ignored names
   pub durable : IsDurable (StateDependsOn ignored) first
   -- at first no crash could leave a bad intent
   pub good : LeavesNoBadIntent first
