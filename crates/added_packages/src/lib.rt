@@ -15,6 +15,8 @@ mod arrivals;
 mod package;
 mod scripts;
 
+// What crates that depend on this one may call: functions, types and laws of this crate, and of
+// crates on which it depends.
 pub use arrivals::{
     Arrivals, a_package_that_was_read_is_that_of_its_file, members_of_change,
     packages_after_a_change_depend_on_their_reads, packages_that_were_read_are_those_found,

@@ -22,6 +22,8 @@ mod report;
 mod verify;
 mod version;
 
+// What crates that depend on this one may call: functions, types and laws of this crate, and of
+// crates on which it depends.
 pub use answer::{Answer, status};
 pub use engine_core::a_change_keeps_paths_free;
 pub use front::apk;

@@ -15,6 +15,8 @@ mod loaded;
 mod root;
 mod world;
 
+// What crates that depend on this one may call: functions, types and laws of this crate, and of
+// crates on which it depends.
 pub use installed::Installed;
 pub use loaded::Loaded;
 pub use pool_core::{Candidate, Sealed, Upgrade, options_are_the_best_first};

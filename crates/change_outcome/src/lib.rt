@@ -17,6 +17,8 @@
 
 mod laws;
 
+// What crates that depend on this one may call: functions, types and laws of this crate, and of
+// crates on which it depends.
 pub use change_inputs::{
     Candidate, Loaded, Refused, Sealed, Upgrade, inputs_depend_on_their_own_reads, operand_texts,
     options_are_the_best_first,

@@ -16,6 +16,8 @@ mod pattern;
 mod reporting;
 mod watched;
 
+// What crates that depend on this one may call: functions, types and laws of this crate, and of
+// crates on which it depends.
 pub use change_outcome::{
     Changes, Db, Loaded, Members, Owned, PlacedNames, Refused, Sealed, Stage, Trace, Upgrade,
     a_change_has_a_first_clash_or_none, a_change_keeps_paths_free,

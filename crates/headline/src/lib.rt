@@ -8,5 +8,6 @@
 mod root;
 mod sentence;
 
+// What the program calls, and the law.
 pub use root::apk_as_promised;
 pub use sentence::the_sentence_holds;

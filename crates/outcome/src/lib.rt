@@ -312,6 +312,7 @@ pub fn what_is_made_is_sound()
     a_made_index_is_sound();
 }
 
+// Functions and laws of crates on which this one depends, for crates that depend on this one.
 pub use demo_lines::{
     add_words, demo_count, demo_file, demo_line, demo_repositories, demo_text, mkndx_words,
     mkpkg_words,

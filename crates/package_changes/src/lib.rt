@@ -21,6 +21,8 @@ mod report;
 mod selected;
 mod stays;
 
+// What crates that depend on this one may call: functions, types and laws of this crate, and of
+// crates on which it depends.
 pub use change::{Change, PlacedChange};
 pub use change_files::the_lists_of_a_plan_hold_just_its_names;
 pub use changes::Changes;

@@ -11,6 +11,8 @@
 mod laws;
 mod root;
 
+// What crates that depend on this one may call: functions, types and laws of this crate, and of
+// crates on which it depends.
 pub use apk_front::{Answer, apk, more_names_may_be_ignored};
 pub use laws::{
     a_bad_intent_and_all_files_are_kept, a_root_that_commits_nothing_keeps_its_state,
