@@ -5,8 +5,8 @@ use Rattle.change_outcome.specs.change_inputs.declared.root.Refused.{Refused}
 use Rattle.change_outcome.specs.change_inputs.declared.root.Refused.TheVariants.{Disk, Memory, Refusal}
 use Rattle.report_core.specs.declared.refusal.Refusal as Refusals
 
--- a result denotes the wanted value, or is the wanted refusal; an I/O error of the tree and out of
--- memory say nothing about it
+-- The result of a call is as `wanted`: it has a value that denotes the wanted value (by `Denotes`), or is the wanted
+-- refusal. An I/O error of the tree and out of memory say nothing about `wanted`.
 abbrev pub DenotesUnlessDisk :
     {A B : Type 0} → (A → B → Type 0) → Result A Refused → Result B Refusals.Refusal → Type 0
 DenotesUnlessDisk {A} {B} Denotes (Ok a) wanted = (b : B) × (wanted ≡ Ok b) × Denotes a b

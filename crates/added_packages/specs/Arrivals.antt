@@ -1,6 +1,6 @@
--- The packages after a change as they were read, each the one that the definition finds.
--- The rules are in `docs/commands.md`, "`add` and `del`", **What is read**, and are said by
--- *members_after* of `change_outcome`; the term *arrival* in `docs/names.md`, "A change of what
+-- How the packages after a change, as they were read, relate to those that the definition *members_after* of
+-- `change_outcome` finds. `before` are the packages of the database before the change. The rules are in
+-- `docs/commands.md`, "`add` and `del`", part "What is read"; the term *arrival* in `docs/names.md`, "A change of what
 -- is installed".
 use Rattle.std.specs.Prelude.{◌≡◌, ◌<◌, ◌≤◌, ℕ, List, [], ◌∷◌, length, Option, Some, None, option_map, slice_get}
 use Rattle.std.specs.List.{filter_map}
@@ -19,8 +19,8 @@ use Rattle.added_packages.specs.declared.arrivals.Arrivals.{Arrivals}
 use Rattle.added_packages.specs.declared.arrivals.MemberRead.{MemberRead}
 use Rattle.added_packages.specs.declared.arrivals.MemberRead.TheVariants.{Comes, Stays}
 
--- a package that was read is `coming`, the package in a file that was tested; if the tree's files are
--- observable, the file is the one under the name of the package's file
+-- the package `pkg` that was read is `coming`, the package in a file that passed its tests; on an observable tree, this
+-- file is the one under the name that was read
 pub record IsPackageRead (history : List TreeState) (pkg : TestedPackage)
     (coming : AddedPackage) : Type 0 where
   -- the bytes of the package's file
@@ -32,15 +32,15 @@ pub record IsPackageRead (history : List TreeState) (pkg : TestedPackage)
   -- the added package is the one in the file
   pub is : coming ≡ package_in_file file
 
--- a package after the change as it was read is the one that is found: that of the database at its
--- place, or one whose file was read
+-- a package after the change, as it was read, is the found package `m`: a kept package is that of the database at its
+-- place, and an added one is that of the file which was read
 abbrev pub IsMemberRead : List TreeState → List Plain → MemberRead → MemberFound → Type 0
 IsMemberRead history before (Stays place) m =
     Some m ≡ option_map kept_member_found (slice_get before place)
 IsMemberRead history before (Comes pkg) m =
     (coming : AddedPackage) × IsPackageRead history pkg coming × (m ≡ added_member_found coming)
 
--- the packages as they were read are those that are found, one by one
+-- the packages as they were read are the found packages, one by one in the same order
 abbrev pub AreMembersRead :
     List TreeState → List Plain → List MemberRead → List MemberFound → Type 0
 AreMembersRead history before [] [] = Unit {0}
@@ -49,19 +49,19 @@ AreMembersRead history before (r ∷ reads) [] = ⊥
 AreMembersRead history before (r ∷ reads) (m ∷ found) =
     IsMemberRead history before r m × AreMembersRead history before reads found
 
--- the packages after the change as contracts see them: for each that it is kept, at a place of the
--- database, or what was read of it
+-- the packages after the change as contracts see them: of each kept one its place in the database, and of each added
+-- one what was read
 abbrev pub arrivals_seen : Arrivals → List MemberRead
 arrivals_seen arrivals = arrivals.members.items
 
 -- ---- without their files
 
--- a package that was read, as a member; none if its place leads to no package of the database
+-- a package as it was read, as a member; None if it is kept and its place is none of the database
 abbrev pub member_of_read_package : List Plain → MemberRead → Option Member
 member_of_read_package before (Stays place) = option_map member_of_kept (slice_get before place)
 member_of_read_package before (Comes pkg) = Some (member_of_added (tested_value pkg) (tested_id pkg))
 
--- the packages that were read, as members, in their order
+-- the packages as they were read, as members, in their order
 abbrev pub members_of_read_packages : List Plain → List MemberRead → List Member
 members_of_read_packages before reads = filter_map (member_of_read_package before) reads
 
@@ -92,8 +92,8 @@ abbrev pub added_package_in_member_read : MemberRead → Option TestedPackage
 added_package_in_member_read (Stays place) = None
 added_package_in_member_read (Comes pkg) = Some pkg
 
--- an added package is that of a file that was tested, and its contents are those that were found for
--- the member at a place
+-- The added package `pkg` is that of a file that passed its tests. The contents of this file are those found for the
+-- member at `place` (an index) of the found packages.
 pub record IsTestedPackageOfMember (history : List TreeState) (found : List MemberFound) (place : ℕ)
     (pkg : TestedPackage) : Type 0 where
   -- the bytes of the package's file

@@ -1,11 +1,11 @@
 -- The definitions of this crate, whose rules are in `docs/commands.md`, "`add` and `del`",
--- **What is read** and **What is refused**.
+-- parts "What is read" and "What is refused".
 
--- passed on: a crate above that names this one need not name these
+-- re-exported crates: a crate that depends on this one can use their definitions without depending on them too
 pub use Rattle.change_outcome.specs.adb_write as adb_write
--- what the contracts of this crate's calls say
+-- modules that the contracts of this crate cite
 pub mod Answered
 pub mod Arrivals
--- what only inner contracts and proofs use
+-- modules that only inner contracts and proofs use
 pub mod Told
 pub mod NameReads

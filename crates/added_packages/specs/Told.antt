@@ -1,4 +1,4 @@
--- Refusals whose texts take memory.
+-- Refusals that have texts, for which memory may run out.
 -- No document has a rule for this: it serves the contracts of `src/package.rt`; the lines of refusals
 -- are defined in `docs/commands.md`, "Error lines".
 use Rattle.std.specs.Prelude.{◌≡◌, ℕ, List, Result, Ok, Err}

@@ -1,7 +1,8 @@
-//! The packages after a change, as they are read, and as members.
-//! The rules are in `docs/commands.md`, "`add` and `del`": **What is read** (each added package,
-//! from the file `NAME-VERSION.apk` in the folder of its index), and **What is refused**, reason 9:
-//! of the packages in byte order of names, the first with a bad file or a script that has to run.
+//! The packages after a change: the added ones are read, and all are made members. `engine_core`
+//! calls `read_arrivals` and then `members_of_change`. The rules are in `docs/commands.md`, "`add`
+//! and `del`": part "What is read" (each added package, from the file `NAME-VERSION.apk` in the
+//! folder of its index), and part "What is refused", reason 9: of the packages in byte order of
+//! names, the first with a bad file or a script that has to run.
 
 ghost use Rattle.added_packages.specs.Answered.{DenotesUnlessDisk};
 ghost use Rattle.added_packages.specs.Arrivals.{AreMembersRead, CanBeMembers, arrivals_seen, HasPlaceIfKept, member_of_read_package, members_of_read_packages, IsTestedPackageOfMember, added_package_in_member_read};
@@ -37,7 +38,7 @@ use package_verifier::TestedPackage;
 use std::alloc::{AllocError, Global};
 use std::marker::PhantomData;
 
-/// A package after the change.
+/// A package that is installed after the change, as it was read.
 #[derive(Drop)]
 pub(crate) enum MemberRead {
     /// The package is kept; this is its place in the database, counted from 0.
@@ -46,8 +47,9 @@ pub(crate) enum MemberRead {
     Comes(TestedPackage),
 }
 
-/// The packages after a change as they were read, in byte order of names. Contracts see, by
-/// `Arrivals` of `specs/`, the place in the database of each kept one, and each added one.
+/// The packages after a change as they were read, in byte order of names. Contracts see a list of
+/// `MemberRead`: of each kept package its place in the database, and of each added one what was
+/// read.
 #[derive(Drop)]
 pub struct Arrivals {
     /// The packages, in byte order of their names.
@@ -71,7 +73,7 @@ impl Arrivals {
         self.members.is_empty()
     }
 
-    /// The package of the member at a place, counted from 0, if it is added.
+    /// What was read of the member at this place, counted from 0; None if the member is kept.
     pub fn package(&self, place: usize) -> Option<&TestedPackage>
         ensures { option_copied result
             ≡ option_and_then added_package_in_member_read (slice_get
@@ -87,9 +89,9 @@ impl Arrivals {
     }
 }
 
-/// Reads the added packages if the candidates of a selection replace the packages of a database, as
-/// `names` says. Each file is read and tested once, in byte order of names. The tree is unchanged,
-/// whatever is returned.
+/// Reads the added packages of a change. `names` says what happens to each package, if candidates
+/// of `pool` replace the packages of `db`. Each file is read and tested once, in byte order of
+/// names. The tree is unchanged, whatever is returned.
 ///
 /// # Errors
 ///
@@ -115,8 +117,8 @@ pub fn read_arrivals<T: Tree>(
         (members_after (replacement_of
         (placed_replacement_from_parts db.now pool.now trace again)) read
         repositories.now no_scripts)) }
-    // The packages can be made members: they are in byte order of names, and no more than the
-    // candidates.
+    // The packages can be members (*CanBeMembers*), if there are no more candidates than members
+    // are allowed: they are in byte order of names, and each kept one has a place in the database.
     ensures members { (trace : List ℕ) (again : List (List ℕ))
         → placed_names_seen names.now
         ≡ placed_names_of (placed_replacement_from_parts db.now pool.now trace again)
@@ -139,7 +141,8 @@ pub fn read_arrivals<T: Tree>(
     Ok(Arrivals { members })
 }
 
-/// Appends a package to those read before, if there is one.
+/// Appends a package after the change to those read before; None, for a removed one, appends
+/// nothing.
 fn push_member(members: &mut Vec<MemberRead>, member: Option<MemberRead>) -> Result<(), AllocError>
     ensures { OnOk result (members.new.items ≡ members.old.items ++ option_to_list member) }
 {
@@ -152,7 +155,8 @@ fn push_member(members: &mut Vec<MemberRead>, member: Option<MemberRead>) -> Res
     }
 }
 
-/// Reads the package of a name after the change; none if the package is removed.
+/// The package with this name after the change, read if it is added; None if the package is
+/// removed.
 fn read_name<T: Tree>(
     alloc: Global,
     tree: &mut T,
@@ -162,11 +166,12 @@ fn read_name<T: Tree>(
     repositories: &Repos,
     no_scripts: bool,
 ) -> Result<Option<MemberRead>, Refused>
-    // The result is that of the definition, with the file that was found.
+    // The result is that of the definition, for a read that finds the tree's file, or some file.
     ensures found { IsAnswerByRead (IsNameRead (T.history tree.old) (packages_of db.now))
         (T.history tree.old) (member_of_name_by_read
         (packages_of db.now) pool.now repositories.now no_scripts
         (placed_name_seen name.now)) result }
+    // The tree is only read, and `Disk` has a fault of the tree as its cause.
     ensures tree { OnlyReads Refused.Disk (T.history tree.old) (T.history tree.new)
         (T.counts tree.old) (T.counts tree.new) result }
 {
@@ -177,10 +182,12 @@ fn read_name<T: Tree>(
         return Ok(staying(db, name.old));
     };
     match name.candidate(pool) {
+        // No candidate is selected: the package is removed.
         None => {
             test_removed(alloc, no_scripts, db, name, &change)?;
             Ok(None)
         }
+        // The package of the selected candidate is added.
         Some(c) => {
             let pkg = read_added(
                 alloc,
@@ -198,6 +205,7 @@ fn read_name<T: Tree>(
 
 /// The kept package at a place of the database, counted from 0, if there is one.
 fn staying(db: &Db<'_>, place: Option<usize>) -> Option<MemberRead>
+    // A kept package at this place, or None without a place.
     ensures { IsReadOfKeptPackage (packages_of db.now)
         (option_and_then (slice_get (packages_of db.now)) place) result }
 {
@@ -207,7 +215,8 @@ fn staying(db: &Db<'_>, place: Option<usize>) -> Option<MemberRead>
     }
 }
 
-/// Refuses a removed package of the database, if it has a script that would have to run.
+/// Refuses the removed package with this name, if it has a script that would have to run and
+/// scripts may not be left out.
 fn test_removed(
     alloc: Global,
     no_scripts: bool,
@@ -215,7 +224,7 @@ fn test_removed(
     name: &PlacedName<'_>,
     change: &Change<'_>,
 ) -> Result<(), Refused>
-    // Refused if the definition refuses the removed package; otherwise nothing is returned.
+    // Refused as the definition refuses the removed package, unless memory runs out.
     ensures { Agrees (λ _. None) result (member_of_removed_name no_scripts (placed_name_seen
         name.now).name
         (change_seen change.now) (package_at_old_place (packages_of db.now)
@@ -237,7 +246,10 @@ pub fn members_of_change<'a>(
     db: &'a Db<'a>,
     arrivals: &'a Arrivals,
 ) -> Result<Members<'a>, AllocError>
+    // The packages can be members: kept ones have places in the database, names are in order, few
+    // enough.
     requires { CanBeMembers (packages_of db.now) (arrivals_seen arrivals.now) }
+    // The members are those of the definition, in the same order.
     ensures { IfOk result (λ members. members_of members
         ≡ members_of_read_packages (packages_of db.entry.now) (arrivals_seen arrivals.entry.now)) }
 {
@@ -248,9 +260,9 @@ pub fn members_of_change<'a>(
     Ok(members)
 }
 
-/// Adds a package that was read to the members, at the end.
+/// Appends a package that was read to the members.
 fn push_read<'a>(members: &mut Members<'a>, read: &'a MemberRead) -> Result<(), AllocError>
-    // The package is after all members so far, in byte order of names.
+    // The name of the package is after the names of all members so far, in byte order.
     requires behind { (m : Member)
         → member_of_read_package (packages_of_old_database members.old) read.now ≡ Some m
         → is_after_members (member_name m) (members_of members.old) ≡ true }
@@ -273,15 +285,15 @@ fn push_read<'a>(members: &mut Members<'a>, read: &'a MemberRead) -> Result<(), 
     }
 }
 
-/// Packages that were read are, as members, those that the definition finds.
+/// A law: packages that were read are, as members, the packages that the definition finds.
 pub fn packages_that_were_read_are_those_found()
     ensures { (history : List TreeState) (before : List Plain) (reads : List MemberRead)
         (found : List MemberFound) → AreMembersRead history before reads found
         → members_of_read_packages before reads ≡ found_members found }
 {}
 
-/// The package that was read for the member at a place is that of the file whose contents the
-/// definition finds for it, and each added member has one.
+/// A law: the package that was read for the member at a place is that of the file whose contents
+/// the definition finds for this member; and for each added member a package was read.
 pub fn a_package_that_was_read_is_that_of_its_file()
     // The package at a place is that of the file of this member.
     ensures file { (history : List TreeState) (before : List Plain) (reads : List MemberRead)
@@ -297,8 +309,8 @@ pub fn a_package_that_was_read_is_that_of_its_file()
         → is_some (option_and_then added_package_in_member_read (slice_get reads place)) ≡ true }
 {}
 
-/// The packages after a change depend only on the reads after those of the indexes: earlier reads
-/// of a command do not matter.
+/// A law: the packages after a change depend only on the reads after those of the indexes. Earlier
+/// reads of a command do not matter.
 pub fn packages_after_a_change_depend_on_their_reads()
     ensures { (r : Replacement) (read other : Reads) (repositories : List Repository)
         (no_scripts : Bool) → ((n : ℕ) (name : List ℕ)

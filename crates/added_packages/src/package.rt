@@ -1,7 +1,7 @@
 //! The package of a candidate: its file, `NAME-VERSION.apk` beside the index that has it, is read
 //! and tested once, and compared with its index's entry.
-//! The rules are in `docs/commands.md`, "`add` and `del`", **What is read** and **What is
-//! refused**: the file of an added package is absent, fails a test, or has another id, name or
+//! The rules are in `docs/commands.md`, "`add` and `del`", parts "What is read" and "What is
+//! refused": the file of an added package is absent, fails a test, or has another id, name or
 //! version than its index says; the tests in `docs/formats.md`, "Tests of a container".
 
 ghost use Rattle.added_packages.specs.Arrivals.{IsPackageRead};
@@ -29,8 +29,9 @@ use report_core::numbers::{HASHES_FIELD, NAME_FIELD, VERSION_FIELD};
 use std::alloc::{AllocError, Global};
 use std::marker::PhantomData;
 
-/// Reads the package of a candidate whose name this is, and tests it: its file, whether it is as
-/// its index says, and that it has no script that would run, unless scripts are left out.
+/// Reads the package of the candidate `c`, which has this name. Tests the package's file, that it
+/// is as the index says, and, unless scripts are left out, that no script of it would run in this
+/// change.
 ///
 /// # Errors
 ///
@@ -45,10 +46,11 @@ pub(crate) fn read_added<T: Tree>(
     change: &Change<'_>,
     c: &Candidate<'_>,
 ) -> Result<TestedPackage, Refused>
-    // The result is that of the definition, with the file that was found.
+    // The result is that of the definition, for a read that finds the tree's file, or some file.
     ensures found { IsAnswerByRead (IsPackageRead (T.history tree.old))
         (T.history tree.old) (added_package_read repositories.now no_scripts name.now
         (change_seen change.now) (candidate_value c.now)) result }
+    // The tree is only read, and `Disk` has a fault of the tree as its cause.
     ensures tree { OnlyReads Refused.Disk (T.history tree.old) (T.history tree.new)
         (T.counts tree.old) (T.counts tree.new) result }
 {
@@ -57,7 +59,8 @@ pub(crate) fn read_added<T: Tree>(
     Ok(pkg)
 }
 
-/// Refuses a tested package that has a script which its change would have to run.
+/// Refuses a tested package that has a script which its change would have to run, unless scripts
+/// are left out.
 fn test_own_scripts(
     alloc: Global,
     no_scripts: bool,
@@ -76,17 +79,19 @@ fn test_own_scripts(
     test_scripts(alloc, no_scripts, name, change, &view, PhantomData)
 }
 
-/// Reads the package of a candidate, and tests its file and whether it is as its index says.
+/// Reads the package of a candidate. Tests the package's file, and that the package is as the index
+/// says.
 fn read_candidate<T: Tree>(
     alloc: Global,
     tree: &mut T,
     repositories: &Repos,
     c: &Candidate<'_>,
 ) -> Result<TestedPackage, Refused>
-    // The result is that of the definition, with the file that was found.
+    // The result is that of the definition, for a read that finds the tree's file, or some file.
     ensures found { IsAnswerByRead (IsPackageRead (T.history tree.old))
         (T.history tree.old) (package_of_candidate_by_read repositories.now
         (candidate_value c.now)) result }
+    // The tree is only read, and `Disk` has a fault of the tree as its cause.
     ensures tree { OnlyReads Refused.Disk (T.history tree.old) (T.history tree.new)
         (T.counts tree.old) (T.counts tree.new) result }
 {
@@ -96,8 +101,8 @@ fn read_candidate<T: Tree>(
     }
 }
 
-/// The name of a candidate's package file: NAME-VERSION.apk, beside the index of its repository.
-/// None if the candidate is of no repository, or that path is no name.
+/// The path of a candidate's package file: `NAME-VERSION.apk`, in the folder of the index of its
+/// repository. None if the candidate is of no repository, or this path is no valid name.
 fn package_file_path_of_candidate(
     alloc: Global,
     repositories: &Repos,
@@ -118,18 +123,19 @@ fn package_file_path_of_candidate(
     package_file_beside(alloc, index, c.info.name(), c.info.version())
 }
 
-/// Reads the package of a candidate from the file of this name, and tests the file and whether it
-/// is as its index says.
+/// Reads the package of a candidate from the file at this path. Tests the file, and that the
+/// package is as the index says.
 fn read_beside<T: Tree>(
     alloc: Global,
     tree: &mut T,
     c: &Candidate<'_>,
     path: &Name,
 ) -> Result<TestedPackage, Refused>
-    // The result is that of the definition, with the file that was found.
+    // The result is that of the definition, for a read that finds the tree's file, or some file.
     ensures found { IsAnswerByRead (IsPackageRead (T.history tree.old))
         (T.history tree.old) (package_of_candidate_by_path
         (candidate_value c.now) path.now) result }
+    // The tree is only read, and `Disk` has a fault of the tree as its cause.
     ensures tree { OnlyReads Refused.Disk (T.history tree.old) (T.history tree.new)
         (T.counts tree.old) (T.counts tree.new) result }
 {
@@ -143,16 +149,16 @@ fn read_beside<T: Tree>(
     }
 }
 
-/// Tests that a tested package is as its index says. The mark serves only the borrow checker: it
-/// does not know the parts of a view that is made and lent here unless the signature names the
-/// view.
+/// Tests that a tested package has the id, name and version of its candidate. `_mark` serves only
+/// the borrow checker: it does not know the parts of a view that is made and lent here unless the
+/// signature names the view.
 fn test_as_indexed<'a>(
     alloc: Global,
     c: &Candidate<'_>,
     pkg: &'a TestedPackage,
     _mark: PhantomData<PackageView<'a>>,
 ) -> Result<(), Refused>
-    // Refused exactly if the package differs from the candidate in id, name or version.
+    // Refused if the package, here `coming`, differs from the candidate in id, name or version.
     ensures { (coming : AddedPackage) → coming.value ≡ tested_value pkg.now
         → coming.id ≡ tested_id pkg.now
         → Agrees (λ _. coming) result (package_unless_other_than_candidate
@@ -165,13 +171,14 @@ fn test_as_indexed<'a>(
 
 /// The refusal of a candidate whose package file is absent, or has a path that is no name.
 fn missing(alloc: Global, c: &Candidate<'_>) -> Refused
+    // The result is this refusal, or out of memory for its texts.
     ensures { IsRefusalReported (PackageMissing (candidate_value c.now).name
         (candidate_version_text (candidate_value c.now))) result }
 {
     told(package_missing(alloc, c))
 }
 
-/// That refusal with its texts: the name and the version of the candidate.
+/// The refusal `PackageMissing`, with the name and the version of the candidate.
 fn package_missing(alloc: Global, c: &Candidate<'_>) -> Result<Refusal, AllocError>
     ensures { IfOk result (λ refusal. refusal ≡ PackageMissing (candidate_value c.now).name
         (candidate_version_text (candidate_value c.now))) }
@@ -182,15 +189,16 @@ fn package_missing(alloc: Global, c: &Candidate<'_>) -> Result<Refusal, AllocErr
     })
 }
 
-/// The refusal of a candidate whose package file fails a test.
+/// The refusal of a candidate whose package file fails a test, with the test as its cause.
 fn bad(alloc: Global, c: &Candidate<'_>, cause: Cause) -> Refused
+    // The result is this refusal, or out of memory for its texts.
     ensures { IsRefusalReported (PackageBad (candidate_value c.now).name
         (candidate_version_text (candidate_value c.now)) cause) result }
 {
     told(package_bad(alloc, c, cause))
 }
 
-/// That refusal with its texts: the name and the version of the candidate, and the test that
+/// The refusal `PackageBad`, with the name and the version of the candidate, and the test that
 /// failed.
 fn package_bad(alloc: Global, c: &Candidate<'_>, cause: Cause) -> Result<Refusal, AllocError>
     ensures { IfOk result (λ refusal. refusal ≡ PackageBad (candidate_value c.now).name
@@ -214,7 +222,7 @@ pub(crate) fn test_same(
     pkg: &PackageView<'_>,
     id: &[u8],
 ) -> Result<(), Refused>
-    // Refused exactly if the package differs from the candidate in id, name or version.
+    // Refused if the package, here `coming`, differs from the candidate in id, name or version.
     ensures { (coming : AddedPackage) → coming.value ≡ package_value pkg.now → coming.id ≡ id.now
         → Agrees (λ _. coming) result (package_unless_other_than_candidate
         (candidate_value c.now) coming) }
@@ -232,7 +240,8 @@ pub(crate) fn test_same(
     Ok(())
 }
 
-/// The refusal of a candidate whose package differs in a field from its index's entry.
+/// The refusal of a candidate whose package differs in a field from the index: `wanted` is the
+/// value in the index, `found` that of the package.
 fn differs(alloc: Global, c: &Candidate<'_>, field: u16, wanted: &[u8], found: &[u8]) -> Refused
     // The error is this refusal, unless memory runs out.
     ensures { IsRefusalReported (PackageDiffers (candidate_value c.now).name
@@ -241,7 +250,8 @@ fn differs(alloc: Global, c: &Candidate<'_>, field: u16, wanted: &[u8], found: &
     told(package_differs(alloc, c, field, wanted, found))
 }
 
-/// That refusal with its texts: what the index says of the field, and what the package has.
+/// The refusal `PackageDiffers`, with the name and version of the candidate, and both values of the
+/// field.
 fn package_differs(
     alloc: Global,
     c: &Candidate<'_>,
@@ -262,8 +272,9 @@ fn package_differs(
     })
 }
 
-/// A refusal, or out of memory for its texts.
+/// The end of a call with this refusal, or out of memory if there was no memory for its texts.
 pub(crate) fn told(made: Result<Refusal, AllocError>) -> Refused
+    // If the call made the wanted refusal, the result is this refusal, or out of memory.
     ensures { (wanted : RefusalValue) → IfOk made (λ refusal. refusal ≡ wanted)
         → IsRefusalReported wanted result }
 {

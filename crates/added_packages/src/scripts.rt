@@ -1,5 +1,5 @@
 //! The scripts that a change would run.
-//! The rule is in `docs/commands.md`, "`add` and `del`", the paragraph after **What is refused**:
+//! The rule is in `docs/commands.md`, "`add` and `del`", part "What is refused":
 //! which scripts a package has to run that is installed, removed, or gets another version.
 ghost use Rattle.package_verifier.specs.adb_schema.Views.{package_value, scripts_value};
 ghost use Rattle.adb_view.specs.FieldIndexes.{PACKAGE_SCRIPTS};
@@ -21,13 +21,13 @@ use report_core::numbers::{PRE_DEINSTALL_SCRIPT, PRE_INSTALL_SCRIPT, PRE_UPGRADE
 use std::alloc::{AllocError, Global};
 use std::marker::PhantomData;
 
-/// Refuses a package that has a script which its change would run, unless scripts are left out. The
-/// mark serves only the borrow checker: it does not know the parts of a view that is made and lent
-/// here unless the signature names the view.
+/// Refuses the package `pkg`, of this name, if it has a script which its change would run, unless
+/// scripts are left out. `_mark` serves only the borrow checker: it does not know the parts of a
+/// view that is made and lent here unless the signature names the view.
 ///
 /// # Errors
 ///
-/// `ScriptNeeded` with the first of them, or `Memory`.
+/// `ScriptNeeded` with the number of the first such script, or `Memory`.
 pub(crate) fn test_scripts<'a>(
     alloc: Global,
     no_scripts: bool,
@@ -61,7 +61,8 @@ fn script_needed(alloc: Global, name: &[u8], number: u16) -> Result<Refusal, All
     })
 }
 
-/// The number of the first script that a change would have to run, if there is one.
+/// The number of the first of these scripts of a package that the change would run, if there is
+/// one.
 fn first_script(change: &Change<'_>, scripts: &ScriptsView<'_>) -> Option<u16>
     // The result is the number of the first script of the package that the change would run.
     ensures { (pkg : Plain) → scripts_value scripts.now ≡ entry_in pkg PACKAGE_SCRIPTS
@@ -95,10 +96,12 @@ fn first_script(change: &Change<'_>, scripts: &ScriptsView<'_>) -> Option<u16>
     }
 }
 
-/// The number of the first of two scripts that is not empty, if one is; `number` is that of the
-/// first, and the second's is one more.
+/// The number of the first of two scripts that has bytes, or None if both are empty. `number` is
+/// the number of the script `first`; the script `second` has the next number.
 fn first_of_two(number: u16, first: &[u8], second: &[u8]) -> Option<u16>
+    // The number after it fits into 16 bits too.
     requires { number + 1 < 2 ^ 16 }
+    // The number of the first of the two with bytes, or None.
     ensures { result ≡ (if not (length first.now == 0) then Some number
         else if not (length second.now == 0) then Some (number + 1) else None) }
 {

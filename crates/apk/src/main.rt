@@ -73,21 +73,26 @@ fn main(rt: HostRuntime) -> ExitCode {
         }
         // Any other refusal: what is wrong with which package, file or name.
         Answer::Refused(refusal) => {
+            // The path at which the file of a refused package is looked for.
             let _ = explain_package(rt.alloc(), &words, refusal, &mut tree, &mut err);
+            // The hints that belong to this kind of refusal.
             let _ = explain(rt.alloc(), &words, refusal, &mut tree, &mut err);
+            // The files of a package whose positions the refusal names.
             let _ = explain_contents(rt.alloc(), &words, refusal, &mut tree, &mut err);
         }
         Answer::Ok => {
-            // `warn` lists only the folder of `mkpkg -F`; what earlier lists omitted does not
-            // count.
+            // Forget what lists of the run omitted. Then `warn` lists only the folder of `mkpkg
+            // -F`, so that the next call tells what this list omitted.
             tree.take_omitted();
             let _ = warn(rt.alloc(), &words, &mut tree, &mut err);
             if tree.take_omitted() {
                 let _ = rt.stderr().write_all(OMITTED);
             }
         }
+        // A failed output stream, or out of memory: nothing more is printed.
         _ => {}
     }
+    // Release the lock on the folder.
     tree.leave();
     ExitCode::from(status(&answer))
 }
@@ -112,17 +117,17 @@ fn lock_for(access: RootAccess) -> Lock {
 /// failed, the file that may have its new contents already, and whether the next command finishes a
 /// change.
 fn tell_why(rt: &HostRuntime, tree: &HostTree<'_, HostRuntime>) -> io::Result<()> {
-    let mut to = rt.stderr();
+    let mut stderr = rt.stderr();
     if let Some(failure) = tree.failure() {
-        failure.print(rt.alloc(), &mut to)?;
+        failure.print(rt.alloc(), &mut stderr)?;
     }
     if let Some(name) = tree.maybe_renamed_name() {
-        to.write_all(b"apk: ")?;
-        write_path(name, &mut to)?;
-        to.write_all(b" may have its new contents already\n")?;
+        stderr.write_all(b"apk: ")?;
+        write_path(name, &mut stderr)?;
+        stderr.write_all(b" may have its new contents already\n")?;
     }
     if tree.has_unfinished_change() {
-        to.write_all(UNFINISHED)?;
+        stderr.write_all(UNFINISHED)?;
     }
     Ok(())
 }

@@ -11,16 +11,17 @@ use std::alloc::{AllocError, Global};
 use std::env::{Env, FillError};
 use std::io::{ErrorKind, Write};
 
-/// The most words that a command line may have: 2^32 - 2.
+/// The most words that a command line may have: 2^32 - 2, the most that `Words` of `base_core`
+/// holds.
 const MOST_WORDS: usize = 4294967294;
 
-/// How often an argument is read with a buffer that is doubled after each try for which it was too
-/// short. An argument that never fits counts as out of memory. The buffer has 4,096 bytes at first
-/// and is never made smaller, so that an argument may have two gigabytes.
+/// How often one argument is read, each time with a buffer twice as long as before. An argument
+/// that never fits counts as out of memory. The buffer has 4,096 bytes at first and is never made
+/// smaller, so that an argument may have two gigabytes.
 const MOST_DOUBLINGS: u32 = 20;
 
 /// How many bytes of stack a run takes, after it has read its words and before any call on the
-/// tree. The deepest run of the tests needs some 280,000.
+/// tree. The run of the tests that needs most stack takes some 280,000 bytes.
 const STACK: usize = 524_288;
 
 /// Why the arguments of the command line are not read.
@@ -44,6 +45,7 @@ impl From<AllocError> for ArgumentsFault {
 pub fn words_of(rt: &impl Env, alloc: Global) -> Result<Words, ArgumentsFault> {
     let mut words = Words::new(alloc);
     let mut buffer = vec![in alloc; 0u8; 4096]?;
+    // The argument of the host with number 0 is the name of the program.
     for i in 1..=MOST_WORDS + 1 {
         let Some(len) = read_word(rt, i, &mut buffer)? else {
             return Ok(words);
@@ -62,25 +64,26 @@ pub fn words_of(rt: &impl Env, alloc: Global) -> Result<Words, ArgumentsFault> {
 ///
 /// `seed` is a number that the compiler does not know, so that it cannot leave out the writes.
 pub fn take_stack(alloc: Global, seed: usize) -> Result<(), AllocError> {
-    let mut room = Vec::with_capacity(alloc, STACK)?;
-    room.push(1)?;
-    room.push(0)?;
-    let mark = room[seed % 2];
-    drop(room);
+    let mut requested = Vec::with_capacity(alloc, STACK)?;
+    requested.push(1)?;
+    requested.push(0)?;
+    // 1 or 0; the compiler does not know which.
+    let byte = requested[seed % 2];
+    drop(requested);
     // The result is 0 or 1. Because of this test the compiler cannot leave out the call.
-    if touch_stack(seed, mark) > 1 {
+    if touch_stack(seed, byte) > 1 {
         return Err(AllocError);
     }
     Ok(())
 }
 
-/// Fills `STACK` bytes of the stack with zeros and one byte `mark`, and returns one of these bytes.
-/// The call must not be inlined: the frame of its caller would keep the bytes for the whole run,
-/// and later calls would need more stack than was taken.
+/// Fills `STACK` bytes of the stack with zeros and the one byte `byte`, and returns one of these
+/// bytes. The call must not be inlined: the frame of its caller would keep the bytes for the whole
+/// run, and later calls would need more stack than was taken.
 #[inline(never)]
-fn touch_stack(seed: usize, mark: u8) -> u8 {
+fn touch_stack(seed: usize, byte: u8) -> u8 {
     let mut stack = [0u8; STACK];
-    stack[seed % STACK] = mark;
+    stack[seed % STACK] = byte;
     stack[seed / 2 % STACK]
 }
 

@@ -121,7 +121,7 @@ reports_wanted (Err (IsRefused refusal)) verdict files wanted agrees told = repo
 reports_wanted (Err Disk) verdict files wanted agrees told = absurd (cc (told))
 reports_wanted (Err Memory) verdict files wanted agrees told = absurd (cc (told))
 
--- ---- over a tree whose files no contract knows
+-- ---- over a tree that is not observable
 
 commits_so : (files : Files) (wanted : Wanted) → DoesCommit wanted → (change_outcome files wanted).commits ≡ true
 commits_so files (Ok done) commits = commits

@@ -1,6 +1,6 @@
--- What a run of the top call answers, and what it prints on its two sinks. The rules are in
--- `docs/commands.md`, "Answers and statuses", and for faults in `docs/crash-safety.md`, "Misuses,
--- faults and counts".
+-- What a run of `apk` answers, and what it prints on its two sinks: `out` is standard output, `err` is
+-- standard error. The contract of `apk` cites these definitions. The rules are in `docs/commands.md`, "Answers and
+-- statuses", and for faults in `docs/crash-safety.md`, "Misuses, faults and counts".
 use Rattle.std.specs.Prelude.{◌≡◌, ◌≢◌, ◌⊎◌, ◌<◌, ℕ, ◌-◌, ◌^◌, false, Bool, ◌||◌, List, [], Option, Some, None, is_ok}
 use Rattle.base_core.specs.Calls.{HoldsNow}
 use Rattle.base_core.specs.Faults.{Counts, IsFaultCountedWithCause, CountsNoNewFault, RoseOrIsSaturated}
@@ -37,9 +37,11 @@ abbrev pub GetsLineOrFailsWithPrefix : SinkBeforeAndAfter → List ℕ → Type 
 GetsLineOrFailsWithPrefix sink line =
     (SinkGets sink line × DidNotFail sink) ⊎ (SinkGetsPrefix sink line × SinkFailed sink)
 
--- a sink failed, and at least one byte was to be printed on it
+-- a sink failed, and `bytes`, which were to be printed on it, are at least one byte
 pub record FailedWithBytesToPrint (sink : SinkBeforeAndAfter) (bytes : List ℕ) : Type 0 where
+  -- there is a byte to be printed
   pub some : bytes ≢ []
+  -- a call on the sink failed
   pub failed : SinkFailed sink
 
 -- the answer and all bytes are those of an outcome, and no sink failed
@@ -47,36 +49,41 @@ pub record IsAnsweredInFull (outcome : Outcome) (answer : Answer)
     (out err : SinkBeforeAndAfter) : Type 0 where
   -- the answer is that of the outcome
   pub same : answer ≡ answer_of outcome
-  -- each sink gets all bytes of the outcome
+  -- standard output gets all bytes of the outcome
   pub out_gets : SinkGets out outcome.out
+  -- standard error gets all bytes of the outcome
   pub err_gets : SinkGets err outcome.err
-  -- no sink failed
+  -- standard output did not fail
   pub out_kept : DidNotFail out
+  -- standard error did not fail
   pub err_kept : DidNotFail err
 
--- just one sink failed while an outcome was printed
+-- exactly one of the two sinks failed while an outcome was printed
 pub record IsSingleSinkFault (outcome : Outcome) (out err : SinkBeforeAndAfter) : Type 0 where
-  -- out failed, and then nothing is printed on err; or err failed, after the whole report on out
+  -- `out` failed, and then nothing is printed on `err`; or `err` failed, after the whole report on `out`
   pub which :
       (FailedWithBytesToPrint out outcome.out × SinkGets err [] × DidNotFail err)
       ⊎ (FailedWithBytesToPrint err outcome.err × SinkGets out outcome.out × DidNotFail out)
-  -- each sink got the first bytes of what was to be printed on it, or all of them
+  -- standard output got the first bytes of what was to be printed, or all
   pub out_gets : SinkGetsPrefix out outcome.out
+  -- standard error got the first bytes of what was to be printed, or all
   pub err_gets : SinkGetsPrefix err outcome.err
 
--- no outcome was printed: only this line on err; out got nothing, and did not fail
+-- no outcome was printed: `err` gets only this line, or a prefix of it if `err` fails; `out` gets nothing, and
+-- does not fail
 pub record PrintsOnlyErrorLine (line : List ℕ) (out err : SinkBeforeAndAfter) : Type 0 where
-  -- standard output gets nothing, and does not fail
+  -- standard output gets nothing
   pub out_gets : SinkGets out []
+  -- standard output does not fail
   pub out_kept : DidNotFail out
   -- standard error gets the line, or the first bytes of it
   pub err_gets : GetsLineOrFailsWithPrefix err line
 
 -- ---- the answer
 
--- The answer is that of an outcome in `IsOne`: its bytes are printed, and `Leaves` holds of it. A fault
--- of a sink may replace the answer and cut the bytes short. Or the tree failed (`tree_failed` holds), or
--- memory ran out: then only that error line is printed.
+-- The answer is that of an outcome for which `IsOne` holds: the outcome's bytes are printed, and `Leaves` holds of
+-- the outcome. A fault of a sink may replace the answer and cut the bytes short. Or the tree failed (`tree_failed`
+-- holds), or memory ran out: then only the line of this error is printed.
 abbrev pub IsAnswerOfSomeOutcome :
     (Outcome → Type 0) → (Outcome → Type 0) → Type 0 → Answer → SinkBeforeAndAfter → SinkBeforeAndAfter
     → Type 0
@@ -124,12 +131,14 @@ IsAnswerExplainedByCounts Memory before after out err =
 
 -- a run in which no count of faults rose: neither the tree's, nor a sink's
 pub record IsFaultless (before after : Counts) (out err : SinkBeforeAndAfter) : Type 0 where
-  -- the count of faults did not rise, and is not at its greatest value: of the tree, and of each sink
+  -- the tree's count of faults did not rise, and is not at its greatest value
   pub tree : ¬ RoseOrIsSaturated before.faults after.faults
+  -- the same for the count of faults of standard output
   pub out_sink : ¬ RoseOrIsSaturated out.before.faults out.after.faults
+  -- the same for the count of faults of standard error
   pub err_sink : ¬ RoseOrIsSaturated err.before.faults err.after.faults
 
--- the answer is the outcome's, unless memory ran out
+-- the answer is that of an outcome of the command line `words` over these files, unless memory ran out
 abbrev pub AnswersOutcomeUnlessMemory : List (List ℕ) → Files → Answer → Type 0
 AnswersOutcomeUnlessMemory words files answer =
     (answer ≡ Memory)
@@ -137,16 +146,16 @@ AnswersOutcomeUnlessMemory words files answer =
     × IsOutcome (command_of words) files outcome
     × (answer ≡ answer_of outcome))
 
--- no failure of a tree or a sink is planned, and its count of misuses is below 2^64 - 1, the greatest
--- count, so that one more misuse would be counted
+-- The counts of a tree or a sink say that no failure of its calls is planned (as tests plan them). Its count of
+-- misuses is below the greatest count, 2^64 - 1, so that one more misuse would be counted.
 pub record HasNoPlannedFailure (counts : Counts) : Type 0 where
   -- the counts say that no call is to fail
   pub unplanned : counts.fallible ≡ false
   -- one more misuse would be counted
   pub below : counts.misuses < 2 ^ 64 - 1
 
--- The answer, all bytes and the files are the outcome's, or memory ran out: the run's, or the own
--- memory of the tree or of a sink.
+-- The answer and all bytes are the outcome's, and `Leaves` holds of the outcome. Or memory ran out: in the run, in
+-- the tree (`TreeFault`), or in a sink (`OutFault`).
 abbrev pub IsAnsweredInFullUnlessMemory :
     List (List ℕ) → Files → (Outcome → Type 0) → Answer → Counts → Counts
     → SinkBeforeAndAfter → SinkBeforeAndAfter → Type 0

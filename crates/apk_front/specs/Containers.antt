@@ -37,7 +37,8 @@ first_block_head_or_shape_fault which done = None
 first_block_head_or_shape_fault which (fault c) = Some c
 first_block_head_or_shape_fault which (more b at r) = payload_head_or_shape_fault which b.payload
 
--- the first block has this payload and passed its tests; `later` are the blocks after it
+-- the first block of a reading has this payload, which passed the tests of head and shape; `later` is the reading of
+-- the blocks after it
 abbrev pub IsAfterShapedFirstBlock : Which → List ℕ → Reading → Reading → Type 0
 IsAfterShapedFirstBlock which payload done later = ⊥
 IsAfterShapedFirstBlock which payload (fault c) later = ⊥
@@ -51,14 +52,13 @@ abbrev pub made_file_bytes : Result (Vec ℕ Global) MakeFault → Result (List 
 made_file_bytes (Ok file) = Ok file.items
 made_file_bytes (Err why) = Err why
 
--- whether an I/O error of the tree or running out of memory stopped the making, which then refuses
--- nothing
+-- whether the fault is an I/O error of the tree or out of memory; the other faults are reported as refusals
 abbrev pub is_disk_or_memory : MakeFault → Bool
 is_disk_or_memory Disk = true
 is_disk_or_memory Memory = true
 is_disk_or_memory other = false
 
--- whether a fault stopped the making, so that no outcome is answered
+-- whether an I/O error of the tree or out of memory stopped the making, so that no outcome is answered
 abbrev pub is_making_ended_by_disk_or_memory : Result (Vec ℕ Global) MakeFault → Bool
 is_making_ended_by_disk_or_memory (Ok file) = false
 is_making_ended_by_disk_or_memory (Err why) = is_disk_or_memory why
@@ -104,6 +104,7 @@ IsIndexOutcome command files outcome = outcome ≡ mkndx (reads_in files) files 
 pub record IsIndexFound (command : CommandLine) (made : Result (List ℕ) MakeFault) : Type 0 where
   -- some contents for each read; under an operand it finds nothing, or bytes that a file may have
   pub read : Reads
+  -- under each operand the read finds nothing, or bytes that a file may have
   pub files : AreOperandReadsFileBytes read 0 command.operands
   -- the index of these reads, or the reason for which none is made
   pub is : made_index command read ≡ made

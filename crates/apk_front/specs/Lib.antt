@@ -1,4 +1,4 @@
--- passed on: a crate above that names this one need not name these
+-- re-exported crates: a crate that depends on this one can use their definitions without depending on them too
 pub use Rattle.adb_dump.specs.adb_schema as adb_schema
 pub use Rattle.engine_core.specs as engine_core
 pub use Rattle.engine_core.specs.change_outcome as change_outcome
@@ -12,10 +12,10 @@ pub use Rattle.outcome.specs as outcome
 pub use Rattle.tell_core.specs.change_inputs as change_inputs
 pub use Rattle.tell_core.specs.path_clashes as path_clashes
 pub use Rattle.words_core.specs as words_core
--- cited by the contract of `apk`, in the order in which it is best read
+-- modules that the contract of `apk` cites, in the order in which they are best read
 pub mod Answers
 pub mod Moments
--- used by inner contracts and proofs only
+-- modules that only inner contracts and proofs use
 pub mod Status
 pub mod Verdicts
 pub mod Runs

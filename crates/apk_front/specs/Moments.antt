@@ -1,6 +1,6 @@
--- The effect of a run of the top call on the tree, moment by moment. The rules are in
--- `docs/crash-safety.md`, "Recovery": the table of what a run of `apk` may leave, and the text after
--- it.
+-- The effect of a run of `apk` on the tree, moment by moment. `old` is the history of the tree before the run, `now`
+-- the history after it, and `v` the state in which the run begins. The rules are in `docs/crash-safety.md`, "Recovery":
+-- the table of what a run of `apk` may leave, and the text after it.
 use Rattle.std.specs.Prelude.{◌≡◌, ◌⊎◌, ◌||◌, ℕ, Bool, true, false, if◌then◌else◌, List, [], ◌∷◌, Option, Some, None, IsSome}
 use Rattle.std.specs.Str.{bytes_eq}
 use Rattle.base_core.specs.Calls.{HoldsNow, IfObservable}
@@ -120,9 +120,9 @@ HasNothingToRecover effect v =
 abbrev pub CanRecover : Effect → TreeState → Type 0
 CanRecover effect v = (does_recover effect ≡ true) × IsSome (intent_of (files_of v))
 
--- from state v to state w a recovery is in progress
+-- w is a state during a recovery that began in state v
 pub record IsStateDuringRecovery (v w : TreeState) : Type 0 where
-  -- recovery yields of the files in w what it yields of those in v
+  -- recovery of the files in w yields the same files as recovery of the files in v
   pub reads : unstaged_files (files_of w) ≡ unstaged_files (files_of v)
   -- each name outside the staging area has its bytes in v or its recovered bytes
   pub bytes : HasOldOrNewBytesOutsideJournal (files_of v) (unstaged_files (files_of v)) w
@@ -161,7 +161,7 @@ NamesAreDurableWithoutIntentExcept output w =
 
 -- The states of a run that leads to these files. In each the tree is durable, and a crash leaves a
 -- state from before or that of the files. It leaves one from before as long as no intent is committed,
--- unless the run makes one file, for which it needs no intent.
+-- unless the run makes one file (`true`), for which it needs no intent.
 abbrev pub MomentsLeadToFiles :
     Bool → (List ℕ → Bool) → Files → TreeState → List TreeState → List TreeState → Type 0
 MomentsLeadToFiles true ignored files v old now = Since (IsMomentOfReplacing ignored files v) old now
@@ -180,8 +180,8 @@ AreStatesOldOrLeadToOutcome IsOne makes ignored v old now =
     × (outcome.commits ≡ true)
     × MomentsLeadToFiles makes ignored outcome.files v old now)
 
--- an outcome's files must be durable after the run: the outcome commits, or each crash at the start left
--- the files as read
+-- an outcome's files must be durable after the run: the outcome commits, or each crash at the start would have
+-- left the state of the files as read then
 abbrev pub MustOutcomeBeDurableWithoutRecovery : (List ℕ → Bool) → TreeState → Outcome → Type 0
 MustOutcomeBeDurableWithoutRecovery ignored v outcome =
     (outcome.commits ≡ true) ⊎ EachCrashLeavesStateOf ignored (files_of v) v
@@ -201,19 +201,19 @@ pub record IsDurableAndLeavesFiles (ignored : List ℕ → Bool) (files : Files)
 
 -- ---- the answer
 
--- the command was carried out, though its report may not have been printed
+-- the answer is Ok or a fault of a sink: the run reached its outcome, but its bytes may not all be printed
 abbrev pub IsOkOrOutputFault : Answer → Type 0
 IsOkOrOutputFault Ok = Unit {0}
 IsOkOrOutputFault OutFault = Unit {0}
 IsOkOrOutputFault other = ⊥
 
--- the command was not carried out, and the tree did not fail
+-- the answer is a refusal or out of memory: the command was not carried out, and the tree did not fail
 abbrev pub IsRefusedOrOutOfMemory : Answer → Type 0
 IsRefusedOrOutOfMemory (Refused refusal) = Unit {0}
 IsRefusedOrOutOfMemory Memory = Unit {0}
 IsRefusedOrOutOfMemory other = ⊥
 
--- the answer is that of the outcome, or it is a fault of a sink
+-- the run reached its outcome: the answer is Ok, a refusal, or a fault of a sink instead of one of them
 abbrev pub IsOkRefusedOrOutputFault : Answer → Type 0
 IsOkRefusedOrOutputFault Ok = Unit {0}
 IsOkRefusedOrOutputFault (Refused refusal) = Unit {0}

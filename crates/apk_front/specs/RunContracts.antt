@@ -21,23 +21,23 @@ use Rattle.apk_front.specs.Runs.{IfNothingStaged, IsRunAfterRecovery, IsRunWithR
 use Rattle.apk_front.specs.Verdicts.{ReportsOneOfOutcomes, as_outcome}
 use Rattle.apk_front.specs.declared.answer.Verdict.{Verdict}
 
--- how the tree's counts explain a verdict, or why there is none
+-- how the tree's counts before and after a call explain its verdict, or why there is none
 pub record IsVerdictExplainedByCounts (before now : Counts)
     (judged : Result Verdict TreeFault) : Type 0 where
   -- no count falls
   pub goes_on : CountsOnlyRise before now
-  -- an I/O error has its cause
+  -- if an I/O error of the tree is returned, a failed call was counted, with its cause
   pub disk : IsErrOf judged Disk → IsFaultCountedWithCause before now
-  -- neither a verdict nor out of memory hides a fault
+  -- if there is a verdict, the tree counted no failed call
   pub kept : OnOk judged (CountsNoNewFault before now)
   -- if memory ran out, the tree counted no failed call
   pub memory : IsErrOf judged Memory → CountsNoNewFault before now
 
--- a run of `mkpkg` or `mkndx`, or a call that writes what such a run has made: its effect on the tree, if
--- its outcome over some files is one of these
+-- The effect on the tree of a run of `mkpkg` or `mkndx`, or of a call that writes what such a run has made. `IsOne`
+-- says which outcomes the run has over given files, and `output` is the name of the file that it makes.
 pub record IsMakingRun (IsOne : Files → Outcome → Type 0) (output : Option (List ℕ))
     (old now : List TreeState) (judged : Result Verdict TreeFault) : Type 0 where
-  -- the effect of the run on the tree: crashes, files and calls
+  -- on an observable tree, the effect of the run is as *IsRunAfterRecovery* says
   pub tree : IfObservable old (λ v. IsRunAfterRecovery (IsOne (files_of v)) Makes output judged v old now)
   -- a refusal writes nothing
   pub refused : IfOk judged (λ verdict. IsSome verdict.refusal → now ≡ old)
@@ -47,20 +47,20 @@ pub record IsMakingRun (IsOne : Files → Outcome → Type 0) (output : Option (
 -- a run of a command that only reads; its outcome depends on the contents at each read, and on the files
 pub record IsReadingRun (outcome : Reads → Files → Outcome) (old now : List TreeState)
     (counts_before counts_now : Counts) (judged : Result Verdict TreeFault) : Type 0 where
-  -- on a tree that shows its files the verdict is that of the outcome over these files
+  -- on an observable tree the verdict is that of the outcome over the tree's files
   pub found : IfOk judged (λ verdict. IfObservable old (λ v.
       as_outcome (files_of v) verdict ≡ outcome (reads_in (files_of v)) (files_of v)))
-  -- on every tree it is that of the outcome for some contents at each read
+  -- on every tree the verdict is that of the outcome for some contents at each read
   pub by_reads : IfOk judged
       (λ verdict. (read : Reads) × (as_outcome no_names verdict ≡ outcome read no_names))
   -- the tree is only read; an I/O error has its cause there
   pub tree : OnlyReads Disk old now counts_before counts_now judged
 
--- a test of the file under a name, which the argument at a place names: its refusal, if it is no sound
--- container
+-- A test of the file `name`, which the argument at `place` of the command line names. The result `tested` is the
+-- refusal of this file, if it is no sound container.
 pub record IsFileTest (place : ℕ) (name : List ℕ) (old now : List TreeState)
     (counts_before counts_now : Counts) (tested : Result (Option Refusal) TreeFault) : Type 0 where
-  -- on a tree that shows its files the file under this name is tested
+  -- on an observable tree the file under this name is tested
   pub found : IfOk tested (λ refusal. IfObservable old (λ v.
       refusal ≡ file_refusal place (files_of v name)))
   -- on every tree some bytes are tested, or none are found
@@ -68,7 +68,7 @@ pub record IsFileTest (place : ℕ) (name : List ℕ) (old now : List TreeState)
   -- the tree is only read
   pub tree : OnlyReads Disk old now counts_before counts_now tested
 
--- a run of a command whose outcome depends on its arguments alone: one of these over any files
+-- a run of a command whose outcome depends on its arguments alone; `IsOne` says which outcomes it has over any files
 pub record IsRunByArguments {Tree : Type 0} (IsOne : Files → Outcome → Type 0) (old now : Tree)
     (judged : Result Verdict TreeFault) : Type 0 where
   -- the verdict is that of the outcome over any files, unless memory ran out
@@ -80,21 +80,22 @@ pub record IsRunByArguments {Tree : Type 0} (IsOne : Files → Outcome → Type 
 -- a run of a command, after recovery
 pub record IsRecoveredRun (command : CommandLine) (old now : List TreeState)
     (counts_before counts_now : Counts) (judged : Result Verdict TreeFault) : Type 0 where
-  -- on a tree that shows its files the verdict is that of the outcome over these files
+  -- on an observable tree without an intent and staged files, the verdict is that of an outcome over the tree's files
   pub found : IfOk judged (λ verdict. IfNothingStaged old (λ v.
       ReportsOneOfOutcomes (IsOutcomeOverRecoveredFiles command (files_of v)) verdict))
-  -- on every tree it is that of an outcome for some listing and some contents at each read
+  -- on every tree the verdict is that of an outcome for some listing and some contents at each read
   pub by_reads : IfOk judged
       (λ verdict. ReportsOneOfOutcomes (IsPossibleOutcomeAfterRecovery command) verdict)
-  -- the effect of the run on the tree: crashes, files and calls
+  -- on an observable tree without an intent and staged files, the effect of the run is as *IsRunAfterRecovery* says
   pub tree : IfNothingStaged old (λ v. IsRunAfterRecovery (IsOutcomeOverRecoveredFiles command (files_of v))
       (effect_of command.applet)
       (output_name_for_effect (effect_of command.applet) command) judged v old now)
-  -- if memory ran out nothing was written
+  -- on an observable tree without an intent and staged files: if memory ran out, nothing was written
   pub undone : IfNothingStaged old (λ v. IsErrOf judged Memory → now ≡ old)
   -- if there is a verdict, the tree counted no failed call; an I/O error has its cause in the counts
   pub counts : IsVerdictExplainedByCounts counts_before counts_now judged
-  -- no call is a misuse if the paths are free that an outcome that commits writes
+  -- on an observable tree without an intent and staged files, no call is a misuse if the paths that an outcome that
+  -- commits writes are free
   pub proper : IfNothingStaged old (λ v.
       ((outcome : Outcome) → IsOutcomeOverRecoveredFiles command (files_of v) outcome → outcome.commits
       ≡ true
@@ -103,23 +104,25 @@ pub record IsRecoveredRun (command : CommandLine) (old now : List TreeState)
       (files_of v))
       → counts_now.misuses ≡ counts_before.misuses)
 
--- A run of a command line, which first recovers if its command does. `IsOne` says which outcomes it has
--- over some files, and `IsPossible` which it may have over files that no contract sees.
+-- A run of a command line, which first recovers if its command does. `IsOne` says which outcomes the run has over
+-- given files, and `IsPossible` which it may have on a tree that is not observable. `accepts` says which names the tree
+-- has accepted.
 pub record IsJudgedRun (accepts : Option (List ℕ) → List ℕ → Type 0)
     (IsOne : Files → Outcome → Type 0) (IsPossible : Outcome → Type 0) (effect : Effect)
     (output : Option (List ℕ)) (old now : List TreeState) (counts_before counts_now : Counts)
     (judged : Result Verdict TreeFault) : Type 0 where
-  -- on a tree that shows its files the verdict is that of the outcome over the files at the start
+  -- on an observable tree the verdict is that of an outcome over the tree's files at the start
   pub found : IfOk judged (λ verdict. IfObservable old
       (λ v. ReportsOneOfOutcomes (IsOne (files_of v)) verdict))
-  -- on every tree it is that of an outcome for some listing and some contents at each read
+  -- on every tree the verdict is that of an outcome for some listing and some contents at each read
   pub by_reads : IfOk judged (λ verdict. ReportsOneOfOutcomes IsPossible verdict)
-  -- the effect of the run on the tree: crashes, files and calls
+  -- on an observable tree, the effect of the run is as *IsRunWithRecovery* says
   pub tree : IfObservable old (λ v. IsRunWithRecovery (IsOne (files_of v)) effect output judged v old now)
-  -- a change has asked the tree for each name that it promises
+  -- at each moment of a change, the tree has accepted each name to which recovery would then give other bytes than
+  -- recovery at the start
   pub promised : effect ≡ Changes → AreRecoveryTargetsAccepted accepts old now
   -- if there is a verdict, the tree counted no failed call; an I/O error has its cause in the counts
   pub counts : IsVerdictExplainedByCounts counts_before counts_now judged
-  -- no call is a misuse if the paths of the run are free
+  -- on an observable tree, no call is a misuse if the paths that recovery and the outcome write are free
   pub proper : IfObservable old (λ v. AreOutcomePathsFree effect output (IsOne (files_of v)) (files_of v)
       → counts_now.misuses ≡ counts_before.misuses)

@@ -1,5 +1,6 @@
--- The effect of a run on a tree. Serves the proofs of `apk`: the contracts of `judge`, of
--- `recover_and_run` and of each command that it runs. The rules are in `docs/crash-safety.md`,
+-- The effect of a run on a tree. `IsOne` says which outcomes the run has, and `judged` is its verdict or error. The run
+-- begins in the state `v`; `old` and `now` are the histories before and after it. Serves the contracts of `judge`, of
+-- `recover_and_run` and of each command that `recover_and_run` runs. The rules are in `docs/crash-safety.md`,
 -- "Recovery".
 use Rattle.std.specs.Prelude.{◌≡◌, ◌⊎◌, ℕ, Bool, true, false, is_some, IsSome, IsErrOf, List, Option, None, Result, OnOk}
 use Rattle.base_core.specs.Calls.{HoldsNow, IfObservable}
@@ -31,8 +32,8 @@ IfNothingStaged history P = IfObservable history (λ v. HasNothingStaged v → P
 
 -- ---- a run
 
--- in each state of a run that recovers nothing the files as read are the old ones. Or the run has an
--- outcome that commits, and its states are those of such a run (*IsStateDuringRun*).
+-- In each state of a run that recovers nothing, the files as read are those at its start. Or the run has an outcome
+-- that commits, and its states are those of such a run (*IsStateDuringRun*).
 abbrev pub AreFilesReadWithoutRecovery :
     (Outcome → Type 0) → Effect → Option (List ℕ) → TreeState → List TreeState → List TreeState
     → Type 0
@@ -55,34 +56,35 @@ pub record IsRunAfterRecovery (IsOne : Outcome → Type 0) (effect : Effect) (ou
   pub is_durable : (ignored : List ℕ → Bool)
       → IsDurable (StateDependsOn ignored) v → IgnoresScratchNameOfOutput output ignored
       → HoldsNow now (IsDurable (StateDependsOn ignored))
-  -- if an outcome was judged whose files must be durable, each crash leaves them
+  -- if there is a verdict, each crash leaves the files of the outcome, if they must be durable
   pub settled : (ignored : List ℕ → Bool) (outcome : Outcome)
       → IsDurable (StateDependsOn ignored) v → IgnoresScratchNameOfOutput output ignored
       → IsOne outcome → MustOutcomeBeDurableWithoutRecovery ignored v outcome
       → OnOk judged (HoldsNow now (EachCrashLeavesStateOf ignored outcome.files))
-  -- if an outcome that commits was judged, its output and the scratch name are no longer ignored
+  -- if there is a verdict and the outcome commits, the tree is durable and each crash leaves the outcome's files; its
+  -- output and the scratch name are no longer ignored
   pub durable_state : (ignored : List ℕ → Bool) (outcome : Outcome)
       → IsDurable (StateDependsOn ignored) v → IgnoresScratchNameOfOutput output ignored
       → IsOne outcome → outcome.commits ≡ true
       → OnOk judged (HoldsNow now
       (IsDurableAndLeavesFiles (ignored_except_output output ignored) outcome.files))
-  -- the files as read are the old ones, or the run works on them
+  -- in each state the files as read are those at the start, or the states are those of a run that commits
   pub reads : AreFilesReadWithoutRecovery IsOne effect output v old now
-  -- if no crash undoes a change of a name at the start, none does as long as no intent is read, except
-  -- for the output and staged files
+  -- Suppose that no crash undoes a change of a name at the start. Then none does so as long as no intent is read,
+  -- except for the names of the output and of staged files
   pub last : NamesOutsideJournalAreDurable v → Since (NamesAreDurableWithoutIntentExcept output) old now
-  -- the files as read are the outcome's once it was judged
+  -- if there is a verdict, the files as read are those of the outcome
   pub leaves : (outcome : Outcome) → IsOne outcome
       → OnOk judged (HoldsNow now (λ w. files_of w ≡ outcome.files))
-  -- a run that commits nothing writes nothing
+  -- if the outcome commits nothing, the run writes nothing
   pub idle : (outcome : Outcome) → IsOne outcome → outcome.commits ≡ false → now ≡ old
 
 -- the run reports that memory ran out, or one of these outcomes commits nothing, whatever was judged
 abbrev pub IsOutOfMemoryOrWithoutCommit : (Outcome → Type 0) → Result Verdict TreeFault → Type 0
 IsOutOfMemoryOrWithoutCommit IsOne judged = IsErrOf judged Memory ⊎ HasOutcomeWithoutCommit IsOne
 
--- The effect of a run that first recovers, if its command does. Fields without a comment say what those
--- of *IsRunAfterRecovery* say, with the recovery before it.
+-- The effect of a run that first recovers, if its command does. The fields are those of *IsRunAfterRecovery* for the
+-- recovery and the run after it, and three more: `left`, `bad` and `idle` for a run out of memory.
 pub record IsRunWithRecovery (IsOne : Outcome → Type 0) (effect : Effect) (output : Option (List ℕ))
     (judged : Result Verdict TreeFault) (v : TreeState) (old now : List TreeState) : Type 0 where
   -- at each moment the state is old, or the run leads to the files of an outcome that commits
@@ -104,12 +106,12 @@ pub record IsRunWithRecovery (IsOne : Outcome → Type 0) (effect : Effect) (out
       → IsOne outcome → outcome.commits ≡ true
       → OnOk judged (HoldsNow now
       (IsDurableAndLeavesFiles (ignored_except_output output ignored) outcome.files))
-  -- a run that commits nothing leaves the state, and writes nothing if there is nothing to recover
+  -- a run that is out of memory or commits nothing leaves the state of a durable tree unchanged
   pub left : IsOutOfMemoryOrWithoutCommit IsOne judged → (ignored : List ℕ → Bool)
       → IsDurable (StateDependsOn ignored) v → Since (StateIsUnchanged ignored v) old now
   -- without anything to recover, a run that is out of memory or commits nothing leaves the tree unchanged
   pub idle : IsOutOfMemoryOrWithoutCommit IsOne judged → HasNothingToRecover effect v → now ≡ old
-  -- nothing is written either if the intent is bad
+  -- if the intent is bad, nothing is written
   pub bad : IsSome (recovery_fault effect (files_of v)) → now ≡ old
   -- which files are read at each moment of the run
   pub reads : AreStatesOfRecoveryOrCommittingRun IsOne effect output v old now

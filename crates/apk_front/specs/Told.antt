@@ -1,5 +1,5 @@
 -- The verdict on the answer to a change, and to a command that only reports. Serves the proofs of
--- `src/change.rt` and `src/report.rt`; the rule is in `docs/commands.md`, "Answers and statuses".
+-- `src/change_root.rt` and `src/report.rt`; the rule is in `docs/commands.md`, "Answers and statuses".
 use Rattle.std.specs.Prelude.{◌≡◌, ℕ, List, Result, Ok, Err}
 use Rattle.base_core.specs.Files.{Files}
 use Rattle.base_core.specs.declared.tree.TreeFault.{TreeFault}
@@ -11,7 +11,8 @@ use Rattle.outcome.specs.Outcome.{just_refusal, just_report, outcome_without_com
 use Rattle.apk_front.specs.Verdicts.{as_outcome}
 use Rattle.apk_front.specs.declared.answer.Verdict.{Verdict}
 
--- the verdict if the engine gives no report: a refusal is reported, and a failure is returned
+-- the verdict if there is no report: it has the refusal; an I/O error of the tree or out of memory is returned instead
+-- of a verdict
 abbrev pub IsVerdictOnRefusal : Refused → Result Verdict TreeFault → Type 0
 IsVerdictOnRefusal (Refusal refusal) (Ok verdict) =
     (files : Files) → as_outcome files verdict ≡ just_refusal files refusal
@@ -26,7 +27,8 @@ IsVerdictOnChange (Ok report) (Ok verdict) =
 IsVerdictOnChange (Ok report) (Err fault) = ⊥
 IsVerdictOnChange (Err refused) judged = IsVerdictOnRefusal refused judged
 
--- the verdict on a report: it is reported, with the refusal after it, or a refusal is
+-- the verdict of a command that only reports: the report, with the refusal after it, if there is one; or why there is
+-- no report
 abbrev pub IsVerdictOnReport : Result ReportAndRefusal Refused → Result Verdict TreeFault → Type 0
 IsVerdictOnReport (Ok done) (Ok verdict) =
     (files : Files) → as_outcome files verdict

@@ -18,7 +18,7 @@ use Rattle.apk_front.specs.declared.answer.Answer.{Answer}
 use Rattle.apk_front.specs.declared.answer.Answer.TheVariants.{Ok as Good, Refused, TreeFault as TreeFailed, OutFault, Memory}
 use Rattle.apk_front.specs.declared.answer.Verdict.{Verdict}
 
--- a verdict as an outcome that writes nothing, and leaves these files
+-- the outcome with the refusal and the report of a verdict, which leaves these files and commits nothing
 abbrev pub as_outcome : Files → Verdict → Outcome
 as_outcome files verdict = outcome_without_commit verdict.refusal verdict.report files
 
@@ -52,7 +52,8 @@ IsRefusalPrinted (Some refusal) answer err =
     ((answer ≡ Refused refusal) × SinkGets err (refusal_line refusal) × DidNotFail err)
     ⊎ ((answer ≡ OutFault) × SinkGetsPrefix err (refusal_line refusal) × SinkFailed err)
 
--- the answer to a verdict, and the bytes of the two sinks
+-- the answer to what was judged, and the bytes of the two sinks: those of the verdict over any files, or the line of an
+-- I/O error of the tree or of out of memory
 abbrev pub IsVerdictPrinted : Result Verdict TreeFault → Answer → SinkBeforeAndAfter → SinkBeforeAndAfter
     → Type 0
 IsVerdictPrinted (Ok verdict) answer out err =

@@ -1,5 +1,6 @@
-//! The answer of a run: what it was judged to answer is printed on the two sinks. The rules are in
-//! `docs/commands.md`, "Answers and statuses", and the texts in "Error lines".
+//! The answer of a run, and how its verdict is printed on the two sinks, standard output and
+//! standard error. `apk` calls `show` last. The rules are in `docs/commands.md`, "Answers and
+//! statuses", and the texts in "Error lines".
 ghost use Rattle.std.specs.Prelude.{◌≡◌, ◌≢◌, [], OnErr, Err};
 ghost use Rattle.apk_front.specs.Answers.{GetsLineOrFailsWithPrefix};
 ghost use Rattle.apk_front.specs.Status.{status_of};
@@ -16,13 +17,14 @@ use std::alloc::Global;
 /// The answer of a run.
 #[derive(Drop)]
 pub enum Answer {
-    /// The command was carried out.
+    /// The command ended without a refusal, and its report was printed.
     Ok,
     /// The command was refused, for a fault of its arguments or files.
     Refused(Refusal),
     /// A call on the tree failed with an I/O error.
     TreeFault,
-    /// A sink failed. The files are those of the answer that could not be printed.
+    /// A call on standard output or standard error failed. The files left are those of the outcome,
+    /// whose bytes could not all be printed.
     OutFault,
     /// Memory ran out.
     Memory,
@@ -54,6 +56,7 @@ pub(crate) struct Verdict {
 impl Verdict {
     /// The verdict of a command that prints nothing and is not refused.
     pub(crate) fn empty(alloc: Global) -> Verdict
+        // Over any files, the verdict is that of this outcome, which leaves them as they are.
         ensures { (files : Files) → as_outcome files result ≡ just_report files [] }
     {
         Verdict::reported(Text::from_vec(Vec::new(alloc)))
@@ -61,6 +64,7 @@ impl Verdict {
 
     /// The verdict of a command that prints a report and is not refused.
     pub(crate) fn reported(report: Text) -> Verdict
+        // Over any files, the verdict is that of this outcome, which leaves them as they are.
         ensures { (files : Files) → as_outcome files result ≡ just_report files report }
     {
         Verdict {
@@ -71,6 +75,7 @@ impl Verdict {
 
     /// The verdict of a command that is refused and prints no report.
     pub(crate) fn refused(alloc: Global, refusal: Refusal) -> Verdict
+        // Over any files, the verdict is that of this outcome, which leaves them as they are.
         ensures { (files : Files) → as_outcome files result ≡ just_refusal files refusal }
     {
         Verdict {
@@ -80,8 +85,8 @@ impl Verdict {
     }
 }
 
-/// Prints a verdict, and returns the run's answer: the verdict's, an I/O error of the file tree or
-/// out of memory, or the fault of a sink.
+/// Prints what was judged, and returns the run's answer. For a verdict, this is Ok, the verdict's
+/// refusal, or the fault of a sink. Otherwise it is the I/O error of the tree, or out of memory.
 pub(crate) fn show<O: Sink, E: Sink>(
     judged: Result<Verdict, TreeFault>,
     out: &mut O,
@@ -110,6 +115,7 @@ fn print_fault<O: Sink, E: Sink>(fault: TreeFault, _out: &mut O, err: &mut E) ->
     ensures shown { IsVerdictPrinted (Err fault) result
         (sink_before_and_after O.bytes O.counts _out.old _out.new)
         (sink_before_and_after E.bytes E.counts err.old err.new) }
+    // Of each sink: no count falls, and no call is a misuse.
     ensures out_counts { IsUseWithoutMisuse
         (sink_before_and_after O.bytes O.counts _out.old _out.new) }
     ensures err_counts { IsUseWithoutMisuse
@@ -133,6 +139,7 @@ fn print_verdict<O: Sink, E: Sink>(verdict: Verdict, out: &mut O, err: &mut E) -
     ensures printed { (files : Files) → IsPrinted (as_outcome files verdict) result
         (sink_before_and_after O.bytes O.counts out.old out.new)
         (sink_before_and_after E.bytes E.counts err.old err.new) }
+    // Of each sink: no count falls, and no call is a misuse.
     ensures out_counts { IsUseWithoutMisuse
         (sink_before_and_after O.bytes O.counts out.old out.new) }
     ensures err_counts { IsUseWithoutMisuse
@@ -148,8 +155,10 @@ fn print_verdict<O: Sink, E: Sink>(verdict: Verdict, out: &mut O, err: &mut E) -
 
 // Prints a report. An empty one makes no call on the sink, so it cannot fail.
 fn print_report<O: Sink>(bytes: &[u8], out: &mut O) -> Result<(), SinkFault>
+    // The sink gets all bytes, or a prefix of them if it fails.
     ensures written { Writes bytes.now
         (sink_before_and_after O.bytes O.counts out.old out.new) result }
+    // Only a report with at least one byte can fail.
     ensures some { OnErr result (bytes.now ≢ []) }
 {
     if bytes.is_empty() {
@@ -158,10 +167,13 @@ fn print_report<O: Sink>(bytes: &[u8], out: &mut O) -> Result<(), SinkFault>
     write_all(out, bytes)
 }
 
-// Prints the line of a refusal, if there is one, and returns the answer of the run.
+// Prints the line of a refusal, if there is one, and returns the run's answer: the refusal, Ok
+// without one, or the fault of the sink.
 fn print_refusal<E: Sink>(refusal: Option<Refusal>, err: &mut E) -> Answer
+    // The answer and the bytes are those of the refusal, or of the sink's fault.
     ensures printed { IsRefusalPrinted refusal result
         (sink_before_and_after E.bytes E.counts err.old err.new) }
+    // No count of the sink falls, and no call is a misuse.
     ensures counts { IsUseWithoutMisuse (sink_before_and_after E.bytes E.counts err.old err.new) }
 {
     let Some(refusal) = refusal else {
@@ -173,11 +185,13 @@ fn print_refusal<E: Sink>(refusal: Option<Refusal>, err: &mut E) -> Answer
     }
 }
 
-// Prints a fault's line. A fault of the sink does not change the answer: the status reports the
-// first fault.
+// Prints the line of an I/O error of the tree, or of running out of memory. A fault of the sink is
+// dropped: the run answers the first fault.
 fn print_line<E: Sink>(line: &[u8], err: &mut E)
+    // The sink gets the whole line, or a prefix of it if the sink fails.
     ensures line { GetsLineOrFailsWithPrefix
         (sink_before_and_after E.bytes E.counts err.old err.new) line.now }
+    // No count of the sink falls, and no call is a misuse.
     ensures counts { IsUseWithoutMisuse (sink_before_and_after E.bytes E.counts err.old err.new) }
 {
     let _ = write_all(err, line);

@@ -20,9 +20,13 @@ pub(crate) fn change_root<T: Tree>(
     command: &Command,
     tree: &mut T,
 ) -> Result<Verdict, TreeFault>
+    // The command is `add`, `del`, `upgrade` or `fix`.
     requires { effect_of command.now.applet ≡ Changes }
+    // The verdict is that of the command's outcome, with its effect on the tree and on the counts.
     ensures run { IsRecoveredRun command.now
         (T.history tree.old) (T.history tree.new) (T.counts tree.old) (T.counts tree.new) result }
+    // At each moment the tree has accepted each name to which recovery would then give other bytes
+    // than it had at the start.
     ensures promised { TargetsAreAccepted T.accepts (T.history tree.old) (T.history tree.new) }
 {
     // Laws that the proof needs; they have no effect at run time.
@@ -32,7 +36,8 @@ pub(crate) fn change_root<T: Tree>(
     verdict_of(alloc, answer)
 }
 
-// The engine's answer as a verdict: its report or its refusal.
+// The engine's answer as a verdict, which has the report or the refusal. An I/O error of the tree
+// and out of memory are returned instead of a verdict.
 fn verdict_of(alloc: Global, answer: Result<Text, Refused>) -> Result<Verdict, TreeFault>
     ensures { IsVerdictOnChange answer result }
 {

@@ -1,7 +1,7 @@
 //! `demo` makes, indexes and installs small packages in a tree of its own. The rules are in
 //! `docs/commands.md`, "`demo N`".
 //!
-//! Each command line is run by the function that runs it on every other tree, too.
+//! Each command line is run by `run`, which runs command lines on every other tree too.
 ghost use Rattle.std.specs.Prelude.{◌≡◌, IfOk, IsTrue, MatchResult, OnOk, Some};
 ghost use Rattle.apk_front.specs.DemoRuns.{IsRunToOutcome};
 ghost use Rattle.apk_front.specs.Verdicts.{Reports, as_outcome};
@@ -35,9 +35,10 @@ use words_core::{WordsFault, read_words};
 /// The file that lists the repositories (`docs/formats.md`, "Repositories").
 const REPOSITORIES: &[u8] = b"etc/apk/repositories";
 
-/// Makes, indexes and installs the number of packages that the operand says, and reports the last
-/// line. It fails only by running out of memory.
+/// Makes, indexes and installs as many packages as the one operand says. Reports the last line that
+/// the installation printed, or the first refusal. `demo` fails only by running out of memory.
 pub(crate) fn demo(alloc: Global, operands: &Operands) -> Result<Verdict, TreeFault>
+    // There is exactly one operand, and its text is a number.
     requires { IsTrue (are_allowed_operands (Some (exactly 1 Number)) operands.now) }
     // The verdict is that of an outcome of `demo`. The only fault is a lack of memory.
     ensures { MatchResult result
@@ -53,8 +54,8 @@ pub(crate) fn demo(alloc: Global, operands: &Operands) -> Result<Verdict, TreeFa
     }
 }
 
-// The report on the last run: its refusal, or the line of `demo` with the last line of that run's
-// report.
+// The verdict of `demo`, by the verdict `last` of its last run: the refusal of that run, or the
+// line of `demo`, which ends with the last line of that run's report.
 fn told(alloc: Global, count: u16, last: Verdict) -> Result<Verdict, TreeFault>
     // The verdict is the line of `demo`, or the refusal of the last command. The only fault is a
     // lack of memory.
@@ -69,6 +70,7 @@ fn told(alloc: Global, count: u16, last: Verdict) -> Result<Verdict, TreeFault>
 
 // The verdict with the refusal, if there is one, and with the report otherwise.
 fn unless_refused(alloc: Global, refusal: Option<Refusal>, report: Text) -> Verdict
+    // The verdict is that of this outcome, whatever the files are.
     ensures { (files : Files) → as_outcome files result
         ≡ just_report_unless_refusal files refusal report }
 {
@@ -78,10 +80,13 @@ fn unless_refused(alloc: Global, refusal: Option<Refusal>, report: Text) -> Verd
     }
 }
 
-// Makes packages 1 to n, indexes and installs them, in an empty tree. Returns the verdict of the
-// last run that was not skipped.
+// Makes packages 1 to n, indexes and installs them, in an empty tree. After a refusal the further
+// runs are skipped. Returns the verdict of the last run that was not skipped.
 fn install(alloc: Global, n: u16, tree: &mut MemoryTree) -> Result<Verdict, TreeFault>
+    // The tree has no files.
     requires { files_of (tree_state tree.old) ≡ no_names }
+    // The verdict is that of the outcome of the last run, and the tree has the files of this
+    // outcome.
     ensures { IfOk result (λ verdict. IsRunToOutcome
         (IsDemoOutcomeAfterInstalling n) verdict tree.new) }
 {
@@ -93,9 +98,12 @@ fn install(alloc: Global, n: u16, tree: &mut MemoryTree) -> Result<Verdict, Tree
 }
 
 // Writes the list of repositories, and makes the packages 1 to n, up to the first that is refused.
-// Returns the last verdict.
+// Returns the verdict of the last run of `mkpkg`; if `n` is 0, an empty one.
 fn package_all(alloc: Global, n: u16, tree: &mut MemoryTree) -> Result<Verdict, TreeFault>
+    // The tree has no files.
     requires { files_of (tree_state tree.old) ≡ no_names }
+    // The verdict is that of the outcome of the last run, and the tree has the files of this
+    // outcome.
     ensures { IfOk result (λ verdict. IsRunToOutcome
         (IsDemoOutcomeAfterPackaging n) verdict tree.new) }
 {
@@ -107,13 +115,15 @@ fn package_all(alloc: Global, n: u16, tree: &mut MemoryTree) -> Result<Verdict, 
     Ok(last)
 }
 
-// Makes package i, unless the last run was refused: then that verdict is returned.
+// Makes package i, unless the run with the verdict `last` was refused: then `last` is returned.
 fn package_behind(
     alloc: Global,
     last: Verdict,
     i: u16,
     tree: &mut MemoryTree,
 ) -> Result<Verdict, TreeFault>
+    // `before` is the outcome of the run before this one. If the tree has its files, the verdict
+    // and the files are those of the next run, or of `before` if that run was refused.
     ensures { IfOk result (λ verdict. (before : Outcome) → Reports last before
         → files_of (tree_state tree.old) ≡ before.files
         → IsRunToOutcome (IsOutcomeOfNextRun (mkpkg_words i) (with_demo_file i before.files) before)
@@ -127,6 +137,7 @@ fn package_behind(
 
 // Puts the one file of package i into the tree, and runs `mkpkg` on it.
 fn package(alloc: Global, i: u16, tree: &mut MemoryTree) -> Result<Verdict, TreeFault>
+    // The verdict and the files are those of `mkpkg`, run over the files with that one file added.
     ensures { IfOk result (λ verdict. IsRunToOutcome (IsOutcomeWithoutDemo (command_of
         (mkpkg_words i))
         (with_demo_file i (files_of (tree_state tree.old)))) verdict tree.new) }
@@ -138,13 +149,16 @@ fn package(alloc: Global, i: u16, tree: &mut MemoryTree) -> Result<Verdict, Tree
     run_words(alloc, &words, tree)
 }
 
-// Runs a command line, unless the last run was refused: then that verdict is returned.
+// Runs the command line `words`, unless the run with the verdict `last` was refused: then `last` is
+// returned.
 fn run_after(
     alloc: Global,
     last: Verdict,
     words: &Words,
     tree: &mut MemoryTree,
 ) -> Result<Verdict, TreeFault>
+    // `before` is the outcome of the run before this one. If the tree has its files, the verdict
+    // and the files are those of the next run, or of `before` if that run was refused.
     ensures { IfOk result (λ verdict. (before : Outcome) → Reports last before
         → files_of (tree_state tree.old) ≡ before.files
         → IsRunToOutcome (IsOutcomeOfNextRun words.now before.files before) verdict tree.new) }
@@ -155,8 +169,9 @@ fn run_after(
     run_words(alloc, words, tree)
 }
 
-// Runs a command line in the tree of `demo`.
+// Parses the command line `words`, and runs its applet in the tree of `demo`.
 fn run_words(alloc: Global, words: &Words, tree: &mut MemoryTree) -> Result<Verdict, TreeFault>
+    // The verdict and the files left are those of the command line's outcome over the files before.
     ensures { IfOk result (λ verdict. IsRunToOutcome
         (IsOutcomeWithoutDemo (command_of words.now) (files_of (tree_state tree.old)))
         verdict tree.new) }
@@ -170,9 +185,10 @@ fn run_words(alloc: Global, words: &Words, tree: &mut MemoryTree) -> Result<Verd
     }
 }
 
-// Puts a file under a name. No name of `demo` is bad, or a folder of another one; such a name would
-// be reported as out of memory.
+// Puts a file with these bytes under a name in the tree. Each name of `demo` is valid, and is no
+// folder of another name of `demo`. Any other name would be reported as out of memory.
 fn put(alloc: Global, name: &[u8], bytes: &[u8], tree: &mut MemoryTree) -> Result<(), AllocError>
+    // If Ok, the files are those before with this file added.
     ensures { OnOk result (files_of (tree_state tree.new)
         ≡ put_name (files_of (tree_state tree.old)) name.now bytes.now) }
 {

@@ -24,14 +24,16 @@ use pkg_core::table_of_schema;
 use report_core::Refusal;
 use std::alloc::{AllocError, Global};
 
-/// Prints the dump text of the file that the operand names. On a tree that is not observable it is
-/// the text of some bytes.
+/// The verdict of `adbdump`: the dump text of the file that the one operand names, or a refusal. On
+/// a tree that is not observable it is proved only that the text is that of some bytes.
 pub(crate) fn adbdump<T: Tree>(
     alloc: Global,
     operands: &Operands,
     tree: &mut T,
 ) -> Result<Verdict, TreeFault>
+    // There is exactly one operand.
     requires one { length operands.now ≡ 1 }
+    // The text of the operand is a valid name of a file.
     requires files { IsTrue (are_files operands.now) }
     // The verdict is that of the specification, and the tree is only read.
     ensures { IsReadingRun (λ read files. adbdump read files operands.now)
@@ -43,8 +45,10 @@ pub(crate) fn adbdump<T: Tree>(
     Ok(verdict)
 }
 
-// The text of the file that was found, or its refusal.
+// The verdict on the file that was found for the operand at this place of the command line: its
+// dump text, or a refusal.
 fn verdict_of(alloc: Global, place: u32, found: &Option<Vec<u8>>) -> Result<Verdict, AllocError>
+    // The verdict is that of the definition, whatever the files are.
     ensures { IfOk result (λ verdict. (files : Files)
         → as_outcome files verdict ≡ dump_outcome files place (bytes_in found.now)) }
 {
@@ -60,10 +64,13 @@ fn verdict_of(alloc: Global, place: u32, found: &Option<Vec<u8>>) -> Result<Verd
     }
 }
 
-// The text of a container of any of the four schemas, or its first failed test.
+// The dump text of a container of any of the four schemas, or the first test that the container
+// fails.
 #[tactic(auto, unfolding(outcome::specs::Dump::dump_of), using(crate::proofs::Dumping::root_known, crate::proofs::Dumping::dump_is))]
 fn text_of(alloc: Global, bytes: &[u8]) -> Result<Text, ReadFault>
+    // The text is the one that the definition gives for these bytes.
     ensures ok { IfOk result (λ text. dump_of bytes.now ≡ Ok text) }
+    // The fault is that of the definition, or out of memory.
     ensures bad { IfErr result (λ fault. IsDumpFault fault (dump_of bytes.now)) }
 {
     let mut blocks = Blocks::new(bytes)?;
@@ -74,15 +81,18 @@ fn text_of(alloc: Global, bytes: &[u8]) -> Result<Text, ReadFault>
     }
 }
 
-// The text of the blocks of a file with this table at its root, or their first failed test.
+// The dump text of the blocks of a file, whose root object has the fields of the table `which`; or
+// the first test that the blocks fail.
 #[tactic(auto, using(crate::proofs::Dumping::text_of_shaped, crate::proofs::Dumping::first_block_bad, crate::proofs::Dumping::later_block_bad))]
 fn text_of_blocks(alloc: Global, blocks: &mut Blocks<'_>, which: Which) -> Result<Text, ReadFault>
     // No block was read yet.
     requires first { blocks.old.last ≡ None }
     // The table is one that may be at a root.
     requires root { IsTrue (is_some (schema_word which)) }
+    // The text is the one that the definition gives for these blocks.
     ensures ok { IfOk result (λ text. dump_of_blocks which (block_stream_from blocks.old)
         ≡ Ok text) }
+    // The fault is that of the definition, or out of memory.
     ensures bad { IfErr result (λ fault.
         IsDumpFault fault (dump_of_blocks which (block_stream_from blocks.old))) }
 {
@@ -92,26 +102,33 @@ fn text_of_blocks(alloc: Global, blocks: &mut Blocks<'_>, which: Which) -> Resul
     Ok(text)
 }
 
-// Tests the first block: its framing, its head and its shape.
+// Tests the first block: its framing (kind and lengths), the head of its payload, and the shape of
+// its values. Returns the payload as a value whose shape was tested.
 fn shape_first<'a>(blocks: &mut Blocks<'a>, which: Which) -> Result<Shaped<'a>, Cause>
+    // No block was read yet.
     requires { blocks.old.last ≡ None }
+    // The returned cause is the first fault of the first block.
     ensures bad { IfErr result (λ cause.
         first_block_head_or_shape_fault which (block_stream_from blocks.old) ≡ Some cause) }
+    // The values were tested by the table `which`.
     ensures table { IfOk result (λ shaped. table_of shaped ≡ which) }
-    // The reader is then after that block.
+    // The result is the payload of the first block, and the reader is then after this block.
     ensures behind { IfOk result (λ shaped. IsAfterShapedFirstBlock which (payload_of
         (adb_of shaped))
         (block_stream_from blocks.old) (block_stream_from blocks.new)) }
 {
     match blocks.next()? {
         Some(block) => shape_payload(block.payload, which),
+        // A reader of blocks always gives a first block, or a fault.
         None => unreachable!(),
     }
 }
 
-// Tests the head of a payload and its shape.
+// Tests the head of a payload, and the shape of its values by the table `which`.
 fn shape_payload<'a>(payload: &'a [u8], which: Which) -> Result<Shaped<'a>, Cause>
+    // The error is exactly the first fault; without a fault there is no error.
     ensures exact { result_err result ≡ payload_head_or_shape_fault which payload.entry.now }
+    // The values were tested by the table `which`.
     ensures table { IfOk result (λ shaped. table_of shaped ≡ which) }
     // The shaped payload is this payload, not a copy.
     ensures lent { IfOk result (λ shaped. payload_of (adb_of shaped) ≡ payload.entry.now) }

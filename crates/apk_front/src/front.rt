@@ -102,8 +102,8 @@ pub fn apk<T: Tree, O: Sink, E: Sink>(
     ensures proper { IfObservable (T.history tree.old) (λ v. AreRunPathsFree words.now (files_of v)
         → (T.counts tree.new).misuses ≡ (T.counts tree.old).misuses) }
 
-    // If moreover no failure of the tree and the sinks is planned, the run ends as its outcome
-    // says, unless memory ran out: the run's, or the own memory of the tree or of a sink.
+    // If these paths are free, and no failure of the tree and the sinks is planned, the run ends as
+    // its outcome says, unless memory ran out: the run's, or the own memory of the tree or a sink.
     ensures unless_memory { IfObservable (T.history tree.old) (λ v.
         AreRunPathsFree words.now (files_of v) → HasNoPlannedFailure (T.counts tree.old)
         → HasNoPlannedFailure (O.counts out.old) → HasNoPlannedFailure (E.counts err.old)
@@ -115,11 +115,12 @@ pub fn apk<T: Tree, O: Sink, E: Sink>(
 
     // ---- effect on the tree
 
-    // If the outcome depends on the arguments alone, no call is made on the tree.
+    // If the outcome depends on the arguments alone, the run leaves the tree as it is, with its
+    // counts: no call is made on it.
     ensures untouched { IsTrue (depends_only_on_arguments (command_of words.now)) → tree.new
         ≡ tree.old }
 
-    // A command that only reads leaves the tree as it is.
+    // A command that only reads makes no new state of the tree.
     ensures same { IsTrue (reads_only (command_of words.now))
         → T.history tree.new ≡ T.history tree.old }
 
@@ -129,8 +130,8 @@ pub fn apk<T: Tree, O: Sink, E: Sink>(
     ensures promised { effect_of_arguments (command_of words.now) ≡ Changes
         → AreRecoveryTargetsAccepted T.accepts (T.history tree.old) (T.history tree.new) }
 
-    // If there is nothing to recover, nothing is written by a run that is refused, that runs out of
-    // memory, or whose outcome commits nothing, whatever is answered instead.
+    // If there is nothing to recover, these runs write nothing, whatever is answered instead: those
+    // that are refused, that run out of memory, or whose outcome commits nothing.
     ensures idle { IfObservable (T.history tree.old) (λ v.
         IsRefusedOrCommitsNothing (IsOutcome (command_of words.now) (files_of v)) result
         → HasNothingToRecover (effect_of_arguments (command_of words.now)) v
@@ -154,25 +155,27 @@ pub fn apk<T: Tree, O: Sink, E: Sink>(
         (effect_of_arguments (command_of words.now)) (output words.now) v (T.history tree.old)
         (T.history tree.new)) }
 
-    // If there was an intent, then from the moment at which none is read a crash undoes no change
-    // of a name: the intent's change is durable. This excludes OUTPUT, OUTPUT.apk-tmp and staged
-    // files.
+    // If an intent was found, then from the moment at which no intent is read a crash undoes no
+    // change of a name: the change of the intent is durable. This excludes OUTPUT, OUTPUT.apk-tmp
+    // and staged files.
     ensures last { IfObservable (T.history tree.old) (λ v. IsSome (v.names intent_name)
         → Since (NamesAreDurableWithoutIntentExcept (output words.now)) (T.history tree.old)
         (T.history tree.new)) }
 
     // ---- what a crash leaves of a durable tree
 
-    // A run that commits nothing leaves the state unchanged: at each moment a crash leaves a state
-    // from before, and the files as read have the old one.
+    // A run that is refused, runs out of memory or commits nothing leaves the state unchanged: at
+    // each moment a crash leaves a state from before the run, and the files as read have the old
+    // state.
     ensures left { IfObservable (T.history tree.old) (λ v.
         IsRefusedOrCommitsNothing (IsOutcome (command_of words.now) (files_of v)) result
         → (ignored : List ℕ → Bool) → IsDurable (StateDependsOn ignored) v
         → Since (StateIsUnchanged ignored v) (T.history tree.old) (T.history tree.new)) }
 
-    // Every run leaves the state unchanged, or it has an outcome that commits, and at each moment a
-    // crash leaves the old files or the outcome's; OUTPUT.apk-tmp may be left too. A state includes
-    // a bad intent, so a crash leaves one only if it might have left one before.
+    // Every run leaves the state unchanged, or has an outcome that commits, and at each moment a
+    // crash leaves an old state or that of the outcome's files; OUTPUT.apk-tmp may be left too. A
+    // state includes a bad intent, so a crash leaves a bad intent only if it might have left one
+    // before.
     ensures crash { IfObservable (T.history tree.old) (λ v. (ignored : List ℕ → Bool)
         → IsDurable (StateDependsOn ignored) v
         → IgnoresScratchNameOfOutput (output words.now) ignored
@@ -181,15 +184,15 @@ pub fn apk<T: Tree, O: Sink, E: Sink>(
         words.now))
         ignored v (T.history tree.old) (T.history tree.new)) }
 
-    // The tree is durable again, whatever is answered.
+    // A tree that was durable when the run began is durable after the run, whatever is answered.
     ensures is_durable { IfObservable (T.history tree.old) (λ v. (ignored : List ℕ → Bool)
         → IsDurable (StateDependsOn ignored) v
         → IgnoresScratchNameOfOutput (output words.now) ignored
         → HoldsNow (T.history tree.new) (IsDurable (StateDependsOn ignored))) }
 
     // Once the outcome is answered, even a refusal, or a sink's fault instead, each crash leaves
-    // its files. If it commits nothing, this holds if each crash left the old ones before, or if an
-    // intent was found and done.
+    // the outcome's files. For an outcome that commits nothing, one of two things must hold: each
+    // crash left the files as read before the run, or an intent was found and its change completed.
     ensures settled { IfObservable (T.history tree.old) (λ v. (ignored : List ℕ → Bool)
         → IsDurable (StateDependsOn ignored) v
         → IgnoresScratchNameOfOutput (output words.now) ignored

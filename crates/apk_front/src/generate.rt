@@ -15,14 +15,16 @@ use gen_core::{GenFault, gen_};
 use report_core::Refusal;
 use std::alloc::{AllocError, Global};
 
-/// Prints the container that is made of a text: the text in the file that the operand names. On a
-/// tree that is not observable it is the container of some bytes.
+/// The verdict of `adbgen`: the container that is made of the dump text in the file that the one
+/// operand names, or a refusal. On a tree that is not observable it is that of some bytes.
 pub(crate) fn adbgen<T: Tree>(
     alloc: Global,
     operands: &Operands,
     tree: &mut T,
 ) -> Result<Verdict, TreeFault>
+    // There is exactly one operand.
     requires one { length operands.now ≡ 1 }
+    // The text of the operand is a valid name of a file.
     requires files { IsTrue (are_files operands.now) }
     // The verdict is that of the specification, and the tree is only read.
     ensures { IsReadingRun (λ read files. adbgen read files operands.now)
@@ -34,8 +36,10 @@ pub(crate) fn adbgen<T: Tree>(
     Ok(verdict)
 }
 
-// The container of the text that was found, or its refusal.
+// The verdict on the text that was found for the operand at this place of the command line: the
+// container that is made of the text, or a refusal.
 fn verdict_of(alloc: Global, place: u32, found: &Option<Vec<u8>>) -> Result<Verdict, AllocError>
+    // The verdict is that of the definition, whatever the files are.
     ensures { IfOk result (λ verdict. (files : Files)
         → as_outcome files verdict ≡ generate_outcome files place (bytes_in found.now)) }
 {

@@ -42,8 +42,10 @@ pub(crate) fn judge<T: Tree>(
     // out.
     ensures by_arguments { IsTrue (depends_only_on_arguments (command_of words.now))
         → IsRunByArguments (IsOutcome (command_of words.now)) tree.old tree.new result }
+    // A command that only reads makes no new state of the tree.
     ensures same { IsTrue (reads_only (command_of words.now))
         → T.history tree.new ≡ T.history tree.old }
+    // Memory can run out only if the arguments name an applet, or ask for help or the version.
     ensures named { IsErrOf result TreeFault.Memory
         → IsTrue (is_applet_help_or_version_named words.now) }
 {
@@ -72,6 +74,7 @@ fn run_command<T: Tree>(
     // A command that ignores files has one verdict over all files, and leaves the tree as it is.
     ensures by_arguments { IsTrue (ignores_files (effect_of command.now.applet))
         → IsRunByArguments (IsOutcome (Ok command.now)) tree.old tree.new result }
+    // A command that only reads makes no new state of the tree.
     ensures same { IsTrue (does_only_read (effect_of command.now.applet))
         → T.history tree.new ≡ T.history tree.old }
 {
@@ -97,6 +100,7 @@ pub(crate) fn run<T: Tree>(
         → IsRunByArguments
         (λ files outcome. outcome ≡ read_only_outcome command.now (reads_in files) files)
         tree.old tree.new result }
+    // A command that only reads makes no new state of the tree.
     ensures same { IsTrue (does_only_read (effect_of command.now.applet))
         → T.history tree.new ≡ T.history tree.old }
 {
@@ -109,7 +113,9 @@ pub(crate) fn run<T: Tree>(
 // Runs an applet that only reads: nothing is written.
 #[tactic(auto, using(crate::proofs::Operands::dump_operands, crate::proofs::Operands::gen_operands, crate::proofs::Operands::verify_operands, crate::proofs::Operands::version_operand_rule))]
 fn look<T: Tree>(alloc: Global, command: &Command, tree: &mut T) -> Result<Verdict, TreeFault>
+    // The applet only reads, by its effect.
     requires { IsTrue (does_only_read (effect_of command.now.applet)) }
+    // The verdict is that of the outcome, and the tree is only read.
     ensures run { IsReadingRun (read_only_outcome command.now)
         (T.history tree.old) (T.history tree.new) (T.counts tree.old) (T.counts tree.new) result }
     // A command that ignores files has one verdict over all files, and leaves the tree as it is.
@@ -140,19 +146,20 @@ fn look<T: Tree>(alloc: Global, command: &Command, tree: &mut T) -> Result<Verdi
     }
 }
 
-/// What a run does below its root. The host's tree locks the root by it: runs that read may go on
-/// together, one that writes is alone.
+/// What a run does below its root. By this the host's tree chooses the lock of the root: several
+/// runs that only read may run at the same time, and a run that writes excludes all others.
 #[derive(Clone, Copy, PartialEq, Eq)]
 pub enum RootAccess {
     /// The run only reads.
     Read,
-    /// The run writes, or recovers first, which may write.
+    /// The run writes below its root, or recovers first, which may write.
     Write,
 }
 
-/// What the run of a command line does below its root. Arguments that are no command do nothing, so
-/// such a run only reads.
+/// What the run of a command line does below its root. A run with a usage error counts as one that
+/// only reads. A host asks this before it opens its tree.
 pub fn access_for(alloc: Global, words: &Words) -> Result<RootAccess, AllocError>
+    // `Read` exactly if the command line only reads.
     ensures { IfOk result (λ access. access
         ≡ root_access_if_read_only (reads_only (command_of words.now))) }
 {

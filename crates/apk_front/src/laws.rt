@@ -17,8 +17,8 @@ ghost use Rattle.words_core.specs.Grammar.{command_of};
 use journal_core::quiet_then_old_or_new_is_old_or_new;
 use outcome::an_outcome_is_unique;
 
-/// From `crash`: for every outcome of a command line, at each moment the tree is durable, and a
-/// crash leaves the old files or the outcome's.
+/// From the clause `crash` of `apk`: for every outcome of a command line, at each moment the tree
+/// is durable, and a crash leaves an old state or that of the outcome's files.
 pub fn a_crash_leaves_the_old_files_or_those_of_the_outcome()
     ensures { (words : List (List ℕ)) (ignored : List ℕ → Bool) (v : TreeState) (outcome : Outcome)
         (old now : List TreeState)
@@ -33,9 +33,9 @@ pub fn a_crash_leaves_the_old_files_or_those_of_the_outcome()
     quiet_then_old_or_new_is_old_or_new();
 }
 
-/// From `settled`: for every outcome of a command line, each crash leaves its files once it is
-/// carried out. If it commits nothing, this holds if each crash left the old ones before, or if an
-/// intent was found and done.
+/// From the clause `settled` of `apk`: once an outcome without a refusal is carried out, each crash
+/// leaves its files. For an outcome that commits nothing, one of two things must hold too: each
+/// crash left the files as read before the run, or an intent was found and its change completed.
 pub fn what_is_carried_out_is_durable()
     ensures { (words : List (List ℕ)) (ignored : List ℕ → Bool) (v : TreeState) (outcome : Outcome)
         (now : List TreeState) (answer : Answer)
@@ -51,11 +51,13 @@ pub fn what_is_carried_out_is_durable()
     an_outcome_is_unique();
 }
 
-/// From `reads`, if there is nothing to recover: while the tree is being recovered it has the old
-/// files, and the command works on these.
+/// From the clause `reads` of `apk`, if there is nothing to recover: while the tree is being
+/// recovered, its files are those at the start of the run, and the command works on these.
 pub fn without_recovery_the_files_are_the_old_ones()
+    // At each moment of a recovery the files are those at the start of the run.
     ensures moments { (effect : Effect) (v w : TreeState) → HasNothingToRecover effect v
         → (does_recover effect ≡ true) × IsStateDuringRecovery v w → files_of w ≡ files_of v }
+    // The files on which the command works are those at the start.
     ensures work { (effect : Effect) (v : TreeState) → HasNothingToRecover effect v
         → files_recovered_if_needed effect (files_of v) ≡ files_of v }
 {}

@@ -1,5 +1,5 @@
-//! The top call of the package keeper: arguments, a tree of files and two sinks are passed in, and
-//! an answer is returned.
+//! The top call of the package manager: `apk` takes arguments, a tree of files and two sinks
+//! (output streams), and returns an answer. The crate `apk` calls it with the folder of the host.
 //!
 //! A run is first judged and carried out on the tree, and then printed on the sinks. The contract
 //! of `apk` cites `outcome` (what a command answers, prints and leaves), `words_core` (what the
@@ -22,6 +22,8 @@ mod report;
 mod verify;
 mod version;
 
+// What crates that depend on this one may call: functions, types and laws of this crate, and of
+// crates on which it depends.
 pub use answer::{Answer, status};
 pub use engine_core::a_change_keeps_paths_free;
 pub use front::apk;

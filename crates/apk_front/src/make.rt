@@ -46,7 +46,9 @@ pub(crate) fn mkpkg<T: Tree>(
     command: &Command,
     tree: &mut T,
 ) -> Result<Verdict, TreeFault>
+    // The command is one that the grammar of the command line allows.
     requires command { IsValidCommand command.now }
+    // The applet is `mkpkg`.
     requires applet { command.now.applet ≡ Mkpkg }
     // On an observable tree the verdict is that of the outcome over its files.
     ensures found { IfOk result (λ verdict. IfObservable (T.history tree.old) (λ v.
@@ -56,12 +58,10 @@ pub(crate) fn mkpkg<T: Tree>(
         × AreNamesBelowFirstFolder (values_of_letter FILES command.now.values) names
         × (read : Reads) × Reports verdict (mkpkg read no_names command.now names)) }
     // The effect of the run on the tree.
-    // The effect of the run on the tree.
     ensures run { IsMakingRun (IsPackageOutcome command.now) (output_name command.now)
         (T.history tree.old) (T.history tree.new) result }
     // If there is a verdict, the tree counted no failed call; an I/O error has its cause there.
     ensures counts { IsVerdictExplainedByCounts (T.counts tree.old) (T.counts tree.new) result }
-    // No call is a misuse if the paths of the output and its scratch name are free.
     // No call is a misuse if the paths of the output and its scratch name are free.
     ensures proper { IfObservable (T.history tree.old) (λ v.
         ((outcome : Outcome) → IsPackageOutcome command.now (files_of v) outcome
@@ -84,12 +84,15 @@ pub(crate) fn mkndx<T: Tree>(
     command: &Command,
     tree: &mut T,
 ) -> Result<Verdict, TreeFault>
+    // The command is one that the grammar of the command line allows.
     requires command { IsValidCommand command.now }
+    // The applet is `mkndx`.
     requires applet { command.now.applet ≡ Mkndx }
+    // On an observable tree the verdict is that of the outcome over its files.
     ensures found { IfOk result (λ verdict. IfObservable (T.history tree.old) (λ v.
         ReportsOneOfOutcomes (IsIndexOutcome command.now (files_of v)) verdict)) }
     // On every tree the verdict is the specification's, for some contents at each read. The files
-    // are not used, so `no_names` stands for them.
+    // are not used, so that `no_names` is written for them.
     ensures by_reads { IfOk result (λ verdict. (read : Reads)
         × AreOperandReadsFileBytes read 0 command.now.operands
         × Reports verdict (mkndx read no_names command.now)) }
@@ -164,6 +167,7 @@ fn finish<T: Tree>(
     report: Text,
     tree: &mut T,
 ) -> Result<Verdict, TreeFault>
+    // The command is one that the grammar of the command line allows.
     requires command { IsValidCommand command.now }
     // If a container was made, the command has an output.
     requires output { IfOk container (λ file. IsSome (output_name command.now)) }
@@ -181,6 +185,7 @@ fn finish<T: Tree>(
         ≡ T.history tree.old }
     // No count of failed calls falls.
     ensures goes_on { CountsOnlyRise (T.counts tree.old) (T.counts tree.new) }
+    // An I/O error is one that stopped the making, or one of a call here, which is counted.
     ensures disk { IsErrOf result TreeFault.Disk
         → IsErrOf container MakeFault.Disk
         ⊎ IsFaultCountedWithCause (T.counts tree.old) (T.counts tree.new) }
@@ -213,9 +218,11 @@ fn write<T: Tree>(
     report: Text,
     tree: &mut T,
 ) -> Result<Verdict, TreeFault>
+    // The command is one that the grammar of the command line allows.
     requires command { IsValidCommand command.now }
     // The command has an output.
     requires output { IsSome (output_name command.now) }
+    // The verdict is that of the outcome, whatever the files are.
     ensures reported { IfOk result (λ verdict. (files : Files) → Reports verdict
         (make_outcome files (output_name command.now) report (Ok file.now))) }
     // The effect of the run on the tree.
@@ -269,7 +276,9 @@ fn refusal_of(alloc: Global, command: &Command, fault: MakeFault) -> Result<Refu
     ensures reported { IfOk result (λ refusal. (files : Files) (report : List ℕ)
         → make_outcome files (output_name command.now) report (Err fault)
         ≡ just_refusal files refusal) }
+    // A fault that stops the making gives no refusal.
     ensures done { IfOk result (λ refusal. is_disk_or_memory fault ≡ false) }
+    // An I/O error of the tree is returned as one, and never as out of memory.
     ensures disk { IsErrOf result TreeFault.Disk → fault ≡ MakeFault.Disk }
     ensures lost { IsErrOf result TreeFault.Memory → fault ≢ MakeFault.Disk }
 {

@@ -1,4 +1,5 @@
-//! A command that recovers first finishes the change of an intent that is found. The rules are in
+//! Runs a command that recovers first: the change of an intent (journal entry) that is found is
+//! completed, then the command runs. Used by `run` in `judge.rt`. The rules are in
 //! `docs/commands.md`, "Commands that recover first", and in `docs/crash-safety.md`, "Recovery".
 ghost use Rattle.std.specs.Prelude.{◌≡◌, true, Ok, IfOk, IsErrOf};
 ghost use Rattle.apk_front.specs.RunContracts.{IsJudgedRun, IsRecoveredRun};
@@ -31,6 +32,7 @@ pub(crate) fn recover_and_run<T: Tree>(
     command: &Command,
     tree: &mut T,
 ) -> Result<Verdict, TreeFault>
+    // The command recovers first, by its effect.
     requires { does_recover (effect_of command.now.applet) ≡ true }
     // What the run answers, and its effect on the tree.
     ensures { IsJudgedRun T.accepts (IsOutcomeWithoutDemo (Ok command.now))
@@ -56,11 +58,13 @@ fn run_recovered<T: Tree>(
     command: &Command,
     tree: &mut T,
 ) -> Result<Verdict, TreeFault>
+    // The command recovers first, by its effect.
     requires { does_recover (effect_of command.now.applet) ≡ true }
     // The verdict is that of the outcome, with its effect on the tree and the tree's counts.
     ensures run { IsRecoveredRun command.now
         (T.history tree.old) (T.history tree.new) (T.counts tree.old) (T.counts tree.new) result }
-    // A change has asked the tree for each name that it promises.
+    // At each moment of a change, the tree has accepted each name to which recovery would then give
+    // other bytes than it had at the start.
     ensures promised { effect_of command.now.applet ≡ Changes
         → TargetsAreAccepted T.accepts (T.history tree.old) (T.history tree.new) }
 {
@@ -81,13 +85,14 @@ fn run_recovered<T: Tree>(
     }
 }
 
-// The verdict if the recovery did not end: a bad intent is refused; an I/O error of the tree and
-// out of memory are returned.
+// The verdict if recovery failed: a bad intent is refused. An I/O error of the tree and out of
+// memory are returned instead of a verdict.
 fn refuse_to_recover(alloc: Global, fault: RecoverFault) -> Result<Verdict, TreeFault>
     // If there is a verdict, recovery found a bad intent, and this is refused.
     ensures refused { IfOk result (λ verdict. (cause : Cause)
         × (fault ≡ RecoverFault.IntentBad cause)
         × ((files : Files) → as_outcome files verdict ≡ just_refusal files (IntentBad cause))) }
+    // An I/O error and out of memory are returned only if recovery failed with them.
     ensures disk { IsErrOf result TreeFault.Disk → fault ≡ RecoverFault.Disk }
     ensures memory { IsErrOf result TreeFault.Memory → fault ≡ RecoverFault.Memory }
 {

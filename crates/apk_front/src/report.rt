@@ -18,7 +18,9 @@ pub(crate) fn report<T: Tree>(
     command: &Command,
     tree: &mut T,
 ) -> Result<Verdict, TreeFault>
+    // The command only reports on the root.
     requires { effect_of command.now.applet ≡ AsksRoot }
+    // The verdict is that of the command's outcome, with its effect on the tree and on the counts.
     ensures { IsRecoveredRun command.now
         (T.history tree.old) (T.history tree.new) (T.counts tree.old) (T.counts tree.new) result }
 {
@@ -27,11 +29,12 @@ pub(crate) fn report<T: Tree>(
 }
 
 // The answer as a verdict: the report, with the refusal after it, if there is one; or a refusal
-// instead.
+// alone. An I/O error of the tree and out of memory are returned instead of a verdict.
 fn verdict_of(
     alloc: Global,
     answer: Result<ReportAndRefusal, Refused>,
 ) -> Result<Verdict, TreeFault>
+    // The verdict has the report or the refusal of the answer, or the failure is returned.
     ensures { IsVerdictOnReport answer result }
 {
     match answer {

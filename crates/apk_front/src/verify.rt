@@ -21,13 +21,14 @@ use pkg_core::PackageFault;
 use report_core::Refusal;
 use std::alloc::{AllocError, Global};
 
-/// Tests the files that the operands name, one after another, up to the first that is no sound
-/// container. On an observable tree its files are tested, on every tree some bytes.
+/// The verdict of `verify`: tests the files that the operands name, one after another, up to the
+/// first that is no sound container. On a tree that is not observable, it is that of some bytes.
 pub(crate) fn verify<T: Tree>(
     alloc: Global,
     operands: &Operands,
     tree: &mut T,
 ) -> Result<Verdict, TreeFault>
+    // The text of each operand is a valid name of a file.
     requires { IsTrue (are_files operands.now) }
     // The verdict is that of the specification, and the tree is only read.
     ensures { IsReadingRun (λ read files. verify read files operands.now)
@@ -38,13 +39,16 @@ pub(crate) fn verify<T: Tree>(
     Ok(verdict)
 }
 
-// The verdict with the refusal of the first bad operand, or with a line for each operand.
+// The verdict with the refusal of the first bad file, or, without one, with a line for each
+// operand.
 fn verdict_by(
     alloc: Global,
     operands: &Operands,
     refusal: Option<Refusal>,
 ) -> Result<Verdict, AllocError>
+    // The text of each operand is a valid name of a file.
     requires { IsTrue (are_files operands.now) }
+    // The verdict is that of this outcome, whatever the files are.
     ensures { IfOk result (λ verdict. (files : Files)
         → as_outcome files verdict
         ≡ just_report_unless_refusal files refusal (sound_lines operands.now)) }
@@ -62,13 +66,15 @@ fn first_refusal<T: Tree>(
     operands: &Operands,
     tree: &mut T,
 ) -> Result<Option<Refusal>, TreeFault>
+    // The text of each operand is a valid name of a file.
     requires { IsTrue (are_files operands.now) }
-    // On an observable tree it is the refusal of its files.
+    // On an observable tree the result is the first refusal of the tree's files, if there is one.
     ensures found { IfOk result (λ refusal. IfObservable (T.history tree.old) (λ v.
         refusal ≡ verify_refusal (reads_in (files_of v)) 0 operands.now)) }
-    // On every tree it is the refusal of some bytes at each read.
+    // On every tree the result is the first refusal of some bytes, or no file, at each read.
     ensures by_reads { IfOk result (λ refusal. (read : Reads)
         × (refusal ≡ verify_refusal read 0 operands.now)) }
+    // The tree is only read; an I/O error has its cause there.
     ensures tree { OnlyReads TreeFault.Disk (T.history tree.old) (T.history tree.new)
         (T.counts tree.old) (T.counts tree.new) result }
 {
@@ -84,14 +90,15 @@ fn first_refusal<T: Tree>(
     Ok(None)
 }
 
-// Tests the file that the argument at a place names: a package piece by piece, another container
-// whole.
+// Tests the file that the argument at this place of the command line names. A package is read in
+// pieces, another container as a whole. Returns the refusal, if the file fails a test.
 fn test_file<T: Tree>(
     alloc: Global,
     place: u32,
     file: &Name,
     tree: &mut T,
 ) -> Result<Option<Refusal>, TreeFault>
+    // The refusal is that of the tree's file, or of some bytes, and the tree is only read.
     ensures { IsFileTest place file.now
         (T.history tree.old) (T.history tree.new) (T.counts tree.old) (T.counts tree.new) result }
 {
@@ -105,13 +112,15 @@ fn test_file<T: Tree>(
     }
 }
 
-// Reads the file that the argument at a place names, and tests it.
+// Reads the whole file that the argument at this place names, and tests it. Returns the refusal, if
+// the file fails a test.
 fn test_whole<T: Tree>(
     alloc: Global,
     place: u32,
     file: &Name,
     tree: &mut T,
 ) -> Result<Option<Refusal>, TreeFault>
+    // The refusal is that of the tree's file, or of some bytes, and the tree is only read.
     ensures { IsFileTest place file.now
         (T.history tree.old) (T.history tree.new) (T.counts tree.old) (T.counts tree.new) result }
 {
@@ -120,7 +129,8 @@ fn test_whole<T: Tree>(
     Ok(refusal)
 }
 
-// The refusal of what was found, if it is no sound container.
+// The refusal of what was found for the argument at this place: a missing file, or bytes that are
+// no sound container.
 fn refusal_of(
     alloc: Global,
     place: u32,
@@ -140,6 +150,7 @@ fn refusal_of(
 
 // The report if all files are sound: a line `FILE: OK` for each operand.
 fn lines(alloc: Global, operands: &Operands) -> Result<Text, AllocError>
+    // The text of each operand is a valid name of a file.
     requires { IsTrue (are_files operands.now) }
     ensures { IfOk result (λ report. report ≡ sound_lines operands.now) }
 {

@@ -15,13 +15,16 @@ use std::alloc::{AllocError, Global};
 use std::cmp::Ordering;
 use version_core::Version;
 
-/// Compares the two operands (`--test`), or reports those that are no versions (`--check`).
+/// The verdict of `version`: the order of the two operands (`--test`), or the operands that are no
+/// versions (`--check`).
 pub(crate) fn version(
     alloc: Global,
     flags: Flags,
     operands: &Operands,
 ) -> Result<Verdict, AllocError>
+    // With `--test` there are exactly two operands.
     requires { flags.test ≡ true → length operands.now ≡ 2 }
+    // The verdict is that of the outcome, whatever the files are.
     ensures { IfOk result (λ verdict. (files : Files)
         → as_outcome files verdict ≡ version files flags operands.now) }
 {
@@ -35,12 +38,15 @@ pub(crate) fn version(
 // The verdict of `--test`: the order of two versions, or the refusal of the first operand that is
 // no version.
 fn compare(alloc: Global, operands: &Operands) -> Result<Verdict, AllocError>
+    // There are exactly two operands.
     requires { length operands.now ≡ 2 }
     // The verdict is that of the specification, whatever the files are.
     ensures { IfOk result (λ verdict. (files : Files) → as_outcome files verdict
         ≡ just_report_unless_refusal files (version_refusal operands.now)
         (version_order_report operands.now)) }
 {
+    // Each operand that is no version is refused with its place on the command line, the first one
+    // first.
     let (first, second) = (operands.get(0), operands.get(1));
     let Some(version) = Version::read(first.text.as_bytes()) else {
         let place = first.place;

@@ -12,7 +12,7 @@ use Rattle.report_core.specs.declared.refusal.Refusal.{Refusal}
 use Rattle.report_core.specs.declared.refusal.Refusal.TheVariants.{TooMany}
 use Rattle.change_inputs.specs.Inputs.{Inputs}
 
--- the packages of the indexes of some repositories, of which the first has this number
+-- the candidates of the indexes of some repositories; `n` is the number of the first repository, counted from 1
 abbrev pub candidates_of_repositories_from : ℕ → List Repository → List Plain → List Candidate
 candidates_of_repositories_from n [] indexes = []
 candidates_of_repositories_from n (repository ∷ repositories) [] = []
@@ -24,8 +24,8 @@ candidates_of_repositories_from n (repository ∷ repositories) (index ∷ index
 abbrev pub installed_candidate : Plain → Candidate
 installed_candidate pkg = candidate_of (entry_in pkg PACKAGE_INFO) None None true
 
--- the candidates with the installed packages, in the database's order: a package that an index has is
--- marked as installed, and any other is appended
+-- the candidates, to which the installed packages are added in the database's order: a package that is already a
+-- candidate from an index is marked as installed, and any other is appended
 abbrev pub with_all_installed : List Candidate → List Plain → List Candidate
 with_all_installed candidates [] = candidates
 with_all_installed candidates (pkg ∷ packages) =
@@ -37,8 +37,8 @@ candidates_of inputs =
     with_all_installed (candidates_of_repositories_from 1 inputs.root.repositories inputs.indexes)
     inputs.root.database.packages
 
--- the candidates under the new world and the names that the command upgrades, unless they are too
--- many
+-- all candidates of the inputs, with the new world and the names that the command upgrades; or the refusal, if there
+-- are more candidates than a pool may have
 unfoldable pub root_pool : Inputs → UpgradedNames → Result SealedPool Refusal
 root_pool inputs upgraded =
     if nat_lt MOST_CANDIDATES (length (candidates_of inputs)) then

@@ -1,5 +1,5 @@
 -- The database of a root: what is installed before a command. The rules are in
--- `docs/commands.md`, "`add` and `del`" (what is read) and "A root of version 2"; a database's
+-- `docs/commands.md`, "`add` and `del`" (part "What is read") and "A root of version 2"; a database's
 -- tests in `docs/formats.md`, "Tests of a container".
 use Rattle.std.specs.Prelude.{ℕ, Bool, true, false, List, [], Option, Some, None, Result, Ok, Err}
 use Rattle.db_core.specs.adb_fields.Repeated.{entries_at}
@@ -24,7 +24,8 @@ pub record Database : Type 0 where
   -- whether the packages are from a text database
   pub from_text : Bool
 
--- a database by its packages, by the bytes of the container, and by whether they are from a text
+-- the database with these packages, the bytes of its container, if there is one, and whether the packages are from a
+-- text database
 abbrev pub database_from_parts : List Plain → Option (List ℕ) → Bool → Database
 database_from_parts packages file from_text =
     record { packages = packages; file = file; from_text = from_text }
@@ -35,16 +36,16 @@ container_database file =
     unless_cause DatabaseBad (container_fault_except_contents Idb file)
     (database_from_parts (entries_at IDB_PACKAGES (root_value Idb (payload_in file))) (Some file) false)
 
--- the database in the payload of a text database, or why there is none
+-- the database in the payload to which a text database was converted, or the refusal if it could not be converted
 abbrev pub payload_database : Result (List ℕ) V2Fault → Result Database Refusal
 payload_database (Ok payload) =
     Ok (database_from_parts (entries_at IDB_PACKAGES (root_value Idb payload)) None true)
 payload_database (Err (Bad cause)) = Err (DatabaseBad cause)
 payload_database (Err (TooLarge bytes values)) = Err (ResultTooLarge bytes values)
--- no text gives this: *payload_of_text* knows no memory
+-- never the case: *payload_of_text* never runs out of memory
 payload_database (Err Memory) = Err NoDatabase
 
--- the database of a text, or its first fault
+-- the database to which a text database is converted, or the refusal of its first fault
 abbrev pub text_database : List ℕ → Result Database Refusal
 text_database text = payload_database (payload_of_text text)
 
@@ -53,8 +54,8 @@ abbrev pub empty_database_if_allowed : Bool → Result Database Refusal
 empty_database_if_allowed true = Ok (database_from_parts [] None false)
 empty_database_if_allowed false = Err NoDatabase
 
--- the database of a root, given what is found under its two names, and whether one may be created
--- (`may_begin`); the text database is used only if there is no other
+-- the database of a root, given the database's file and the text database, each None if absent; the text database is
+-- used only if there is no database file. `may_begin` says whether a database may be created if both are absent
 abbrev pub root_database : Bool → Option (List ℕ) → Option (List ℕ) → Result Database Refusal
 root_database may_begin (Some file) text = container_database file
 root_database may_begin None (Some text) = text_database text

@@ -5,7 +5,7 @@ use Rattle.base_core.specs.declared.tree.TreeFault.TheVariants as Trees
 use Rattle.change_inputs.specs.declared.root.Refused.{Refused}
 use Rattle.change_inputs.specs.declared.root.Refused.TheVariants.{Disk, Memory}
 
--- why a command ends if the tree failed
+-- `refused` is the end of a command in which the tree failed with this fault
 abbrev pub IsRefusedOf : TreeFault → Refused → Type 0
 IsRefusedOf Trees.Disk refused = refused ≡ Disk
 IsRefusedOf Trees.Memory refused = refused ≡ Memory

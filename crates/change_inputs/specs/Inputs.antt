@@ -1,6 +1,5 @@
--- What a change reads of a root, in the order of the tests: the database, world, the repositories,
--- and their indexes. The rules are in `docs/commands.md`, "`add` and `del`": what is read, and
--- the refusals in their order.
+-- What a change reads of a root, in the order of the tests: the database, world, the repositories, and their indexes.
+-- The rules are in `docs/commands.md`, "`add` and `del`", parts "What is read" and "What is refused".
 use Rattle.std.specs.Prelude.{ℕ, suc, List, [], ◌∷◌, Option, Result, Ok}
 use Rattle.adb_view.specs.Plain.{Plain}
 use Rattle.command_core.specs.Command.{CommandLine}
@@ -15,11 +14,11 @@ use Rattle.change_inputs.specs.Indexes.{root_indexes}
 use Rattle.change_inputs.specs.Repositories.{root_repositories}
 use Rattle.change_inputs.specs.World.{new_world, root_world, found_text_or_empty}
 
--- the contents of a root's files for a command
+-- the contents of a root's files (without the indexes) for a command, and the new world that the command asks for
 pub record Root : Type 0 where
-  -- what is installed
+  -- the packages that are installed before the command
   pub database : Database
-  -- the text of world's file, world before the command, and the one that it asks for
+  -- the text of the file of world before the command
   pub world_text : List ℕ
   -- world before the command
   pub world : List Dependency
@@ -28,7 +27,8 @@ pub record Root : Type 0 where
   -- the listed repositories, in the order of the list
   pub repositories : List Repository
 
--- a root by the contents of its files; the new world is what the command makes of the world
+-- a root with this database, this text of world's file, this world and these repositories; the new world is what the
+-- command makes of world
 abbrev pub root_from_parts :
     CommandLine → Database → List ℕ → List Dependency → List Repository → Root
 root_from_parts command database text world repositories = record {
@@ -39,9 +39,8 @@ root_from_parts command database text world repositories = record {
   repositories = repositories;
 }
 
--- a root, given what is found under the names of the database, the text database, world and the
--- repositories, or its first refusal; `--initdb`, which `add` alone has, lets a command begin a
--- database
+-- a root, given its four files, each None if absent: the database, the text database, world and the list of
+-- repositories; or the first refusal. With `--initdb`, which only `add` has, a command may begin a database
 abbrev pub root_from_files_found :
     CommandLine → Option (List ℕ) → Option (List ℕ) → Option (List ℕ) → Option (List ℕ)
     → Result Root Refusal
@@ -55,23 +54,22 @@ root_from_files_found command file text world_file repositories_file =
 
 -- all that a change reads: the contents of a root's files, and the value of each repository's index
 pub record Inputs : Type 0 where
-  -- what the files of the root say
+  -- the contents of the files of the root
   pub root : Root
   -- the value of the index of each repository, in the same order
   pub indexes : List Plain
 
--- inputs by their two parts
+-- the inputs with this root and the values of these indexes
 abbrev pub inputs_from_parts : Root → List Plain → Inputs
 inputs_from_parts root indexes = record { root = root; indexes = indexes }
 
 -- ---- the numbers of the reads
 
--- each read of a root has a number, counted from 0: the database is first
+-- the number of the read of the database; the reads of a run are numbered from 0
 abbrev pub database_read_number : ℕ
 database_read_number = 0
 
--- the number of the read of the text database; what it finds does not matter if there is another
--- database
+-- the number of the read of the text database; what this read finds does not matter if there is a database file
 abbrev pub text_database_read_number : ℕ
 text_database_read_number = 1
 
@@ -87,7 +85,7 @@ repositories_read_number = 3
 abbrev pub first_index_read_number : ℕ
 first_index_read_number = 4
 
--- what reads find under the paths of repositories; the read of the first one has this number
+-- the files, or None, that reads find under the paths of repositories; `n` is the number of the read of the first index
 abbrev pub index_reads_from : Reads → ℕ → List Repository → List (Option (List ℕ))
 index_reads_from read n [] = []
 index_reads_from read n (repository ∷ repositories) =
@@ -95,20 +93,20 @@ index_reads_from read n (repository ∷ repositories) =
 
 -- ---- the inputs
 
--- the database of a root alone, given what reads find, for a command
+-- the database of a root, without its other files, given what reads find; or the refusal
 abbrev pub database_for : CommandLine → Reads → Result Database Refusal
 database_for command read =
     root_database command.flags.initdb (read database_read_number database_name)
     (read text_database_read_number text_database_name)
 
--- a root, given what reads find, for a command
+-- a root, given what reads find, with the new world of the command; or the first refusal
 abbrev pub root_for : CommandLine → Reads → Result Root Refusal
 root_for command read =
     root_from_files_found command (read database_read_number database_name)
     (read text_database_read_number text_database_name) (read world_read_number world_name)
     (read repositories_read_number repositories_name)
 
--- the indexes, given what reads find
+-- the values of the indexes of these repositories, given what reads find, or the first refusal
 abbrev pub indexes_of : Reads → List Repository → Result (List Plain) Refusal
 indexes_of read repositories =
     root_indexes (index_reads_from read first_index_read_number repositories)

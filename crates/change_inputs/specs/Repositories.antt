@@ -12,8 +12,8 @@ repositories_if_untrusted_allowed is_allowed [] = Ok []
 repositories_if_untrusted_allowed true (repository ∷ repositories) = Ok (repository ∷ repositories)
 repositories_if_untrusted_allowed false (repository ∷ repositories) = Err Untrusted
 
--- the repositories of a root, given whether `--allow-untrusted` permits them and the text of their file;
--- or their refusal
+-- the repositories of a root, given whether `--allow-untrusted` permits them, and the text of their list; or the
+-- refusal: of the first bad line, or because they are not permitted
 abbrev pub root_repositories : Bool → List ℕ → Result (List Repository) Refusal
 root_repositories is_allowed text =
     and_then (with_error_as_refusal RepositoriesBad (repositories_of text))

@@ -6,7 +6,8 @@ use Rattle.root_names.specs.RootNames.{database_name, repositories_name, text_da
 use Rattle.change_inputs.specs.Answers.{IsFileFoundInTree}
 use Rattle.change_inputs.specs.declared.root.RootFiles.{RootFiles}
 
--- the files of a root are those under their names; the text database is read only if there is no other
+-- on an observable tree, the files of a root are those of the tree under their names; the text database is read only if
+-- there is no database file
 pub record AreRootFilesInTree (history : List TreeState) (files : RootFiles) : Type 0 where
   -- the database is the file under its name in the tree, or absent there
   pub database : IsFileFoundInTree history database_name (bytes_in files.database)
@@ -15,4 +16,5 @@ pub record AreRootFilesInTree (history : List TreeState) (files : RootFiles) : T
       → IsFileFoundInTree history text_database_name (bytes_in files.text_database)
   -- the same for world and for the list of repositories
   pub world : IsFileFoundInTree history world_name (bytes_in files.world)
+  -- the list of repositories is the file under its name
   pub repositories : IsFileFoundInTree history repositories_name (bytes_in files.repositories)

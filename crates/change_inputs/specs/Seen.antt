@@ -1,4 +1,4 @@
--- What the values of the program denote. It serves the contracts of `Loaded` and `Installed`.
+-- The values of definitions that the values of the program denote. Serves the contracts of `Loaded` and `Installed`.
 use Rattle.std.specs.Prelude.{true, false, List, [], Some, None, map}
 use Rattle.db_core.specs.adb_fields.Repeated.{entries_at}
 use Rattle.db_core.specs.adb_schema.Soundness.{payload_in, root_value}
@@ -25,7 +25,7 @@ database_seen (Payload own) =
     database_from_parts (entries_at IDB_PACKAGES (root_value Idb own.payload.items)) None true
 database_seen New = database_from_parts [] None false
 
--- the database that was read alone, as contracts see it
+-- the database of an `Installed`, which was read alone, as contracts see it
 abbrev pub installed_seen : Installed → Database
 installed_seen installed = database_seen installed.database
 

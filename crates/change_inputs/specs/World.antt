@@ -12,11 +12,11 @@ use Rattle.report_core.specs.declared.refusal.Refusal.{Refusal}
 use Rattle.report_core.specs.declared.refusal.Refusal.TheVariants.{WorldBad}
 use Rattle.change_inputs.specs.Chains.{with_error_as_refusal}
 
--- the text of world or of the repositories, given what is found: an absent file counts as empty
+-- the text of the file of world, or of the list of repositories, given the file or None: an absent file counts as empty
 abbrev pub found_text_or_empty : Option (List ℕ) → List ℕ
 found_text_or_empty found = unwrap_or found []
 
--- world before a command, by the text of its file, or its first bad line
+-- world before a command, given the text of its file, or the refusal of the first bad line
 abbrev pub root_world : List ℕ → Result (List Dependency) Refusal
 root_world text = with_error_as_refusal WorldBad (world_of text)
 
@@ -26,7 +26,8 @@ root_world text = with_error_as_refusal WorldBad (world_of text)
 abbrev pub operand_texts : List Operand → List (List ℕ)
 operand_texts operands = map (λ o. o.text) operands
 
--- world with the dependency of an operand, which replaces the one of its name
+-- world with the dependency that an operand states, which replaces the entry of the same name; world unchanged if the
+-- operand is no dependency
 abbrev pub world_with_operand : Operand → List Dependency → List Dependency
 world_with_operand o world =
     option_map_or (λ d. world_with_dependency_set d world) (dependency_of o.text) world

@@ -1,4 +1,4 @@
--- World without the entries of several names.
+-- World without the entries of several names. Serves the contract of `world_without` in `src/world.rt`.
 use Rattle.std.specs.Prelude.{ℕ, List, not}
 use Rattle.std.specs.List.{filter, list_any}
 use Rattle.std.specs.Str.{bytes_eq}

@@ -1,6 +1,7 @@
-//! The database of a root: its file, or a text database that is converted. The rules are in
-//! `docs/commands.md`, "`add` and `del`" (what is read) and "A root of version 2"; the tests in
-//! `docs/formats.md`, "Tests of a container".
+//! The database of a root, tested and kept in memory: its file, a text database that is converted,
+//! or a new one. Used by `Loaded` and `Installed`. The rules are in `docs/commands.md`, "`add` and
+//! `del`" (part "What is read") and "A root of version 2"; the tests in `docs/formats.md`, "Tests
+//! of a container".
 ghost use Rattle.db_core.specs.adb_fields.ListValue.{list_value};
 ghost use Rattle.db_core.specs.adb_fields.Repeated.{list_of};
 ghost use Rattle.db_core.specs.adb_schema.Soundness.{container_fault_except_contents, payload_fault, payload_in, root_value};
@@ -30,16 +31,17 @@ use v2_core::{V2Fault, read_v2};
 pub(crate) struct DatabaseContainer {
     /// The bytes of the whole file.
     pub(crate) file: Vec<u8>,
-    // The file passes each test of a database, except those of contents of files; its payload
-    // passes each test.
+    // The file passes each test of a database, except those of contents of files.
     ghost passed: { is_none (container_fault_except_contents Tables.Idb file.items) ≡ true },
+    // The payload of the file passes each test of the payload of a database.
     ghost sound: { is_none (payload_fault Tables.Idb (payload_in file.items)) ≡ true },
 }
 
 /// The payload of a text database, which passed all tests.
 #[derive(Drop)]
 pub(crate) struct DatabasePayload {
-    /// The bytes of the payload, which is in no file.
+    /// The bytes of the payload to which the text was converted. They are in memory only, in no
+    /// file.
     pub(crate) payload: Vec<u8>,
     // The payload passes each test of the payload of a database.
     ghost sound: { is_none (payload_fault Tables.Idb payload.items) ≡ true },
@@ -52,16 +54,17 @@ pub(crate) enum DatabaseFile {
     Container(DatabaseContainer),
     /// The root has no database file. Its text database was converted to this payload.
     Payload(DatabasePayload),
-    /// The root has neither a database file nor a text database. A database without packages is
-    /// begun.
+    /// The root has neither a database file nor a text database. The command begins a database
+    /// without packages.
     New,
 }
 
 impl DatabaseFile {
     ghost use Rattle.change_inputs.specs.Seen.{database_seen};
 
-    /// The database of a root, given the files under its two names; the text is used last. If there
-    /// is none, `may_begin` says whether one without packages is begun.
+    /// The database of a root, given the database's file and the text database, each None if
+    /// absent. The text is used only if there is no database file. If both are absent, `may_begin`
+    /// says whether the command may begin a database without packages.
     ///
     /// # Errors
     ///
@@ -74,6 +77,7 @@ impl DatabaseFile {
         file: Option<Vec<u8>>,
         text: Option<Vec<u8>>,
     ) -> Result<DatabaseFile, Refused>
+        // The result is that of the definition: the database, or the refusal; or out of memory.
         ensures { Agrees database_seen result
             (root_database may_begin (bytes_in file) (bytes_in text)) }
     {
@@ -83,8 +87,9 @@ impl DatabaseFile {
         }
     }
 
-    // The database in the bytes of a container. The bytes are tested as a database, and kept.
+    // The database in the container `file`. Its bytes are tested as a database, and kept.
     fn in_container(alloc: Global, file: Vec<u8>) -> Result<DatabaseFile, Refused>
+        // The result is that of the definition, or out of memory.
         ensures { Agrees database_seen result (container_database file.items) }
     {
         match test_file(alloc, &file, Which::Idb) {
@@ -94,13 +99,14 @@ impl DatabaseFile {
         }
     }
 
-    // The database of a root without a database file: the text database if there is one, or a new
-    // one.
+    // The database of a root without a database file: the converted text database if there is one,
+    // and otherwise a new database, if `may_begin` is true.
     fn taken_over(
         alloc: Global,
         may_begin: bool,
         text: Option<Vec<u8>>,
     ) -> Result<DatabaseFile, Refused>
+        // The result is that of the definition, or out of memory.
         ensures { Agrees database_seen result (root_database may_begin None (bytes_in text)) }
     {
         match text {
@@ -109,8 +115,10 @@ impl DatabaseFile {
         }
     }
 
-    // The database that a text database is converted to. It is tested as any other database.
+    // The database to which the text database `text` is converted. The converted payload is tested
+    // like that of any other database.
     fn in_text(alloc: Global, text: &[u8]) -> Result<DatabaseFile, Refused>
+        // The result is that of the definition, or out of memory.
         ensures { Agrees database_seen result (text_database text.now) }
     {
         match payload_of_text(alloc, text) {
@@ -123,7 +131,7 @@ impl DatabaseFile {
         }
     }
 
-    // A database without packages, if `may_begin` is true; otherwise `NoDatabase` is refused.
+    // A database without packages, if `may_begin` is true; otherwise the refusal `NoDatabase`.
     fn begun(may_begin: bool) -> Result<DatabaseFile, Refused>
         ensures { Agrees database_seen result (empty_database_if_allowed may_begin) }
     {
@@ -144,19 +152,21 @@ impl DatabaseFile {
         }
     }
 
-    /// Adds each installed package to a pool, after the packages of the indexes.
+    /// Adds each installed package to a pool that already has the packages of the indexes.
     ///
     /// # Errors
     ///
     /// `TooMany` if there are more candidates than a pool can have, or `Memory`.
     pub(crate) fn add_to<'a>(&'a self, pool: &mut Pool<'a>) -> Result<(), PoolFault>
+        // The pool has no more candidates than it may have.
         requires { length pool.old ≤ MOST_CANDIDATES }
         // The pool still has no more candidates than it may have.
         ensures fits { OnOk result (length pool.new ≤ MOST_CANDIDATES) }
         // The installed packages are then in the pool: each is marked or appended as a candidate.
         ensures ok { OnOk result (pool.new
             ≡ with_all_installed pool.old (database_seen self.entry.now).packages) }
-        // The only errors are too many candidates, and a lack of memory.
+        // The errors are too many candidates, with the number that there would be, and out of
+        // memory.
         ensures fault { IfErr result (λ fault. IsPoolFault fault (length
             (with_all_installed pool.old (database_seen self.entry.now).packages))) }
     {
@@ -167,8 +177,8 @@ impl DatabaseFile {
         }
     }
 
-    /// The bytes of the container, if there is one: with them a change finds out whether the
-    /// database differs.
+    /// The bytes of the database's file, if there is one. A change compares the new database with
+    /// them.
     pub(crate) fn file(&self) -> Option<&[u8]>
         ensures { option_copied result ≡ (database_seen self.now).file }
     {
@@ -178,7 +188,7 @@ impl DatabaseFile {
         }
     }
 
-    /// Whether the packages are from a text database, so that a change removes the text.
+    /// Whether the packages are from a text database, whose file a change then removes.
     pub(crate) fn is_from_text(&self) -> bool
         ensures { result ≡ (database_seen self.now).from_text }
     {
@@ -197,7 +207,7 @@ impl DatabaseContainer {
         payload_in(&self.file)
     }
 
-    // The database in the file.
+    // The database in the file, opened.
     fn idb(&self) -> IdbView<'_>
         ensures { idb_value result ≡ root_value Tables.Idb (payload_in self.now.file.items) }
     {
@@ -206,7 +216,7 @@ impl DatabaseContainer {
 }
 
 impl DatabasePayload {
-    // The database in the payload.
+    // The database in the payload, opened.
     fn idb(&self) -> IdbView<'_>
         ensures { idb_value result ≡ root_value Tables.Idb self.now.payload.items }
     {
@@ -214,18 +224,19 @@ impl DatabasePayload {
     }
 }
 
-// Adds each installed package to a pool. A list's entries count from 1.
+// Adds each installed package to a pool. The entries of `packages` are numbered from 1.
 fn add_packages<'a>(
     pool: &mut Pool<'a>,
     packages: &List<'a, PackageView<'a>>,
 ) -> Result<(), PoolFault>
+    // The pool has no more candidates than it may have.
     requires { length pool.old ≤ MOST_CANDIDATES }
     // The pool still has no more candidates than it may have.
     ensures fits { OnOk result (length pool.new ≤ MOST_CANDIDATES) }
-    // It has these packages then, each once.
+    // The pool has these packages then: each is marked as installed, or appended as a candidate.
     ensures ok { OnOk result (pool.new
         ≡ with_all_installed pool.old (list_of (entries_in (list_value packages.now)))) }
-    // The only errors are too many candidates, and a lack of memory.
+    // The only errors are too many candidates, with the number that there would be, and no memory.
     ensures fault { IfErr result (λ fault. IsPoolFault fault (length
         (with_all_installed pool.old (list_of (entries_in (list_value packages.now)))))) }
 {
@@ -236,9 +247,12 @@ fn add_packages<'a>(
     Ok(())
 }
 
-// The payload of a text, which passed its tests, or the text's first fault.
+// The payload to which a text database is converted, after its tests; or the first fault of the
+// text.
 fn payload_of_text(alloc: Global, text: &[u8]) -> Result<DatabasePayload, V2Fault>
+    // The payload is the one that the definition gives for this text.
     ensures ok { IfOk result (λ own. payload_of_text text.now ≡ Ok own.payload.items) }
+    // The fault is that of the definition, or out of memory.
     ensures err { IfErr result (λ fault. IsV2Fault fault (payload_of_text text.now)) }
 {
     let payload = read_v2(alloc, text)?;

@@ -1,6 +1,6 @@
-//! The repositories of a root, and their indexes: all index files are read before one of them is
-//! tested. The rules are in `docs/commands.md`, "`add` and `del`" (what is read and refused), and
-//! in `docs/formats.md`, "Repositories".
+//! The repositories of a root, and their indexes: all index files are read before the first of them
+//! is tested. The rules are in `docs/commands.md`, "`add` and `del`" (parts "What is read" and
+//! "What is refused"), and in `docs/formats.md`, "Repositories".
 
 ghost use Rattle.db_core.specs.adb_schema.Texts.{text_or_number_fault};
 ghost use Rattle.db_core.specs.adb_schema.Soundness.{root_value};
@@ -44,8 +44,11 @@ impl IndexFiles {
     ///
     /// `IndexBad` of the first file that fails a test, or `Memory`.
     pub(crate) fn test(alloc: Global, files: Vec<Vec<u8>>) -> Result<IndexFiles, Refused>
+        // The indexes are those of the definition, or the first bad file is refused; or out of
+        // memory.
         ensures answer { Agrees indexes_seen result
             (indexes_in_files 1 (bytes_of_each files.items)) }
+        // The bytes of the files are kept as they are.
         ensures kept { IfOk result (λ indexes. indexes.files.items ≡ files.items) }
     {
         for i in 0..files.len() {
@@ -61,8 +64,9 @@ impl IndexFiles {
         self.files.len()
     }
 
-    /// The index at a place, counted from 0.
+    /// Opens the index of repository number i + 1, which passed its tests.
     pub(crate) fn open(&self, i: usize) -> IndexView<'_>
+        // `i` is below the number of index files.
         requires { i < length (indexes_seen self.now) }
         ensures { slice_get (indexes_seen self.now) i ≡ Some (index_value result) }
     {
@@ -72,30 +76,35 @@ impl IndexFiles {
     }
 }
 
-// The index in a payload whose head, root and texts were tested.
+// The index in a payload whose head, shape and texts were tested.
 fn open_payload(payload: &[u8]) -> IndexView<'_>
+    // The head of the payload passes its test.
     requires head { is_none (payload_head_fault payload.now) ≡ true }
+    // Each value of the payload has the shape that the table of an index demands.
     requires sound { is_sound payload.now (Kinds.Obj Tables.Index)
         (root_word_of_payload payload.now) ≡ true }
+    // Each text and number of the index passes the test of its field.
     requires texts { is_none (text_or_number_fault Tables.Index
         (root_value Tables.Index payload.now))
         ≡ true }
     ensures { index_value result ≡ root_value Tables.Index payload.now }
 {
+    // The head passes its test, so the payload can be opened.
     let Ok(adb) = Adb::new(payload) else {
         unreachable!()
     };
     IndexView::of(adb, adb.root())
 }
 
-/// Reads the file of each repository's index, up to the first that is absent.
+/// Reads the file of each repository's index, up to the first absent file, which is refused.
+/// Returns the bytes of the files, in the order of the repositories.
 pub(crate) fn read_index_files<T: Tree>(
     alloc: Global,
     repositories: &Repos,
     tree: &mut T,
 ) -> Result<Vec<Vec<u8>>, Refused>
-    // If the tree's files are observable, they are what is found; all files are returned, or the
-    // first absent one is refused.
+    // `found` is the file of each repository, or None; on an observable tree it is that of the
+    // tree. All files are returned, or the first absent one is refused.
     ensures found { (found : List (Option (List ℕ)))
         × AreFilesFoundInTree (T.history tree.old) repositories.now found
         × AgreesUnlessDiskOrMemory (λ files. bytes_of_each files.items) result
@@ -114,7 +123,7 @@ pub(crate) fn read_index_files<T: Tree>(
     Ok(files)
 }
 
-// Appends the bytes of an index to those of the earlier repositories.
+// Appends the bytes of an index file to the files of the earlier repositories.
 fn push_file(files: &mut Vec<Vec<u8>>, file: Vec<u8>) -> Result<(), AllocError>
     ensures { OnOk result (bytes_of_each files.new.items
         ≡ bytes_of_each files.old.items ++ file.items ∷ []) }
@@ -123,7 +132,7 @@ fn push_file(files: &mut Vec<Vec<u8>>, file: Vec<u8>) -> Result<(), AllocError>
     Ok(())
 }
 
-// Reads the index file of the repository with this number.
+// Reads the index file, under `path`, of the repository with this number, counted from 1.
 fn read_index_file<T: Tree>(
     alloc: Global,
     number: u64,
@@ -135,6 +144,7 @@ fn read_index_file<T: Tree>(
         × IsFileFoundInTree (T.history tree.old) path.now found
         × AgreesUnlessDiskOrMemory (λ file. file.items) result
         (file_or_index_missing number found) }
+    // The tree is only read, and `Disk` has a counted fault of the tree as its cause.
     ensures tree { OnlyReads Refused.Disk (T.history tree.old) (T.history tree.new)
         (T.counts tree.old) (T.counts tree.new) result }
 {
@@ -144,9 +154,12 @@ fn read_index_file<T: Tree>(
     }
 }
 
-// Tests the index file of the repository with this number.
+// Tests the index file of the repository with this number, counted from 1.
 fn test_index_file(alloc: Global, number: u64, file: &[u8]) -> Result<(), Refused>
+    // Ok only if the file passes each test of an index. Otherwise its first fault is refused, or
+    // memory ran out.
     ensures answer { Agrees (λ _. index_of_file file.now) result (index_in_file number file.now) }
+    // Ok only if the file passes each test of an index.
     ensures passed { OnOk result (is_index file.now ≡ true) }
 {
     match test_file(alloc, file, Which::Index) {
@@ -159,8 +172,9 @@ fn test_index_file(alloc: Global, number: u64, file: &[u8]) -> Result<(), Refuse
     }
 }
 
-/// The repositories of a root, given what was found under the name of their list. They are read
-/// only if `--allow-untrusted` permits it, since signatures are not checked.
+/// The repositories of a root, given the file `etc/apk/repositories` that was found, or None. Their
+/// indexes may be read only if `--allow-untrusted` is given (`is_allowed`), since signatures are
+/// not checked.
 ///
 /// # Errors
 ///
@@ -171,6 +185,7 @@ pub(crate) fn repositories_of(
     is_allowed: bool,
     found: Option<Vec<u8>>,
 ) -> Result<Repos, Refused>
+    // The result is that of the definition: the repositories, or the refusal; or out of memory.
     ensures { Agrees (λ repositories. repositories) result
         (root_repositories is_allowed (found_text_or_empty (bytes_in found))) }
 {
@@ -182,7 +197,7 @@ pub(crate) fn repositories_of(
     }
 }
 
-// Refuses repositories that may not be read, if there are any.
+// The repositories, if there are none or `is_allowed` is true; otherwise the refusal `Untrusted`.
 fn repositories_if_untrusted_allowed(
     is_allowed: bool,
     repositories: Repos,

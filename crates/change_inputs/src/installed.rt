@@ -1,4 +1,5 @@
-//! The database of a root alone, as `info` reads it. The rules are in `docs/commands.md`,
+//! The database of a root alone, as commands read it that only report on installed packages, such
+//! as `info`. The rules are in `docs/commands.md`,
 //! "`info`" and "A root of version 2".
 ghost use Rattle.base_core.specs.Read.{OnlyReads};
 ghost use Rattle.change_inputs.specs.Answers.{AgreesUnlessDiskOrMemory};
@@ -18,7 +19,7 @@ use std::alloc::{AllocError, Global};
 /// The database of a root, which passed its tests. Its bytes are kept.
 #[derive(Drop)]
 pub struct Installed {
-    /// The database of the root, or the mark that the command begins a new one.
+    /// The database of the root, or `New` if the command begins a database without packages.
     database: DatabaseFile,
 }
 
@@ -36,14 +37,15 @@ impl Installed {
         command: &Command,
         tree: &mut T,
     ) -> Result<Installed, Refused>
-        // The result is that of some contents at each read: of the tree's, if its files are
-        // observable.
+        // The result is that of the definition for some contents at each read. On an observable
+        // tree these are the tree's files.
         ensures found { IsExplainedBySomeReads (T.history tree.old) (λ read.
             AgreesUnlessDiskOrMemory installed_seen result (database_for command.now read)) }
-        // The tree is only read; a fault of it has its cause.
+        // The tree is only read, and `Disk` has a counted fault of the tree as its cause.
         ensures tree { OnlyReads Refused.Disk (T.history tree.old) (T.history tree.new)
             (T.counts tree.old) (T.counts tree.new) result }
     {
+        // The database's file, and the text database, each None if absent.
         let found = read_databases(alloc, tree)?;
         let may_begin = command.flags().initdb;
         let database = DatabaseFile::of(alloc, may_begin, found.0, found.1)?;

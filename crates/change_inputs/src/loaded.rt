@@ -1,6 +1,6 @@
 //! What a change reads of a root, and the candidates for the solver. The rules are in
-//! `docs/commands.md`, "`add` and `del`": what is read, and the refusals in their order; of the
-//! candidates in `docs/selection.md`, "What there is to choose from".
+//! `docs/commands.md`, "`add` and `del`", parts "What is read" and "What is refused"; those of the
+//! candidates are in `docs/selection.md`, "What there is to choose from".
 ghost use Rattle.base_core.specs.Read.{OnlyReads};
 ghost use Rattle.change_inputs.specs.Answers.{Agrees, AgreesUnlessDiskOrMemory};
 ghost use Rattle.change_inputs.specs.Candidates.{candidates_of_repositories_from, candidates_of, root_pool};
@@ -31,7 +31,7 @@ pub struct Loaded {
     root: TestedRoot,
     /// The files of the indexes, one for each repository.
     indexes: IndexFiles,
-    // Each repository has its index.
+    // There is one index for each repository.
     ghost paired: { length indexes.files.items ≡ length root.repositories },
 }
 
@@ -48,11 +48,11 @@ impl Loaded {
     /// `RepositoriesBad`; `Untrusted`; `IndexMissing` for the first index that is absent;
     /// `IndexBad` for the first one that fails a test. `Disk` if the tree failed, and `Memory`.
     pub fn read<T: Tree>(alloc: Global, command: &Command, tree: &mut T) -> Result<Loaded, Refused>
-        // The inputs are those of some contents at each read: of the tree's, if its files are
-        // observable.
+        // The inputs are those of the definition for some contents at each read. On an observable
+        // tree these are the tree's files.
         ensures found { IsExplainedBySomeReads (T.history tree.old) (λ read.
             AgreesUnlessDiskOrMemory inputs_seen result (inputs_of command.now read)) }
-        // The tree is only read; a fault of it has its cause.
+        // The tree is only read, and `Disk` has a counted fault of the tree as its cause.
         ensures tree { OnlyReads Refused.Disk (T.history tree.old) (T.history tree.new)
             (T.counts tree.old) (T.counts tree.new) result }
     {
@@ -62,16 +62,21 @@ impl Loaded {
         Loaded::of_files(alloc, command, files, tree)
     }
 
-    // Reads the indexes, given the files of a root, which say where the indexes are.
+    // The inputs of a command, given the files of a root: tests these files, and reads and tests
+    // the indexes of the repositories that they list.
     fn of_files<T: Tree>(
         alloc: Global,
         command: &Command,
         files: RootFiles,
         tree: &mut T,
     ) -> Result<Loaded, Refused>
+        // On an observable tree, the given files are those of the tree.
         requires { AreRootFilesInTree (T.history tree.old) files }
+        // The inputs are those of the definition for some contents at each read. On an observable
+        // tree these are the tree's files.
         ensures found { IsExplainedBySomeReads (T.history tree.old) (λ read.
             AgreesUnlessDiskOrMemory inputs_seen result (inputs_of command.now read)) }
+        // The tree is only read, and `Disk` has a counted fault of the tree as its cause.
         ensures tree { OnlyReads Refused.Disk (T.history tree.old) (T.history tree.new)
             (T.counts tree.old) (T.counts tree.new) result }
     {
@@ -131,13 +136,14 @@ impl Loaded {
         &self.root.repositories
     }
 
-    /// The candidates of the indexes and of the database, under the new world and the names that
+    /// The candidates of the indexes and of the database, for the new world and for the names that
     /// the command upgrades.
     ///
     /// # Errors
     ///
     /// `TooMany` if there are more than a pool can have, or `Memory`.
     pub fn pool<'a>(&'a self, alloc: Global, upgrade: Upgrade<'a>) -> Result<Sealed<'a>, Refused>
+        // The result is that of the definition: the candidates, or the refusal; or out of memory.
         ensures { Agrees (λ pool. pool) result
             (root_pool (inputs_seen self.entry.now) (names_upgraded_by upgrade.entry)) }
     {
@@ -150,13 +156,15 @@ impl Loaded {
         }
     }
 
-    // The candidates of the indexes, then those of the database, up to the most that a pool can
-    // have.
+    // All candidates: first those of the indexes, then those of the database. More candidates than
+    // a pool can have are an error.
     fn candidates(&self, alloc: Global) -> Result<Pool<'_>, PoolFault>
         // The pool has all candidates of the inputs, if they are not too many.
         ensures ok { IfOk result (λ pool. pool ≡ candidates_of (inputs_seen self.now)) }
+        // The pool has no more candidates than it may have.
         ensures fits { IfOk result (λ pool. length pool ≤ MOST_CANDIDATES) }
-        // The candidates are refused only for their count, or if memory runs out.
+        // The errors are too many candidates, with the number that there would be, and out of
+        // memory.
         ensures fault { IfErr result (λ fault.
             IsPoolFault fault (length (candidates_of (inputs_seen self.now)))) }
     {
@@ -168,13 +176,16 @@ impl Loaded {
 
     // Adds the packages of each index to an empty pool; repositories count from 1.
     fn add_indexes<'a>(&'a self, pool: &mut Pool<'a>) -> Result<(), PoolFault>
+        // The pool has no candidate yet.
         requires { pool.old ≡ [] }
+        // The pool has no more candidates than it may have.
         ensures fits { OnOk result (length pool.new ≤ MOST_CANDIDATES) }
         // The pool has the packages of each index then, repository by repository.
         ensures ok { OnOk result (pool.new
             ≡ candidates_of_repositories_from 1 self.entry.now.root.repositories
             (indexes_seen self.entry.now.indexes)) }
-        // Too many candidates are refused by the number that the list would have.
+        // The errors are too many candidates, with the number that there would be, and out of
+        // memory.
         ensures fault { IfErr result (λ fault. IsPoolFault fault (length
             (candidates_of_repositories_from 1 self.entry.now.root.repositories
             (indexes_seen self.entry.now.indexes)))) }

@@ -1,6 +1,6 @@
-//! The files of a root, and their contents for a command: how they are read, tested and opened
-//! again, and why a command is not completed. The rules are in `docs/commands.md`, "`add` and
-//! `del`", what is read and refused.
+//! The files of a root: how they are read, and tested for a command; and `Refused`, which says why
+//! a command is not completed. The rules are in `docs/commands.md`, "`add` and `del`", parts "What
+//! is read" and "What is refused".
 
 ghost use Rattle.base_core.specs.Read.{OnlyReads, bytes_in};
 ghost use Rattle.change_inputs.specs.Answers.{Agrees, IsDiskOrMemoryFailure, IsFileFoundInTree};
@@ -25,8 +25,8 @@ use report_core::Refusal;
 use root_names::{database_name, repositories_name, text_database_name, world_name};
 use std::alloc::{AllocError, Global};
 
-/// The files of a root, each None if it is absent. The text database is read only if there is no
-/// other.
+/// The bytes of the files of a root, each None if it is absent. The text database is read only if
+/// there is no database file.
 #[derive(Drop)]
 pub(crate) struct RootFiles {
     /// `lib/apk/db/installed.adb`.
@@ -42,7 +42,7 @@ pub(crate) struct RootFiles {
 /// The contents of a root's files for a command. All of them passed their tests.
 #[derive(Drop)]
 pub(crate) struct TestedRoot {
-    /// What is installed before the command.
+    /// The packages that are installed before the command.
     pub(crate) database: DatabaseFile,
     /// World before the command, and world after the command has added or removed its entries.
     pub(crate) worlds: Worlds,
@@ -52,11 +52,11 @@ pub(crate) struct TestedRoot {
 
 /// Reads the files of a root: first the databases, then world and the repositories.
 pub(crate) fn read_root<T: Tree>(alloc: Global, tree: &mut T) -> Result<RootFiles, Refused>
-    // If the tree's files are observable, each is the one under its name.
+    // On an observable tree, each file is that of the tree under the file's name.
     ensures found { IfOk result (λ files. AreRootFilesInTree (T.history tree.old) files) }
     // Nothing is refused here.
     ensures failed { IfErr result IsDiskOrMemoryFailure }
-    // The tree is only read; a fault of it has its cause.
+    // The tree is only read, and `Disk` has a counted fault of the tree as its cause.
     ensures tree { OnlyReads Refused.Disk (T.history tree.old) (T.history tree.new)
         (T.counts tree.old) (T.counts tree.new) result }
 {
@@ -75,7 +75,8 @@ pub(crate) fn read_root<T: Tree>(alloc: Global, tree: &mut T) -> Result<RootFile
     })
 }
 
-/// Reads the database of a root, and the text database if there is no other.
+/// Reads the database's file of a root, and the text database if there is no database file. Returns
+/// both, each None if it is absent or was not read.
 pub(crate) fn read_databases<T: Tree>(
     alloc: Global,
     tree: &mut T,
@@ -83,11 +84,12 @@ pub(crate) fn read_databases<T: Tree>(
     // If the tree's files are observable, the database that is found is the file under its name.
     ensures database { IfOk result (λ found.
         IsFileFoundInTree (T.history tree.old) database_name (bytes_in found.0)) }
-    // So is the text database, which counts only if there is no other.
+    // Without a database file, the text database that is found is the file under its name.
     ensures text_database { IfOk result (λ found. bytes_in found.0 ≡ None
         → IsFileFoundInTree (T.history tree.old) text_database_name (bytes_in found.1)) }
     // Nothing is refused here.
     ensures failed { IfErr result IsDiskOrMemoryFailure }
+    // The tree is only read, and `Disk` has a counted fault of the tree as its cause.
     ensures tree { OnlyReads Refused.Disk (T.history tree.old) (T.history tree.new)
         (T.counts tree.old) (T.counts tree.new) result }
 {
@@ -103,7 +105,7 @@ pub(crate) fn read_databases<T: Tree>(
     Ok((None, text_database))
 }
 
-/// The contents of a root's files for a command.
+/// Tests the files of a root, and returns their contents for a command.
 ///
 /// # Errors
 ///
@@ -114,6 +116,7 @@ pub(crate) fn test_root(
     command: &Command,
     files: RootFiles,
 ) -> Result<TestedRoot, Refused>
+    // The result is that of the definition: the contents, or the first refusal; or out of memory.
     ensures { Agrees root_seen result (root_from_files_found command.now (bytes_in files.database)
         (bytes_in files.text_database) (bytes_in files.world) (bytes_in files.repositories)) }
 {
@@ -145,6 +148,7 @@ pub(crate) fn read_file<T: Tree>(
         IsFileFoundInTree (T.history tree.old) name.now (bytes_in found)) }
     // Nothing is refused here.
     ensures failed { IfErr result IsDiskOrMemoryFailure }
+    // The tree is only read, and `Disk` has a counted fault of the tree as its cause.
     ensures tree { OnlyReads Refused.Disk (T.history tree.old) (T.history tree.new)
         (T.counts tree.old) (T.counts tree.new) result }
 {
@@ -156,6 +160,7 @@ pub(crate) fn test_file(alloc: Global, file: &[u8], which: Which) -> Result<(), 
     // A refusal has the first test that the file fails.
     ensures bad { IfErr result (λ fault. IsReadFault fault
         (container_fault_except_contents which file.now)) }
+    // Ok only if the file passes each test, except those of contents of files.
     ensures passed { OnOk result (container_fault_except_contents which file.now ≡ None) }
     // If the file passes, its payload passes the tests of a payload too.
     ensures sound { OnOk result (payload_fault which (payload_in file.now) ≡ None) }
@@ -179,7 +184,7 @@ impl From<AllocError> for Refused {
     ghost use Rattle.std.specs.Prelude.{◌≡◌};
     ghost use Rattle.change_inputs.specs.declared.root.Refused.TheVariants.{Memory};
 
-    // The fault that a caller gets by `?`.
+    // What a caller returns by `?` on this fault.
     ghost from_gives = { λ _ refused. refused ≡ Memory };
 
     // Out of memory as the end of a command.
@@ -191,7 +196,7 @@ impl From<AllocError> for Refused {
 impl From<TreeFault> for Refused {
     ghost use Rattle.change_inputs.specs.Faults.{IsRefusedOf};
 
-    // The fault that a caller gets by `?`.
+    // What a caller returns by `?` on this fault.
     ghost from_gives = { λ fault refused. IsRefusedOf fault refused };
 
     // A fault of the tree as the end of a command.
@@ -203,8 +208,8 @@ impl From<TreeFault> for Refused {
     }
 }
 
-/// Inputs depend only on the reads of their own files: those of a root, and one for each index.
-/// Later reads of a command do not matter.
+/// A law: inputs depend only on the reads of the four files of a root, and on one read for each
+/// index. Later reads of a command do not matter.
 pub fn inputs_depend_on_their_own_reads()
     ensures { (command : CommandLine) (read other : Reads) (inputs : Inputs)
         → inputs_of command read ≡ Ok inputs

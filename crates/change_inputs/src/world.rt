@@ -21,7 +21,7 @@ const MOST_TEXTS: usize = 4294967294;
 /// World, before a command and after it.
 #[derive(Drop)]
 pub(crate) struct Worlds {
-    /// The text of world's file, and nothing if it is absent.
+    /// The text of world's file before the command; no bytes if the file is absent.
     pub(crate) text: Vec<u8>,
     /// The entries of world before the command, as the text has them.
     pub(crate) before: World,
@@ -29,7 +29,7 @@ pub(crate) struct Worlds {
     pub(crate) after: World,
 }
 
-/// The worlds of a command, given what was found under world's name.
+/// World before and after a command, given the file of world that was found, or None.
 ///
 /// # Errors
 ///
@@ -42,7 +42,7 @@ pub(crate) fn worlds_of(
     // World before the command is that of the file, or its first bad line is refused.
     ensures read { Agrees (λ worlds. worlds.before) result
         (root_world (found_text_or_empty (bytes_in found))) }
-    // The file's text is kept: with it a change finds out whether world differs.
+    // The file's text is kept. A change compares the text of the new world with it.
     ensures text { IfOk result (λ worlds. worlds.text.items
         ≡ found_text_or_empty (bytes_in found)) }
     // World after the command is the definition *new_world* of world before.
@@ -73,6 +73,7 @@ pub(crate) fn found_text_or_empty(alloc: Global, found: Option<Vec<u8>>) -> Vec<
 
 // The entries of world that a text has, or the number of its first bad line.
 fn read_world(alloc: Global, text: &[u8]) -> Result<World, Refused>
+    // The result is that of the definition: the entries, or the refusal; or out of memory.
     ensures { Agrees (λ world. world) result (root_world text.now) }
 {
     match World::read(alloc, text) {
@@ -115,8 +116,8 @@ fn add_operand(operand: &Operand, world: &mut World) -> Result<(), AllocError>
     }
 }
 
-// Removes the name of each operand of `del`. The names are sorted and looked up entry by entry, in
-// time in proportion to n log n for n names and entries.
+// Removes the entries whose names are operands of `del`. The names are sorted first, so that the
+// time is in proportion to n log n for n names and entries.
 fn take_operands(alloc: Global, operands: &Operands, world: &mut World) -> Result<(), AllocError>
     ensures { OnOk result (world.new ≡ world_without_operands operands.now world.old) }
 {
@@ -127,7 +128,7 @@ fn take_operands(alloc: Global, operands: &Operands, world: &mut World) -> Resul
     Ok(())
 }
 
-// The entries of world whose names are not listed.
+// The entries of world whose names are not among `names`, in their order.
 fn world_without(alloc: Global, world: &World, names: &SortedWords<'_>) -> Result<World, AllocError>
     ensures { IfOk result (λ rest. rest ≡ world_without_names names.now world.now) }
 {
@@ -161,6 +162,7 @@ pub fn operand_texts(alloc: Global, operands: &Operands) -> Result<Words, AllocE
 {
     let mut texts = Words::new(alloc);
     for i in 0..operands.len() {
+        // A list of words has no room for more texts, which counts as out of memory.
         if i >= MOST_TEXTS {
             return Err(AllocError);
         }

@@ -1,5 +1,5 @@
--- The outcome of a command that changes the installed packages. The rules are in `docs/commands.md`,
--- "`add` and `del`": what is refused, in this order, what is written, and what is reported.
+-- The result of a command that changes the installed packages. The rules are in `docs/commands.md`, "`add` and `del`",
+-- parts "What is written", "What is reported" and "What is refused" (in this order).
 use Rattle.std.specs.Prelude.{◌≡◌, ℕ, ◌==◌, Bool, true, false, not, ◌||◌, List, [], ◌∷◌, ◌++◌, length, map, sum_by, Option, Some, None, Result, Ok, Err, bytes_eq, slice_get, unwrap_or}
 use Rattle.std.specs.Option.{option_map_or}
 use Rattle.adb_view.specs.FieldIndexes.{INFO_INSTALLED_SIZE, PACKAGE_INFO}
@@ -34,16 +34,17 @@ use Rattle.change_outcome.specs.Triggers.{trigger_lines, unless_trigger_due}
 
 -- what a command asks for besides its new world
 pub record ChangeWishes : Type 0 where
-  -- whether changed configuration is removed too (`--purge`)
+  -- whether modified configuration files are removed too (`--purge`)
   pub purge : Bool
   -- whether scripts are left out (`--no-scripts`)
   pub no_scripts : Bool
-  -- the names to be removed
+  -- the names that `del` takes out of world
   pub to_remove : List (List ℕ)
 
 -- ---- the files
 
--- what decides a change of files: the packages before, those after that were found, and `--purge`
+-- what decides which files a change writes, removes and keeps: the packages before, the found packages after it, and
+-- `--purge`
 abbrev pub file_change : Inputs → ChangeWishes → List MemberFound → FileChange
 file_change inputs wishes found = record {
   old = inputs.root.database.packages;
@@ -65,7 +66,7 @@ unless_clash (Some pair) next = Err (PathClash pair.path pair.other)
 abbrev pub member_name_at_place : List Member → ℕ → List ℕ
 member_name_at_place members place = option_map_or member_name (slice_get members place) []
 
--- the result `next`, unless there is a path without an owner; the refusal names two packages that list it
+-- the result `next`, unless there is a path without an owner (contested); the refusal names two members that list it
 abbrev pub unless_contested :
     {A : Type 0} → List Member → Option ContestedPath → Result A Refusal → Result A Refusal
 unless_contested members None next = next
@@ -75,12 +76,12 @@ unless_contested members (Some c) next =
 
 -- ---- the database and world
 
--- a value, unless it does not fit into a payload, which is refused with its two counts
+-- the value; or the counts (bytes and values) of a value that does not fit into a payload, as a refusal
 abbrev pub or_result_too_large : {A : Type 0} → Result A PayloadCounts → Result A Refusal
 or_result_too_large (Ok a) = Ok a
 or_result_too_large (Err counts) = Err (ResultTooLarge counts.0 counts.1)
 
--- the value, unless there are counts that exceed a limit of the writer: then they are refused
+-- the value, unless there are counts (bytes and values) that exceed a limit of the writer: these are refused
 abbrev pub unless_overflow : {A : Type 0} → Option PayloadCounts → A → Result A Refusal
 unless_overflow None a = Ok a
 unless_overflow (Some counts) a = Err (ResultTooLarge counts.0 counts.1)
@@ -103,8 +104,8 @@ abbrev pub name_if_needed : Bool → List ℕ → List (List ℕ)
 name_if_needed true name = name ∷ []
 name_if_needed false name = []
 
--- the names of the database and of world, each if it is written: world if its text differs; an absent
--- file counts as empty
+-- the names of the database and of world, each if its file is written: the database's if it is absent or differs,
+-- world's if its text differs (an absent file of world counts as empty)
 abbrev pub names_of_written_database_and_world : Inputs → DatabaseAndWorldAfter → List (List ℕ)
 names_of_written_database_and_world inputs records =
     name_if_needed (is_absent_or_different inputs.root.database.file records.database) database_name
@@ -112,9 +113,9 @@ names_of_written_database_and_world inputs records =
 
 -- ---- what is done, as two lists of names in byte order
 
--- The intent (journal entry) of a change: the names that it removes, and those that it writes, each in
--- byte order. A converted text database is removed with the files; the database and world are written
--- with them, if they differ.
+-- The intent (journal entry) of a change: the names that it removes, and those that it writes, each in byte order. A
+-- text database that is taken over is removed with the files of packages. The database and world are written with
+-- them, if they differ. `records` are the database and world after the change.
 abbrev pub intent_of_change : Inputs → FileChange → Files → DatabaseAndWorldAfter → Intent
 intent_of_change inputs change files records = record {
   removals = sorted_distinct_names (removals_of change files
@@ -128,7 +129,7 @@ intent_of_change inputs change files records = record {
 abbrev pub bytes_or_empty_under : Files → List ℕ → List ℕ
 bytes_or_empty_under files name = unwrap_or (files name) []
 
--- whether a change has actions; one without them writes nothing, not even an intent
+-- whether a change removes or writes a name; without any action a change writes nothing, not even an intent
 abbrev pub has_actions : Intent → Bool
 has_actions actions = not (length actions.removals == 0) || not (length actions.writes == 0)
 
@@ -143,11 +144,12 @@ abbrev pub member_sum_line : List Member → List ℕ
 member_sum_line members =
     report_line (bytes_and_package_count_text (sum_by member_installed_size members) (length members))
 
--- the names that a change writes or removes below its packages: a trigger may watch their folders
+-- the names of files of packages that a change writes or removes: a trigger may watch the folders of these names
 abbrev pub touched_paths : FileChange → Files → List (List ℕ)
 touched_paths change files = map (λ w. w.name) (file_writes_of change files) ++ removals_of change files
 
--- all lines of a report, in their order
+-- The report of a change. It has these lines, in this order: one for each package that changes, for each kept name that
+-- was to be removed, for each modified configuration file, and for each due trigger; and the sums.
 abbrev pub change_report : Replacement → ChangeWishes → FileChange → Files → List ℕ
 change_report r wishes change files =
     change_lines (changes_of r) ++ still_needed_lines r.before r.selected wishes.to_remove
@@ -165,7 +167,8 @@ pub record ChangeDone : Type 0 where
   -- whether the change writes or removes anything
   pub commits : Bool
 
--- the result of a change that is made: the report, and the files that it leaves
+-- the result of a change that is made: its report, the files that it leaves, and whether it writes or removes any file.
+-- `found` are the packages after it, `files` the files before it, and `records` the new database and world
 abbrev pub change_done :
     Inputs → Replacement → ChangeWishes → List MemberFound → Files → DatabaseAndWorldAfter → ChangeDone
 change_done inputs r wishes found files records =
@@ -188,8 +191,8 @@ change_done_unless_too_large inputs r wishes found files =
     unless_overflow (overflow_of (value_of_intent actions))
     (change_done inputs r wishes found files records))
 
--- a change, given the packages after it and the first clash of its names, if there is one: each test in
--- its order
+-- The result of a change, given the packages after it (`found`) and the first clash of its names, if there is one. The
+-- tests in their order: reserved paths, the clash, contested paths, due triggers, and the limits of the writer.
 abbrev pub change_with_members :
     Inputs → Replacement → ChangeWishes → Option NamePair → Files → List MemberFound
     → Result ChangeDone Refusal
@@ -207,7 +210,7 @@ abbrev pub members_after_change :
 members_after_change inputs r wishes read =
     members_after r read inputs.root.repositories wishes.no_scripts
 
--- A selection replaces the packages before: the result of the change, or its first refusal.
+-- The result of the change in which the selected packages of `r` replace the packages before, or its first refusal.
 unfoldable pub change_or_refusal :
     Inputs → Replacement → ChangeWishes → Reads → Option NamePair → Files
     → Result ChangeDone Refusal
@@ -217,8 +220,8 @@ change_or_refusal inputs r wishes read clash files =
 
 -- ---- the first clash
 
--- The first clash of the names after a change, if the packages after it are found; otherwise there is
--- none. `files` decide whether configuration is kept or a file is laid beside it; names clash among the
+-- `clash` is the first clash of the names after a change, or None, if the packages after it are found; otherwise None.
+-- `files` decide whether a configuration file is kept or a file is written beside it; names clash among
 -- `present_files`.
 abbrev pub IsClashFoundAmong :
     Inputs → ChangeWishes → Files → Files → Result (List MemberFound) Refusal → Option NamePair
@@ -233,13 +236,13 @@ abbrev pub IsClashOfChangeAmong :
 IsClashOfChangeAmong inputs r wishes read files present_files clash =
     IsClashFoundAmong inputs wishes files present_files (members_after_change inputs r wishes read) clash
 
--- *IsClashFoundAmong* for one set of files, as on a tree whose files are observable
+-- *IsClashFoundAmong*, with the same files as `present_files`, as on an observable tree
 abbrev pub IsClashFound :
     Inputs → ChangeWishes → Files → Result (List MemberFound) Refusal → Option NamePair → Type 0
 IsClashFound inputs wishes files members clash =
     IsClashFoundAmong inputs wishes files files members clash
 
--- *IsClashOfChangeAmong* for one set of files
+-- *IsClashOfChangeAmong*, with the same files as `present_files`, as on an observable tree
 abbrev pub IsClashOfChange :
     Inputs → Replacement → ChangeWishes → Reads → Files → Option NamePair → Type 0
 IsClashOfChange inputs r wishes read files clash =

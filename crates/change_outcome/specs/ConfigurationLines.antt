@@ -1,5 +1,5 @@
--- The report on configuration that the user changed. The lines are defined in `docs/commands.md`,
--- "`add` and `del`", what is reported.
+-- The report on configuration files that the user modified. The lines are defined in `docs/commands.md`, "`add` and
+-- `del`", part "What is reported".
 use Rattle.std.specs.Prelude.{ℕ, List, ◌++◌, map, codes}
 use Rattle.std.specs.List.{flat_map}
 use Rattle.std.specs.Ordering.{on}
@@ -9,12 +9,12 @@ use Rattle.base_core.specs.ByteOrder.{bytes_cmp}
 use Rattle.base_core.specs.Sorted.{sorted_by}
 use Rattle.report_core.specs.Reports.{report_line}
 
--- the line that says that a new file is laid beside the user's
+-- the line that says that a package's new file is written as `PATH.apk-new`, beside the modified file at this path
 abbrev pub apk_new_line : List ℕ → List ℕ
 apk_new_line path =
     report_line (apk_new_name path ++ codes " installed; " ++ path ++ codes " was changed")
 
--- the line that says that the user's file is kept although its package is removed
+-- the line that says that the modified file at this path is kept although its package is removed
 abbrev pub kept_config_line : List ℕ → List ℕ
 kept_config_line path = report_line (path ++ codes " kept; it was changed")
 
@@ -25,16 +25,16 @@ pub record PathLine : Type 0 where
   -- the line of the report about this file
   pub line : List ℕ
 
--- a line with the path by which it is sorted
+-- a path with the line that the function `line_of` makes of it
 abbrev pub path_line : (List ℕ → List ℕ) → List ℕ → PathLine
 path_line line_of path = record { path = path; line = line_of path }
 
--- the order of lines on configuration: by path
+-- the order of lines on configuration: the byte order of their paths
 abbrev pub path_line_cmp : PathLine → PathLine → Ordering
 path_line_cmp = on (λ l. l.path) bytes_cmp
 
--- the lines on configuration, in byte order of the paths: one for each path beside which a file is
--- laid, and one for each at which the user's file is kept
+-- the lines on configuration, in byte order of the paths: one for each path of `aside`, beside which a new file is
+-- written, and one for each path of `kept`, at which the modified file is kept
 unfoldable pub configuration_lines : List (List ℕ) → List (List ℕ) → List ℕ
 configuration_lines aside kept = flat_map (λ l. l.line)
     (sorted_by path_line_cmp (map (path_line apk_new_line) aside ++ map (path_line kept_config_line) kept))

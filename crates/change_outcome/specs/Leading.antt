@@ -10,12 +10,12 @@ use Rattle.journal_core.specs.journal_intent.IntentValue.{intent_of_lists}
 abbrev pub write_count_limit : ℕ
 write_count_limit = 2 ^ 63
 
--- if these names are removed and written, and the others are unchanged, the files are `after`; the
--- names are free, nothing is staged before, and the writes are below their limit
+-- The files `after` are `files` with these names removed and written, and all others unchanged. The names may be in an
+-- intent, nothing is staged in `files`, and the writes are fewer than their limit.
 pub record ActionsLeadToFiles (removals writes : List (List ℕ)) (files after : Files) : Type 0 where
-  -- the names are free; none is written twice, and none is both written and removed
+  -- the names are not used by the journal; none is written twice, and none is both written and removed
   pub free : HasFreeDistinctNames (intent_of_lists removals writes)
-  -- there are less writes than a stage can have
+  -- there are fewer writes than the limit
   pub few : length writes < write_count_limit
   -- nothing is staged in the files before
   pub empty : HasNoStagedNames files

@@ -1,4 +1,4 @@
--- passed on: a crate above that names this one need not name these
+-- re-exported crates: a crate that depends on this one can use their definitions without depending on them too
 pub use Rattle.change_inputs.specs as change_inputs
 pub use Rattle.change_inputs.specs.candidate_core as candidate_core
 pub use Rattle.change_inputs.specs.make_info as make_info
@@ -19,13 +19,13 @@ pub use Rattle.package_changes.specs.file_owners as file_owners
 pub use Rattle.package_changes.specs.search_tables as search_tables
 pub use Rattle.root_names.specs as root_names
 pub use Rattle.star_patterns.specs as star_patterns
--- what the contract of `apk` says
+-- modules that the contract of `apk` cites
 pub mod ChangeOutcome
 pub mod ConfigurationLines
 pub mod MembersAfter
 pub mod PackageFiles
 pub mod Triggers
--- what its laws say
+-- modules that the laws of this crate cite
 pub mod Premises
 pub mod Made
 pub mod Leading

@@ -14,7 +14,7 @@ use Rattle.change_inputs.specs.make_info.Reads.{Reads}
 use Rattle.package_changes.specs.Changes.{Replacement}
 use Rattle.package_changes.specs.path_clashes.Clash.{NamePair}
 
--- the packages after a change are found, it passes each test, and this is its result
+-- the packages after a change are found, the change passes each test, and `done` is its result
 pub record IsChangeMade (inputs : Inputs) (r : Replacement) (wishes : ChangeWishes) (read : Reads)
     (clash : Option NamePair) (files : Files) (done : ChangeDone) : Type 0 where
   -- the packages after the change
@@ -36,5 +36,5 @@ pub record IsChangeMade (inputs : Inputs) (r : Replacement) (wishes : ChangeWish
   pub fits : (let actions = intent_of_change inputs (file_change inputs wishes found) files
       (database_and_world_after_change inputs database) in
       overflow_of (value_of_intent actions) ≡ None)
-  -- the result
+  -- `done` is the result of the change
   pub is : done ≡ change_done inputs r wishes found files (database_and_world_after_change inputs database)

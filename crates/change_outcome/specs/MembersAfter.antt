@@ -1,5 +1,6 @@
--- The packages after a change, name by name. The rules are in `docs/commands.md`, "`add` and `del`":
--- what is read of the added packages, and how they are refused, package by package.
+-- The packages after a change, name by name. In these definitions `n` is the number of the read of a package's file,
+-- and `no_scripts` says whether scripts may be left out. The rules are in `docs/commands.md`, "`add` and `del`", parts
+-- "What is read" and "What is refused".
 use Rattle.std.specs.Prelude.{ℕ, suc, ◌+◌, Bool, List, [], ◌∷◌, length, map, Option, Some, None, Result, Ok, option_map, slice_get}
 use Rattle.std.specs.Option.{option_map_or}
 use Rattle.std.specs.List.{cons_option, find}
@@ -17,13 +18,13 @@ use Rattle.report_core.specs.Reports.{Change}
 use Rattle.report_core.specs.declared.refusal.Refusal.{Refusal}
 use Rattle.change_outcome.specs.PackageFiles.{AddedPackage, package_file_path_of_candidate, added_package_or_refusal, scripts_of_change, unless_script_needed}
 
--- a package after the change; and for an added one its file, and the contents of its files
+-- a package after the change; for an added package also the bytes of its file, and the contents of its files
 pub record MemberFound : Type 0 where
   -- the package, as one that is installed after the change
   pub member : Member
-  -- the bytes of an added package's file
+  -- the bytes of an added package's file; None for a kept package
   pub file : Option (List ℕ)
-  -- the contents of an added package's files
+  -- the contents of an added package's files; none for a kept package
   pub contents : List Contents
 
 -- a kept package, whose files are not read
@@ -38,13 +39,15 @@ added_member_found pkg = record {
   contents = pkg.contents;
 }
 
--- the package of an added candidate, given what a read finds under the name of its file, if it has one
+-- the package of an added candidate, by what the read with number `n` finds under the path of its file; a candidate
+-- without a path is refused as missing
 abbrev pub added_package_by_path :
     Reads → ℕ → Candidate → Option (List ℕ) → Result AddedPackage Refusal
 added_package_by_path read n c None = added_package_or_refusal c None
 added_package_by_path read n c (Some path) = added_package_or_refusal c (read n path)
 
--- the member of an added candidate, whose file is the read with this number, or its refusal
+-- the member of the added candidate `c`, whose file the read with number `n` finds, or the refusal: of its file, or of
+-- a script that the change would have to run
 abbrev pub member_of_added_name :
     Reads → List Repository → Bool → ℕ → List ℕ → Change → Candidate
     → Result (Option MemberFound) Refusal
@@ -53,8 +56,7 @@ member_of_added_name read repositories no_scripts n name change c =
     unless_script_needed no_scripts name pkg.value (scripts_of_change change)
     (Some (added_member_found pkg)))
 
--- a removed package: it is no member any more, unless one of its scripts would have to run, which
--- refuses the change
+-- None, since a removed package is no member any more; or the refusal, if one of its scripts would have to run
 abbrev pub member_of_removed_name :
     Bool → List ℕ → Change → Option Plain → Result (Option MemberFound) Refusal
 member_of_removed_name no_scripts name change None = Ok None
@@ -70,8 +72,8 @@ member_of_name_by_selected read repositories no_scripts n name change before Non
 member_of_name_by_selected read repositories no_scripts n name change before (Some c) =
     member_of_added_name read repositories no_scripts n name change c
 
--- the result for a name, a member or none, given the change of its package; without a change the package
--- is kept. `n` is the number of the read of the package's file
+-- the result for a name, a member or None, given the change of its package, the package `before` and the `selected`
+-- candidate with this name; without a change the package is kept
 abbrev pub member_of_name_by_change :
     Reads → List Repository → Bool → ℕ → List ℕ → Option Change → Option Plain
     → Option Candidate → Result (Option MemberFound) Refusal
@@ -80,8 +82,7 @@ member_of_name_by_change read repositories no_scripts n name None before selecte
 member_of_name_by_change read repositories no_scripts n name (Some change) before selected =
     member_of_name_by_selected read repositories no_scripts n name change before selected
 
--- the result for a name after a change: a package that changes is as its file has it, another is as
--- before
+-- the member with this name after a change, or None: an added package is as its file has it, a kept one as before
 abbrev pub member_of_name_after :
     Replacement → Reads → List Repository → Bool → ℕ → List ℕ
     → Result (Option MemberFound) Refusal
@@ -111,6 +112,6 @@ members_after r read repositories no_scripts =
 abbrev pub found_members : List MemberFound → List Member
 found_members found = map (λ m. m.member) found
 
--- the contents of the package of the member at a place
+-- the contents of the files of the package at this place (index) among the found packages
 abbrev pub found_package_contents : List MemberFound → ℕ → List Contents
 found_package_contents found place = option_map_or (λ m. m.contents) (slice_get found place) []

@@ -1,6 +1,6 @@
 -- The files of the packages that a change adds, and why one of them is refused. The rules are in
--- `docs/commands.md`, "`add` and `del`", what is read and refused; of scripts in "`mkpkg`", TYPE of
--- `-s`, and their numbers in `docs/formats.md`, "Schemas", table 6.
+-- `docs/commands.md`, "`add` and `del`", parts "What is read" and "What is refused"; of scripts in "`mkpkg`", part
+-- "Scripts", and their numbers in `docs/formats.md`, "Schemas", table 6.
 use Rattle.std.specs.Prelude.{ℕ, ◌==◌, ◌-◌, Bool, true, false, not, if◌then◌else◌, List, [], ◌∷◌, length, Option, Some, None, Result, Ok, Err, bytes_eq, slice_get}
 use Rattle.db_write.specs.adb_schema.Soundness.{payload_in, root_value}
 use Rattle.adb_view.specs.FieldIndexes.{PACKAGE_SCRIPTS}
@@ -23,14 +23,15 @@ use Rattle.root_names.specs.PackagePath.{path_if_valid_name, package_path}
 
 -- ---- its path
 
--- the name of a package's file in the folder of the repository's index; None if there is no such
--- repository
+-- the path of the file of the package with this name and version, in the folder of the repository's index; None if
+-- there is no repository, or the path is no valid name
 abbrev pub path_of_name_version_beside_index : List ℕ → List ℕ → Option Repository → Option (List ℕ)
 path_of_name_version_beside_index name version None = None
 path_of_name_version_beside_index name version (Some repository) =
     path_if_valid_name (package_path repository.path name version)
 
--- The name of a candidate's file. Repositories count from 1. A candidate of no repository has no file.
+-- The path of the file of a candidate's package, or None. The candidate has the number of its repository, counted from
+-- 1; a candidate of no repository has no file.
 abbrev pub package_file_path_of_candidate : List Repository → Candidate → Option (List ℕ)
 package_file_path_of_candidate repositories c = by_number c.repository
   where
@@ -62,8 +63,8 @@ package_in_file file = record {
   contents = contents_in (files_read_from_package file);
 }
 
--- a package, unless it is not the candidate's: first its identity is compared, then its name, then
--- its version
+-- the package, if it is that of the candidate; otherwise the refusal. First the identities are compared, then the
+-- names, then the texts of the versions
 abbrev pub package_unless_other_than_candidate : Candidate → AddedPackage → Result AddedPackage Refusal
 package_unless_other_than_candidate c pkg =
     if not (is_same_id c.id pkg.id)
@@ -75,13 +76,13 @@ package_unless_other_than_candidate c pkg =
     (package_version_text pkg.value))
     else Ok pkg
 
--- the package, unless a test of its file fails
+-- the package, unless a test of its file failed (the cause), or it is not that of the candidate
 abbrev pub unless_package_bad :
     Candidate → Option Cause → AddedPackage → Result AddedPackage Refusal
 unless_package_bad c None pkg = package_unless_other_than_candidate c pkg
 unless_package_bad c (Some cause) pkg = Err (PackageBad c.name (candidate_version_text c) cause)
 
--- the package of a candidate, given what is found under the name of its file, or why it is refused
+-- the package of a candidate, given the file that is found under its path, or None; or the refusal
 abbrev pub added_package_or_refusal : Candidate → Option (List ℕ) → Result AddedPackage Refusal
 added_package_or_refusal c None = Err (PackageMissing c.name (candidate_version_text c))
 added_package_or_refusal c (Some file) = unless_package_bad c (package_fault file) (package_in_file file)
@@ -102,19 +103,19 @@ first_script_of pkg [] = None
 first_script_of pkg (number ∷ numbers) =
     if has_script_of pkg number then Some number else first_script_of pkg numbers
 
--- the numbers of pre-install and post-install
+-- the numbers, in the table of scripts, of the scripts pre-install and post-install
 abbrev pub install_scripts : List ℕ
 install_scripts = PRE_INSTALL_SCRIPT ∷ POST_INSTALL_SCRIPT ∷ []
 
--- the numbers of pre-deinstall and post-deinstall
+-- the numbers, in the table of scripts, of the scripts pre-deinstall and post-deinstall
 abbrev pub deinstall_scripts : List ℕ
 deinstall_scripts = PRE_DEINSTALL_SCRIPT ∷ POST_DEINSTALL_SCRIPT ∷ []
 
--- the numbers of pre-upgrade and post-upgrade
+-- the numbers, in the table of scripts, of the scripts pre-upgrade and post-upgrade
 abbrev pub upgrade_scripts : List ℕ
 upgrade_scripts = PRE_UPGRADE_SCRIPT ∷ POST_UPGRADE_SCRIPT ∷ []
 
--- the scripts that the change of a package would run
+-- the numbers of the scripts that the change of a package would run
 abbrev pub scripts_of_change : Change → List ℕ
 scripts_of_change (Install name version) = install_scripts
 scripts_of_change (Reinstall name version) = upgrade_scripts
@@ -123,12 +124,13 @@ scripts_of_change (Upgrade name old new) = upgrade_scripts
 scripts_of_change (Downgrade name old new) = upgrade_scripts
 scripts_of_change (Replace name old new) = upgrade_scripts
 
--- a value, unless a script would have to run, which refuses the change
+-- the value, unless there is the number of a script that would have to run: then the package with this name is refused
 abbrev pub unless_script_number : {A : Type 0} → List ℕ → Option ℕ → A → Result A Refusal
 unless_script_number name None a = Ok a
 unless_script_number name (Some number) a = Err (ScriptNeeded name number)
 
--- a value, unless one of these scripts of a package would have to run, and scripts may not be left out
+-- the value `a`, unless the package has one of the scripts with these numbers and scripts may not be left out (the
+-- first argument is false); then the first such script of the package, which has this name, is refused
 abbrev pub unless_script_needed :
     {A : Type 0} → Bool → List ℕ → Plain → List ℕ → A → Result A Refusal
 unless_script_needed true name pkg numbers a = Ok a

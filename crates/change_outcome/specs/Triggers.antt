@@ -1,5 +1,5 @@
--- The triggers that a change makes due. The rules are in `docs/commands.md`, "`add` and `del`",
--- which triggers are due; the line under what is reported.
+-- The triggers that a change makes due. The rules are in `docs/commands.md`, "`add` and `del`", part "Which triggers
+-- are due"; the line is defined in part "What is reported".
 use Rattle.std.specs.Prelude.{ℕ, ◌==◌, Bool, true, false, ◌&&◌, if◌then◌else◌, List, [], ◌∷◌, length, map, codes, Result, Ok, Err, bytes_eq}
 use Rattle.std.specs.List.{filter, flat_map, list_any}
 use Rattle.base_core.specs.Name.{path_parts_of}
@@ -20,7 +20,8 @@ use Rattle.report_core.specs.Numbers.{TRIGGER_SCRIPT}
 
 -- ---- patterns
 
--- whether the parts of a pattern match those of a folder, part by part, and there are equally many
+-- whether the parts of a pattern (`patterns`) match the parts of a folder's path, one by one, and there are equally
+-- many
 abbrev pub do_patterns_match_parts : List (List ℕ) → List (List ℕ) → Bool
 do_patterns_match_parts [] [] = true
 do_patterns_match_parts [] (part ∷ parts) = false
@@ -50,7 +51,7 @@ watches_folder pkg folder = list_any (is_folder_matched_by_pattern folder) (trig
 abbrev pub is_trigger_due : Plain → List ℕ → Bool
 is_trigger_due pkg folder = has_script_of pkg TRIGGER_SCRIPT && watches_folder pkg folder
 
--- the folders of files, in byte order, each once; folders further up do not count
+-- the folders of the files with these paths, in byte order, each once; folders above these do not count
 abbrev pub folders_of_paths : List (List ℕ) → List (List ℕ)
 folders_of_paths paths = sorted_distinct_names (map folder_of paths)
 
@@ -71,7 +72,8 @@ trigger_lines paths members = flat_map (λ m. due_trigger_lines (folders_of_path
 abbrev pub has_due_trigger : List (List ℕ) → Plain → Bool
 has_due_trigger folders pkg = list_any (is_trigger_due pkg) folders
 
--- true, unless a trigger is due and may not be left out, which refuses the change
+-- true, unless a trigger of a member is due for a folder of these paths, and scripts may not be left out (the first
+-- argument is false): the first such member is refused
 abbrev pub unless_trigger_due : Bool → List (List ℕ) → List Member → Result Bool Refusal
 unless_trigger_due true paths members = Ok true
 unless_trigger_due false paths [] = Ok true

@@ -1,5 +1,6 @@
-//! What follows from the definitions of a change. The rules are in `docs/commands.md`,
-//! "`add` and `del`", and in `docs/crash-safety.md`, "A change of several files".
+//! Laws on the definitions of a change, which `engine_core` and the crates of laws call. The rules
+//! are in `docs/commands.md`, "`add` and `del`", and in `docs/crash-safety.md`, "A change of
+//! several files".
 
 ghost use Rattle.std.specs.Prelude.{◌≡◌, ◌<◌, ◌++◌, ℕ, false, List, All, None, Ok, Option, length, map};
 ghost use Rattle.base_core.specs.Files.{Files, HasNamesAmong};
@@ -23,7 +24,8 @@ ghost use Rattle.change_outcome.specs.Premises.{HasNoReservedPath, AreDatabaseAn
 
 // ---- what is read
 
-/// The database's file and world's text, among the inputs of a change, are those of the root.
+/// If each read finds the file of these files, the database's file and world's text among the
+/// inputs of a change are those of these files.
 pub fn what_is_read_of_a_root_is_in_the_tree()
     ensures { (command : CommandLine) (read : Reads) (inputs : Inputs) (files : Files)
         → ((n : ℕ) (name : List ℕ) → read n name ≡ files name)
@@ -32,9 +34,9 @@ pub fn what_is_read_of_a_root_is_in_the_tree()
 
 // ---- what is done
 
-/// Removing the names of one list and writing those of another leads to given files. These must
-/// have a file under each written name, none under a removed name, and the files before elsewhere.
-/// For each write, exactly the bytes of the given file must be staged.
+/// Suppose that the names `removals` are removed, and that for each name of `writes` the bytes
+/// which `after` has under it are staged, numbered from 1. Then the actions lead from `files` to
+/// exactly the files `after`, under the premises of *ActionsLeadToFiles*.
 pub fn actions_lead_to_given_files()
     ensures { (removals writes : List (List ℕ)) (files after : Files)
         → ActionsLeadToFiles removals writes files after
@@ -42,8 +44,8 @@ pub fn actions_lead_to_given_files()
         (files_with_staged 1 (map (bytes_or_empty_under after) writes) files) ≡ after }
 {}
 
-/// So the actions of a change lead to the files of its definition. `bytes_of` gives the bytes of a
-/// package's file.
+/// The actions of a change lead to the files of its definition, if the bytes which these files have
+/// are staged, numbered from 1. `bytes_of` gives the bytes of a package's file.
 pub fn the_actions_of_a_change_lead_to_its_files()
     ensures { (inputs : Inputs) (change : FileChange) (bytes_of : Listing → List ℕ)
         (database : List ℕ) (files : Files)
@@ -57,7 +59,7 @@ pub fn the_actions_of_a_change_lead_to_its_files()
         (files_with_staged 1 (map (bytes_or_empty_under after) actions.writes) files) ≡ after }
 {}
 
-/// The names that a change removes and writes are names that a change may have, and none is
+/// Each name that a change removes or writes may be in an intent (journal entry), and none is
 /// repeated.
 pub fn the_names_of_a_change_may_be_changed()
     ensures { (inputs : Inputs) (change : FileChange) (files : Files)
@@ -70,14 +72,14 @@ pub fn the_names_of_a_change_may_be_changed()
 
 /// A change that removes and writes nothing leaves the files as they are.
 pub fn a_change_that_writes_nothing_leaves_the_files()
-    // Of the files of its definition.
+    // For the files that the definition gives after a change.
     ensures actions { (inputs : Inputs) (change : FileChange) (bytes_of : Listing → List ℕ)
         (database : List ℕ) (files : Files) → AreDatabaseAndWorldReadFromFiles files inputs.root
         → has_actions (intent_of_change inputs change files
         (database_and_world_after_change inputs database)) ≡ false
         → files_after_change change bytes_of
         (database_and_world_after_change inputs database) files ≡ files }
-    // Of the change's result.
+    // For the result of a change that is not refused.
     ensures done { (inputs : Inputs) (r : Replacement) (wishes : ChangeWishes) (read : Reads)
         (clash : Option NamePair) (files : Files) (done : ChangeDone)
         → change_or_refusal inputs r wishes read clash files ≡ Ok done
@@ -96,8 +98,8 @@ pub fn a_change_that_is_made_passes_each_test()
         → IsChangeMade inputs r wishes read clash files done }
 {}
 
-/// If the paths of the journal entry (intent) and of staged files are free before a change, they are
-/// free after it, for each later change. And a change leaves no new journal entry.
+/// If the paths of the journal entry (intent) and of staged files are free before a change, they
+/// are free after it, for each later change. And a change leaves no new journal entry.
 pub fn a_change_keeps_paths_free()
     // The paths of the next stage are free after the change, if they were before it.
     ensures room { (inputs : Inputs) (r : Replacement) (wishes : ChangeWishes) (read : Reads)
@@ -114,12 +116,12 @@ pub fn a_change_keeps_paths_free()
 
 /// A change has one first clash of names, or none, over files under finitely many names.
 pub fn a_change_has_a_first_clash_or_none()
-    // A change has at most one such result.
+    // Any two first clashes of a change over the same files are equal.
     ensures one { (inputs : Inputs) (r : Replacement) (wishes : ChangeWishes) (read : Reads)
         (files : Files) (a b : Option NamePair)
         → IsClashOfChange inputs r wishes read files a
         → IsClashOfChange inputs r wishes read files b → a ≡ b }
-    // It has one, if all names of the files are among the list `within`.
+    // There is a first clash, or it is None, if all names of the files are in the list `within`.
     ensures exists { (inputs : Inputs) (r : Replacement) (wishes : ChangeWishes) (read : Reads)
         (within : List (List ℕ)) (files : Files) → HasNamesAmong within files
         → (clash : Option NamePair) × IsClashOfChange inputs r wishes read files clash }

@@ -1,21 +1,24 @@
-//! The outcome of a command that changes the installed packages: what it returns, prints and
-//! leaves. The rules are in `docs/commands.md`, "`add` and `del`" and "What a change does with
-//! files".
+//! The result of a command that changes the installed packages: its refusal, or its report and the
+//! files that it leaves. The rules are in `docs/commands.md`, "`add` and `del`" and "What a change
+//! does with files".
 //!
 //! This crate consists of definitions, and of laws about them. `ChangeOutcome` of `specs/` defines
 //! the outcome of a selection that replaces the packages before: its refusals in their order, the
-//! files afterwards, and the report. `MembersAfter` defines the packages after the change,
-//! `PackageFiles` how the file of an added one is found and tested, `ConfigurationLines` what is
-//! reported of configuration that the user changed, and `Triggers` which triggers are due.
+//! files afterwards, and the report. `MembersAfter` defines the packages after the change, and
+//! `PackageFiles` how the file of an added package is found and tested. `ConfigurationLines`
+//! defines the report on modified configuration files, and `Triggers` which triggers are due.
 //!
-//! The laws hold for all changes and files: the actions of a change lead to the files of its
-//! definition, its names are those that a change may have, it keeps the paths of the next one free,
-//! and it has at most one first clash of names. They cite `Premises` (what they require of a
-//! change) and `Made` (what is known of one that is not refused).
+//! The laws hold for all changes and files. The actions of a change lead to the files of its
+//! definition. Each name that a change removes or writes may be in an intent (journal entry). A
+//! change keeps the paths that the next one stages free, and has at most one first clash of names.
+//! The laws cite `Premises` (what they require of a change) and `Made` (what is known of a change
+//! that is not refused).
 #![tactic(auto)]
 
 mod laws;
 
+// What crates that depend on this one may call: functions, types and laws of this crate, and of
+// crates on which it depends.
 pub use change_inputs::{
     Candidate, Loaded, Refused, Sealed, Upgrade, inputs_depend_on_their_own_reads, operand_texts,
     options_are_the_best_first,

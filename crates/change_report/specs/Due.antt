@@ -1,5 +1,5 @@
 -- Which triggers are due after a change, by the plan of its files. The rules are in
--- `docs/commands.md`, "`add` and `del`", which triggers are due and how they are refused.
+-- `docs/commands.md`, "`add` and `del`", parts "Which triggers are due" and "What is refused".
 use Rattle.std.specs.Prelude.{ℕ, Bool, true, List, ◌++◌, Option, Some, None, Result, Ok, Err}
 use Rattle.change_outcome.specs.ChangeOutcome.{member_name_at_place}
 use Rattle.change_outcome.specs.db_core.Members.{Member}
@@ -12,7 +12,7 @@ use Rattle.report_core.specs.declared.refusal.Refusal.TheVariants.{TriggerNeeded
 abbrev pub planned_paths : FilePlan → List (List ℕ)
 planned_paths plan = written_names plan ++ plan.removals
 
--- the result if the trigger of the package at a place is due, which refuses the change, or if none is
+-- the refusal of the change, if there is the place (index) of a member whose trigger is due; otherwise true
 abbrev pub refusal_if_trigger_due : List Member → Option ℕ → Result Bool Refusal
 refusal_if_trigger_due members None = Ok true
 refusal_if_trigger_due members (Some place) = Err (TriggerNeeded (member_name_at_place members place))

@@ -1,4 +1,4 @@
--- passed on: a crate above that names this one need not name these
+-- re-exported crates: a crate that depends on this one can use their definitions without depending on them too
 pub use Rattle.change_outcome.specs as change_outcome
 pub use Rattle.change_outcome.specs.adb_sound as adb_sound
 pub use Rattle.change_outcome.specs.candidate_core as candidate_core
@@ -18,8 +18,8 @@ pub use Rattle.own_core.specs.change_files as change_files
 pub use Rattle.own_core.specs.file_owners as file_owners
 pub use Rattle.own_core.specs.path_claims as path_claims
 pub use Rattle.own_core.specs.path_clashes as path_clashes
--- what the contracts of this crate's calls say
+-- modules that the contracts of this crate cite
 pub mod Reported
 pub mod Due
--- what only inner contracts and proofs use
+-- modules that only inner contracts and proofs use
 pub mod Notices

@@ -17,8 +17,8 @@ abbrev pub replacement_reported : ReportedChange → List (List ℕ) → Replace
 replacement_reported c again =
     replacement_of (placed_replacement_from_parts c.db.now c.pool.now c.trace.now again)
 
--- a report describes this change: its changes are those of the replacement, and its plan is that of the
--- change over these files
+-- the parts `c` are those of this change: its changes are those of the replacement, with these names to be installed
+-- again, and its plan is that of the change over these files
 pub record IsReportedOf (c : ReportedChange) (again : List (List ℕ)) (wishes : ChangeWishes)
     (change : FileChange) (files : Files) : Type 0 where
   -- the changes of packages are those of the replacement

@@ -1,6 +1,6 @@
-//! The lines on configuration that the user changed. The lines are defined in `docs/commands.md`,
-//! "`add` and `del`", what is reported; which files are kept or laid beside others in "What a
-//! change does with files".
+//! The lines on modified configuration files. The lines are defined in `docs/commands.md`, "`add`
+//! and `del`", part "What is reported"; which files are kept, or written beside others, in "What a
+//! change does with files", part "Configuration files".
 ghost use Rattle.change_outcome.specs.ConfigurationLines.{apk_new_line, configuration_lines, kept_config_line, path_line, path_line_cmp};
 ghost use Rattle.change_report.specs.Notices.{notice_seen};
 ghost use Rattle.base_core.specs.Sorted.{sorted_by};
@@ -12,18 +12,18 @@ use own_core::FilePlan;
 use report_core::Report;
 use std::alloc::{AllocError, Global};
 
-/// A notice about one configuration file that the user changed.
+/// A line to be reported on one modified configuration file, before it is sorted and printed.
 #[derive(Clone, Copy)]
 pub(crate) struct Notice<'p> {
-    /// The path of the user's file.
+    /// The path of the modified file.
     pub(crate) path: &'p [u8],
-    /// The user's file is kept although its package is removed; otherwise a new file is laid beside
-    /// it.
+    /// True if the modified file is kept although its package is removed; false if a new file is
+    /// written beside it, as `PATH.apk-new`.
     pub(crate) is_kept: bool,
 }
 
-/// Adds a line for each path beside which a file is laid, and for each at which the user's file is
-/// kept, in byte order of the paths.
+/// Adds two kinds of lines, in byte order of the paths: one for each path beside which a new file
+/// is written, and one for each path at which a modified file is kept.
 #[tactic(auto, unfolding(change_outcome::specs::ConfigurationLines::configuration_lines))]
 pub(crate) fn push_configuration_lines(
     alloc: Global,
@@ -41,14 +41,15 @@ pub(crate) fn push_configuration_lines(
     Ok(())
 }
 
-/// Adds a notice for each of these paths. `is_kept` says whether the user's file is kept there, or
-/// a new file is laid beside it.
+/// Appends a notice for each of these paths. `is_kept` says whether the modified file is kept there
+/// (true), or a new file is written beside it (false).
 fn push_notices<'p>(
     notices: &mut Vec<Notice<'p>>,
     paths: &'p Names,
     is_kept: bool,
 ) -> Result<(), AllocError>
-    // A line for each of these paths is appended: the file was kept, or a new one lies beside it.
+    // A line for each of these paths is appended: the file is kept, or a new one is written beside
+    // it.
     ensures { OnOk result (map notice_seen notices.new.items ≡ map notice_seen notices.old.items
         ++ map (path_line (if is_kept then kept_config_line else apk_new_line)) paths.entry.now) }
 {
@@ -89,7 +90,7 @@ fn push_line(report: &mut Report, notice: &Notice<'_>) -> Result<(), AllocError>
     push_aside_line(report, notice.path)
 }
 
-/// Adds the line that says that a new file is laid beside the user's.
+/// Adds the line that says that a new file is written beside the modified file at this path.
 fn push_aside_line(report: &mut Report, path: &[u8]) -> Result<(), AllocError>
     ensures { OnOk result (report.new ≡ report.old ++ apk_new_line path.now) }
 {
@@ -101,7 +102,7 @@ fn push_aside_line(report: &mut Report, path: &[u8]) -> Result<(), AllocError>
     Ok(())
 }
 
-/// Adds the line that says that the user's file is kept.
+/// Adds the line that says that the modified file at this path is kept.
 fn push_kept_line(report: &mut Report, path: &[u8]) -> Result<(), AllocError>
     ensures { OnOk result (report.new ≡ report.old ++ kept_config_line path.now) }
 {

@@ -1,5 +1,6 @@
 //! The packages whose triggers are due, by the folders of the files that a change writes and
-//! removes. The rules are in `docs/commands.md`, "`add` and `del`", which triggers are due.
+//! removes. Such a trigger refuses the change, or has a line in its report. The rules are in
+//! `docs/commands.md`, "`add` and `del`", part "Which triggers are due".
 
 ghost use Rattle.change_outcome.specs.adb_schema.Views.{package_value};
 ghost use Rattle.change_outcome.specs.Triggers.{due_trigger_line, due_trigger_lines, folders_of_paths, has_due_trigger, watches_folder, trigger_lines, unless_trigger_due};
@@ -23,10 +24,12 @@ use std::marker::PhantomData;
 /// are those of the files that the change writes and removes. Of a package without a trigger script
 /// only the scripts are read.
 pub fn first_due(members: &Members<'_>, folders: &[&[u8]]) -> Option<usize>
-    // The result is the first package whose trigger is due, by the folders of the touched paths.
+    // If these are the folders of some paths, the definition refuses the member at this place;
+    // without a place, it refuses nothing.
     ensures needed { (paths : List (List ℕ)) → map (λ f. f.now) folders.now ≡ folders_of_paths paths
         → unless_trigger_due false paths (members_of members.now)
         ≡ refusal_if_trigger_due (members_of members.now) result }
+    // The place is one of the members.
     ensures within { IfSome result (λ i. i < length (members_of members.now)) }
 {
     for i in 0..members.len() {
@@ -37,7 +40,8 @@ pub fn first_due(members: &Members<'_>, folders: &[&[u8]]) -> Option<usize>
     None
 }
 
-/// Adds a line for each due trigger, package by package, and folder by folder.
+/// Adds a line for each member and each of these folders for which the trigger of the member is
+/// due, member by member.
 ///
 /// # Errors
 ///
@@ -47,7 +51,7 @@ pub fn push_trigger_lines(
     members: &Members<'_>,
     folders: &[&[u8]],
 ) -> Result<(), AllocError>
-    // The lines about due triggers are appended, by the folders of the touched paths.
+    // If these are the folders of some paths, the lines of the definition are appended.
     ensures { OnOk result ((paths : List (List ℕ))
         → map (λ f. f.now) folders.now ≡ folders_of_paths paths
         → report.new ≡ report.old ++ trigger_lines paths (members_of members.now)) }
@@ -62,6 +66,7 @@ pub fn push_trigger_lines(
 fn has_due_trigger(pkg: &PackageView<'_>, folders: &[&[u8]]) -> bool
     ensures { result ≡ has_due_trigger (map (λ f. f.now) folders.now) (package_value pkg.now) }
 {
+    // Without a trigger script the package's patterns do not matter.
     if !has_trigger_script(pkg, PhantomData) {
         return false;
     }
@@ -108,7 +113,7 @@ fn push_line_if_watched(
     Ok(())
 }
 
-/// Adds that the trigger of a package is due for a folder.
+/// Adds the line `NAME: trigger due for FOLDER`.
 fn push_trigger_line(report: &mut Report, name: &[u8], folder: &[u8]) -> Result<(), AllocError>
     ensures { OnOk result (report.new
         ≡ report.old ++ report_line (trigger_due_text name.now folder.now)) }
@@ -120,15 +125,15 @@ fn push_trigger_line(report: &mut Report, name: &[u8], folder: &[u8]) -> Result<
     Ok(())
 }
 
-/// A folder as it is printed: the root is `/`.
+/// A folder as it is printed: its path, or `/` for the root, whose name is empty.
 fn trigger_folder_text(folder: &[u8]) -> &[u8]
     ensures { result.now ≡ trigger_folder_text folder.now }
 {
     if folder.is_empty() { b"/" } else { folder }
 }
 
-/// The folders of the files that a change writes and removes, in byte order, each once; the root's
-/// name is empty. A removed file also counts if it did not exist.
+/// The folders of the files that the plan writes and removes, in byte order, each once; the name of
+/// the root is empty. The folder of a removed file counts even if the file does not exist.
 ///
 /// # Errors
 ///
@@ -143,7 +148,7 @@ pub fn touched_folders<'p>(alloc: Global, plan: &'p FilePlan) -> Result<Vec<&'p 
     sorted_distinct_names(folders)
 }
 
-/// Adds the folder of each file that is written.
+/// Appends the folder of each file that is written.
 fn push_written_folders<'p>(
     folders: &mut Vec<&'p [u8]>,
     writes: &'p Writes,
@@ -158,7 +163,7 @@ fn push_written_folders<'p>(
     Ok(())
 }
 
-/// Adds the folder of each file that is removed.
+/// Appends the folder of each file that is removed.
 fn push_removed_folders<'p>(
     folders: &mut Vec<&'p [u8]>,
     removals: &'p Names,

@@ -1,13 +1,13 @@
-//! The report of a change of packages that is carried out (apk(8)): its changes, the kept packages
-//! that were to be removed, configuration that the user changed, due triggers, and the sum over the
-//! packages after it.
+//! The report of a change of packages that is made, not only simulated (apk(8)): lines on the
+//! changes, on kept packages that were to be removed, on modified configuration files and on due
+//! triggers, and the sum over the packages after the change.
 //!
-//! A package watches folders by patterns (apk-package(5)), and its trigger is due for each of them
-//! in which a file is written or removed.
+//! A package watches folders by patterns (apk-package(5)). Its trigger is due for each watched
+//! folder in which a file is written or removed, if the package has a trigger script.
 //!
 //! The contracts cite `ChangeOutcome` and `Triggers` of change_outcome, and `Reported` and `Due` of
-//! `specs/`. The rules are in `docs/commands.md`, "`add` and `del`", what is reported and which
-//! triggers are due.
+//! `specs/`. The rules are in `docs/commands.md`, "`add` and `del`", parts "What is reported" and
+//! "Which triggers are due".
 #![tactic(auto)]
 
 mod configuration;
@@ -16,6 +16,8 @@ mod pattern;
 mod reporting;
 mod watched;
 
+// What crates that depend on this one may call: functions, types and laws of this crate, and of
+// crates on which it depends.
 pub use change_outcome::{
     Changes, Db, Loaded, Members, Owned, PlacedNames, Refused, Sealed, Stage, Trace, Upgrade,
     a_change_has_a_first_clash_or_none, a_change_keeps_paths_free,

@@ -1,5 +1,5 @@
-//! Whether a pattern of a trigger matches a folder. The rule is in `docs/commands.md`,
-//! "`add` and `del`", which triggers are due: the sentences on patterns.
+//! Whether a pattern of a trigger matches a folder, used by `watched.rt`. The rule is in
+//! `docs/commands.md`, "`add` and `del`", part "Which triggers are due": the sentences on patterns.
 ghost use Rattle.base_core.specs.Name.{path_parts_of};
 ghost use Rattle.change_outcome.specs.Triggers.{do_patterns_match_parts, is_folder_matched_by_pattern};
 ghost use Rattle.make_package.specs.package_files.Folders.{is_slash};
@@ -8,8 +8,8 @@ ghost use Rattle.std.specs.Prelude.{◌≡◌, count_by};
 use change_outcome::matches;
 use dep_core::without_slash;
 
-/// Whether a pattern matches a folder, whose name is empty for the root. It takes time in
-/// proportion to the lengths of both.
+/// Whether a pattern matches a folder; the name of the root is empty. The time is in proportion to
+/// the lengths of both.
 #[tactic(auto, unfolding(change_outcome::specs::Triggers::is_folder_matched_by_pattern))]
 pub(crate) fn is_folder_matched_by_pattern(folder: &[u8], pattern: &[u8]) -> bool
     ensures { result ≡ is_folder_matched_by_pattern folder.now pattern.now }
@@ -20,7 +20,8 @@ pub(crate) fn is_folder_matched_by_pattern(folder: &[u8], pattern: &[u8]) -> boo
     do_patterns_match_parts(without_slash(pattern), folder)
 }
 
-/// Whether a pattern and a folder have as many parts, and each part of the folder is matched.
+/// Whether a pattern and a folder have equally many parts between slashes, and each part of the
+/// pattern matches the part of the folder at the same position.
 fn do_patterns_match_parts(pattern: &[u8], folder: &[u8]) -> bool
     ensures { result ≡ do_patterns_match_parts (path_parts_of pattern.now)
         (path_parts_of folder.now) }

@@ -1,5 +1,6 @@
-//! The whole report, and the sum over the packages after a change. The lines and their order are
-//! defined in `docs/commands.md`, "`add` and `del`", what is reported.
+//! The whole report of a change that is made, and its last line, the sum over the packages after
+//! the change. The lines and their order are defined in `docs/commands.md`, "`add` and `del`", part
+//! "What is reported".
 
 ghost use Rattle.base_core.specs.Files.{Files};
 ghost use Rattle.own_core.specs.change_files.FileChange.{FileChange};
@@ -23,24 +24,24 @@ use std::alloc::{AllocError, Global};
 /// The parts of a change that its report describes.
 #[derive(Clone, Copy)]
 pub struct ReportedChange<'c, 'd, 'm> {
-    /// The packages before the change.
+    /// The database: the packages before the change.
     pub db: &'c Db<'d>,
-    /// The candidates.
+    /// All candidates of the command.
     pub pool: &'c Sealed<'d>,
-    /// The places of the candidates that are selected.
+    /// The places in `pool` of the candidates that are selected.
     pub trace: &'c Trace,
-    /// The change of each package.
+    /// The change of each package that changes.
     pub changes: &'c Changes<'d>,
     /// The names that were to be removed: the operands of `del`.
     pub to_remove: &'c Words,
     /// The packages after the change.
     pub members: &'c Members<'m>,
-    /// The plan of its files, for the lines on configuration and triggers.
+    /// The plan of the files of the change, for the lines on configuration and triggers.
     pub plan: &'c FilePlan,
 }
 
-/// The report of a change that is carried out. All its memory is allocated before anything is
-/// written.
+/// The report of a change that is made, not only simulated. All its memory is allocated before
+/// anything is written.
 ///
 /// # Errors
 ///
@@ -49,6 +50,7 @@ pub fn change_report(
     alloc: Global,
     reported: &ReportedChange<'_, '_, '_>,
 ) -> Result<Report, AllocError>
+    // If the parts are those of this change, the report is that of the definition.
     ensures { IfOk result (λ report. (again : List (List ℕ)) (wishes : ChangeWishes)
         (change : FileChange) (files : Files)
         → IsReportedOf reported.now again wishes change files
@@ -85,8 +87,8 @@ fn push_planned_triggers(
     Ok(())
 }
 
-/// Adds the last line: how many bytes and packages there are after a change, by the packages' own
-/// information.
+/// Adds the last line: how many bytes and packages there are after a change, by the installed sizes
+/// in the information of the packages.
 pub(crate) fn push_member_sum(report: &mut Report, members: &Members<'_>) -> Result<(), AllocError>
     ensures { OnOk result (report.new ≡ report.old ++ member_sum_line (members_of members.now)) }
 {
@@ -109,6 +111,7 @@ fn installed_bytes(members: &Members<'_>) -> u128
 
 /// The installed size of the package at a place, counted from 0.
 fn size_at(members: &Members<'_>, i: usize) -> u64
+    // The place is one of the members.
     requires { i < length (members_of members.now) }
     ensures { option_map member_installed_size (slice_get (members_of members.now) i)
         ≡ Some result }

@@ -1,8 +1,9 @@
-//! The trigger of a package. The rule is in `docs/commands.md`, "`add` and `del`", which triggers
-//! are due; the fields in `docs/formats.md`, "Schemas", tables 6 and 7.
+//! The trigger of a package: whether it has a script, and which folders its patterns match. The
+//! rule is in `docs/commands.md`, "`add` and `del`", part "Which triggers are due"; the fields in
+//! `docs/formats.md`, "Schemas", tables 6 and 7.
 //!
-//! The marks serve only the borrow checker: it does not know the parts of a view that is made and
-//! lent in a function unless the signature names the view.
+//! The parameters `_mark` serve only the borrow checker: it does not know the parts of a view that
+//! is made and lent in a function unless the signature names the view.
 ghost use Rattle.change_outcome.specs.adb_fields.ListValue.{list_value};
 ghost use Rattle.change_outcome.specs.adb_fields.Repeated.{package_name};
 ghost use Rattle.change_outcome.specs.adb_schema.Views.{package_value};
@@ -24,7 +25,7 @@ pub(crate) fn name_of<'a>(pkg: &PackageView<'a>, _mark: PhantomData<PackageView<
     info.name()
 }
 
-/// Whether a package has a trigger script: one without bytes is none.
+/// Whether a package has a trigger script; a script without bytes counts as none.
 pub(crate) fn has_trigger_script<'a>(
     pkg: &PackageView<'a>,
     _mark: PhantomData<PackageView<'a>>,
@@ -48,8 +49,9 @@ pub(crate) fn watches_folder(pkg: &PackageView<'_>, folder: &[u8]) -> bool
     false
 }
 
-/// Whether the pattern at a place, counted from 0, matches a folder.
+/// Whether the pattern with index i, counted from 0, matches a folder.
 fn is_matched_at<'a>(patterns: &List<'a, &'a [u8]>, i: usize, folder: &[u8]) -> bool
+    // `i` is below the number of patterns.
     requires { i < count_of (entries_in (list_value patterns.now)) }
     ensures { result
         ≡ is_folder_matched_by_pattern folder.now (text_in (entry_in (list_value patterns.now) i)) }

@@ -31,43 +31,47 @@ use Rattle.engine_core.specs.Selecting.{pool_of_command}
 
 -- ---- the answer
 
--- the report as it is answered: nothing follows it
+-- the report itself: the report that `change` returns is compared with the wanted one as it is
 abbrev pub report_as_is : List ℕ → List ℕ
 report_as_is report = report
 
--- the report of a change, or its refusal
+-- the report of a change whose result is `wanted`, or its refusal
 abbrev pub report_of_result : Result ChangeDone Refusal → Result (List ℕ) Refusal
 report_of_result wanted = and_then wanted (λ done. Ok done.report)
 
--- a change is not refused, and writes or removes something
+-- a change with this result is not refused, and writes or removes something
 abbrev pub DoesCommit : Result ChangeDone Refusal → Type 0
 DoesCommit (Ok done) = done.commits ≡ true
 DoesCommit (Err refusal) = ⊥
 
--- One of the packages that were read for a change is spoiled. `tested` is its file when it was tested,
--- and `file` is a file with other contents, which fails a test with `cause`. The refusal reports this
--- package as bad, with this cause.
+-- One of the packages that were read for a change is spoiled: its file has other contents now. `tested` are the bytes
+-- of its file when it was tested, and `file` is a file with other contents, which fails a test with `cause`. The
+-- refusal reports this package as bad, with this cause.
 pub record IsRefusalOfSpoiledPackage (packages : Result (List MemberFound) Refusal) (refusal : Refusal) :
     Type 0 where
   -- the packages after the change, as the reads found them
   pub found : List MemberFound
+  -- `found` are these packages
   pub are : packages ≡ Ok found
   -- one of these packages, which is spoiled
   pub one : MemberFound
+  -- `one` is one of the packages found
   pub among : Contains found one
   -- the bytes of its file when it was tested
   pub tested : List ℕ
+  -- these bytes were read as the file of `one`
   pub read : one.file ≡ Some tested
-  -- a file with the same values and other contents, and the test that it fails
+  -- the bytes of a file with the length and the values of `tested`, and with other contents
   pub file : List ℕ
+  -- the test that this file fails
   pub cause : Cause
+  -- the file differs from `tested` only in contents of files, and fails this test
   pub spoiled : IsFileWithOnlyContentsSpoiled tested file cause
   -- the refusal reports this package as bad, with this cause
   pub is : refusal ≡ PackageBad (member_name one.member) (package_version_text one.member.pkg) cause
 
--- The file of an added package is not what was tested, when its contents are read once more. The report
--- on it is that on some file with other contents. This does not happen on an observable tree without an
--- intent and staged files.
+-- The file of an added package is not what was tested, when its contents are read once more. The refusal is that of
+-- some file with other contents. This does not happen on an observable tree without an intent and staged files.
 pub record IsPackageFileChangedSinceTested (packages : Result (List MemberFound) Refusal)
     (wanted : Result ChangeDone Refusal) (history : List TreeState)
     (result : Result (List ℕ) Refused) : Type 0 where
@@ -76,32 +80,33 @@ pub record IsPackageFileChangedSinceTested (packages : Result (List MemberFound)
       → ⊥)
   -- the change is not refused, and would write or remove something
   pub commits : DoesCommit wanted
-  -- the refusal reports the package that is spoiled
+  -- the refusal
   pub refusal : Refusal
-  -- the refusal is that of a spoiled package
+  -- the refusal reports one of these packages as spoiled
   pub spoiled : IsRefusalOfSpoiledPackage packages refusal
   -- the run ends with this refusal
   pub is : result ≡ Err (IsRefused refusal)
 
 -- ---- the effect on the tree
 
--- a change is staged and carried through, or the tree failed on the way
+-- A change with the result `wanted` is staged and committed, or the tree failed on the way. The run begins in the state
+-- `v`; `old` and `now` are the histories of the tree before and after it.
 pub record IsRunThatCommitsChange (wanted : Result ChangeDone Refusal) (v : TreeState)
     (old now : List TreeState) (result : Result (List ℕ) Refused) : Type 0 where
   -- the result of the change
   pub done : ChangeDone
+  -- the change is not refused, and has this result
   pub is : wanted ≡ Ok done
   -- the change writes or removes a file
   pub commits : done.commits ≡ true
-  -- what holds in each state of a run that leads to the files of the change
+  -- the states of the run are those of a staged change that leads to the files of `done`
   pub run : IsRunOfStagedChange done.files v old now
-  -- if the run succeeds, the change is complete
+  -- if the run answers Ok, the change is complete (*IsStagedChangeComplete*): the files as read are those of `done`
   pub ok : OnOk result (IsStagedChangeComplete done.files v now)
-  -- it fails only with an I/O error of the tree
+  -- the run fails only with an I/O error of the tree
   pub err : IfErr result (λ refused. refused ≡ Disk)
 
--- the tree is unchanged, which ends a change only if it commits nothing; or the change is carried
--- through
+-- the tree is unchanged, and the run answers Ok only if the change commits nothing; or the change is committed
 abbrev pub IsUnchangedOrCommit :
     Result ChangeDone Refusal → TreeState → List TreeState → List TreeState
     → Result (List ℕ) Refused → Type 0
@@ -110,18 +115,18 @@ IsUnchangedOrCommit wanted v old now result =
 
 -- ---- the answer and the effect together
 
--- How a run ends whose change has the result `wanted`, and for which the reads find these packages. It
--- answers that report or refusal, or that one of these packages has changed, or that the tree failed or
--- memory ran out. If there is neither an intent nor a staged file at its start, the tree is unchanged,
--- or the change is carried through, or the tree fails on the way. No call is a misuse if the paths are
--- free for the stage of a change that commits.
+-- How a run ends whose change has the result `wanted`, and for which the reads find these packages. The run answers the
+-- report or the refusal of `wanted`, or that one of these packages has changed, or that the tree failed or memory ran
+-- out. Suppose that there is neither an intent nor a staged file at the start. Then the tree is unchanged, or the
+-- change is committed, or the tree fails on the way. No call is a misuse if the paths are free for the stage of a
+-- change that commits.
 pub record IsEndOfRunOfWantedChange (packages : Result (List MemberFound) Refusal)
     (wanted : Result ChangeDone Refusal) (old now : List TreeState) (before after : Counts)
     (result : Result (List ℕ) Refused) : Type 0 where
   -- the run reports what was wanted, or that a package is no longer what was tested
   pub told : AgreesUnlessDiskOrMemory report_as_is result (report_of_result wanted)
       ⊎ IsPackageFileChangedSinceTested packages wanted old result
-  -- without an intent and staged files, the change is carried through, or the tree is unchanged or failed
+  -- without an intent and staged files at the start, the change is committed, or the tree is unchanged or failed
   pub run : IfObservable old (λ v. v.names intent_name ≡ None → HasNoStagedNames (files_of v)
       → IsUnchangedOrCommit wanted v old now result)
   -- without an intent and staged files, no call is a misuse if the paths of the stage are free
@@ -149,11 +154,11 @@ pub record IsChangeRun (command : CommandLine) (old now : List TreeState) (befor
   pub present_files : Files
   -- on an observable tree the present files are its files at the start
   pub stand : IfObservable old (λ v. present_files ≡ files_of v)
-  -- the first clash of names, if there is one
+  -- two names of which one would be a folder of the other after the change; None if there are none
   pub clash : Option NamePair
-  -- the first clash of names of the change, if there is one
+  -- `clash` is the first such clash of the change among `present_files`
   pub is_clash : IsClashOfCommandAmong command read files present_files chosen clash
-  -- how the run ends
+  -- the run ends as the packages found and the result of the change say
   pub comes : IsEndOfRunOfWantedChange
       (packages_found_after_change command read (selected_from_reads_by_choice command read chosen))
       (change_of_command command read files chosen clash) old now before after result

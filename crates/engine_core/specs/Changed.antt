@@ -1,6 +1,6 @@
 -- The result of a command that changes the installed packages: it is refused, or it reports, and leaves
--- files. The rules are in `docs/commands.md`, "`add` and `del`", what is refused and reported, and
--- "`upgrade` and `fix`"; which candidates are chosen is in `docs/selection.md`.
+-- files. The rules are in `docs/commands.md`, "`add` and `del`", parts "What is reported" and "What is refused", and
+-- in "`upgrade` and `fix`"; which candidates are chosen is in `docs/selection.md`.
 use Rattle.std.specs.Prelude.{◌≡◌, ℕ, Bool, true, false, if◌then◌else◌, List, Option, Some, None, Result, Ok, Err}
 use Rattle.base_core.specs.Files.{Files}
 use Rattle.change_report.specs.change_inputs.Chains.{and_then}
@@ -20,15 +20,15 @@ use Rattle.engine_core.specs.Wishes.{names_to_reinstall, unknown_operand_place, 
 
 -- ---- the selection
 
--- what is read, and the packages before with the candidates that are to replace them
+-- what a command has read of the root, and the packages before with the candidates that are to replace them
 pub record InputsAndReplacement : Type 0 where
   -- what was read of the root
   pub inputs : Inputs
-  -- the packages before, and the selected candidates
+  -- the packages before, the selected candidates, and the names to be reinstalled
   pub replacement : Replacement
 
--- what is selected by a choice of candidates; without a choice no selection satisfies the new world,
--- and that is refused
+-- what is selected, if the candidates at the places `trace` are chosen; None means that no selection satisfies the new
+-- world, which is refused
 abbrev pub selected_from_pool_by_choice :
     CommandLine → Inputs → SealedPool → Option (List ℕ) → Result InputsAndReplacement Refusal
 selected_from_pool_by_choice command inputs pool None = Err Unsatisfied
@@ -39,8 +39,8 @@ selected_from_pool_by_choice command inputs pool (Some trace) =
           inputs pool trace;
     })
 
--- What is selected by the inputs and a choice. Too many candidates are refused first, then an operand
--- that names no package, and then a world that no selection satisfies.
+-- What is selected by the inputs and the places `chosen` of the chosen candidates. Too many candidates are refused
+-- first, then an operand that names no package, and then a new world that no selection satisfies.
 abbrev pub selected_from_inputs_by_choice :
     CommandLine → Option (List ℕ) → Inputs → Result InputsAndReplacement Refusal
 selected_from_inputs_by_choice command chosen inputs =
@@ -48,13 +48,13 @@ selected_from_inputs_by_choice command chosen inputs =
     unless_unknown_operand (unknown_operand_place command.applet inputs command.operands)
     (selected_from_pool_by_choice command inputs pool chosen))
 
--- what a command selects by what reads find and by the chosen candidates, or its first refusal
+-- what a command selects, by what reads find and by the places `chosen` of the chosen candidates, or its first refusal
 abbrev pub selected_from_reads_by_choice : CommandLine → Reads → Option (List ℕ)
     → Result InputsAndReplacement Refusal
 selected_from_reads_by_choice command read chosen =
     and_then (inputs_of command read) (selected_from_inputs_by_choice command chosen)
 
--- the packages after what is selected, as reads find them, or the first refusal
+-- the packages that are installed after the selected change, as reads find them, or the first refusal
 abbrev pub packages_found_after_change :
     CommandLine → Reads → Result InputsAndReplacement Refusal → Result (List MemberFound) Refusal
 packages_found_after_change command read selected =
@@ -67,14 +67,15 @@ abbrev pub simulated_change : Replacement → ChangeWishes → Files → ChangeD
 simulated_change r wishes files =
     record { report = simulated_report r wishes.to_remove; files = files; commits = false }
 
--- the result of a change whose candidates are selected, by the first clash of names, if there is one
+-- the result of a change whose candidates are selected. `clash` is the first clash of names, if there is one
 abbrev pub change_of_selected :
     CommandLine → Reads → Files → Option NamePair → InputsAndReplacement → Result ChangeDone Refusal
 change_of_selected command read files clash s =
     if command.flags.simulate then Ok (simulated_change s.replacement (wishes_of command) files) else
     change_or_refusal s.inputs s.replacement (wishes_of command) read clash files
 
--- the result of a command that changes what is installed, or its first refusal
+-- the result of a command that changes what is installed, or its first refusal. `chosen` are the places of the chosen
+-- candidates, and `clash` is the first clash of names
 unfoldable pub change_of_command :
     CommandLine → Reads → Files → Option (List ℕ) → Option NamePair → Result ChangeDone Refusal
 change_of_command command read files chosen clash =

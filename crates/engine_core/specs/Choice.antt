@@ -5,13 +5,13 @@ use Rattle.change_report.specs.candidate_core.Rank.{SealedPool}
 use Rattle.report_core.specs.declared.refusal.Refusal.{Refusal}
 use Rattle.change_report.specs.search_tables.Selection.{IsFirstPreferredSelection, IsSatisfying}
 
--- the choice among candidates: the places of the first preferred selection; or none, if no selection
--- satisfies the world
+-- the choice among candidates: the places of the first preferred selection, in the order of the choice; None if no
+-- selection satisfies the new world
 abbrev pub IsPreferredChoice : SealedPool → Option (List ℕ) → Type 0
 IsPreferredChoice pool None = (selection : List ℕ) → IsSatisfying pool selection → ⊥
 IsPreferredChoice pool (Some trace) = IsFirstPreferredSelection pool trace
 
--- the choice if candidates are made, or refused: none if there is a refusal
+-- `chosen` is the choice among these candidates (*IsPreferredChoice*); None if there is a refusal instead of candidates
 abbrev pub IsChoiceFrom : Result SealedPool Refusal → Option (List ℕ) → Type 0
 IsChoiceFrom (Ok pool) chosen = IsPreferredChoice pool chosen
 IsChoiceFrom (Err refusal) chosen = chosen ≡ None

@@ -5,8 +5,8 @@ use Rattle.change_report.specs.change_inputs.declared.root.Refused.{Refused}
 use Rattle.change_report.specs.change_inputs.declared.root.Refused.TheVariants.{Disk, Memory, Refusal as IsRefused}
 use Rattle.report_core.specs.declared.refusal.Refusal.TheVariants.{Unsatisfied}
 
--- how a choice is answered: these are chosen; or none, and that is refused; running out of memory says
--- nothing of the choice
+-- the result of `choose` for a choice: Ok with the chosen places; or a refusal, if no selection satisfies the new
+-- world; out of memory says nothing of the choice
 abbrev pub IsResultOfChoice : Option (List ℕ) → Result (List ℕ) Refused → Type 0
 IsResultOfChoice chosen (Ok trace) = chosen ≡ Some trace
 IsResultOfChoice chosen (Err (IsRefused refusal)) = (chosen ≡ None) × (refusal ≡ Unsatisfied)

@@ -20,15 +20,18 @@ use Rattle.engine_core.specs.declared.rendering.Rendered.{Rendered}
 
 -- ---- the result
 
--- a change is ready to be committed: its files are planned over the tree as it is, and it is rendered
+-- A change is ready to be committed. Its files are planned over the tree as it is now, and it is rendered: all that it
+-- writes is in memory.
 pub record IsReadyToCommit (history : List TreeState) (p : Plan) (r : Rendered) : Type 0 where
   -- the packages after the change
   pub found : List MemberFound
   -- the files over which the change is planned
   pub files : Files
+  -- the plan is that of the change to these packages, over these files
   pub planned : IsPlanned history p found files
   -- the new database and world
   pub records : NewRecords
+  -- they are those of the change
   pub own : AreNewRecordsOf (inputs_of_plan p) records
   -- the staged files and the report are made of the plan and of the new database and world
   pub rendered : IsRendered p records r
@@ -42,14 +45,15 @@ result_of_ready {history} {p} {r} ready =
 
 -- ---- a package that was changed
 
--- the refusal names the member at a place, whose file is bad, and reports the test that failed
+-- the refusal names the member at this place (index), whose file is bad, and reports the test that failed (`cause`)
 abbrev pub IsPackageBad : List Member → ℕ → Cause → Refusal → Type 0
 IsPackageBad members place cause refusal =
     (m : Member)
     × (slice_get members place ≡ Some m)
     × (refusal ≡ PackageBad (member_name m) (package_version_text m.pkg) cause)
 
--- how carrying out fails if the package of the member at a place was changed since it was tested
+-- how a commit fails if the package of the member at this place (index) was changed since it was tested: with the
+-- refusal that the package is bad, or out of memory
 abbrev pub IsRefusedPackage : List Member → ℕ → Cause → Refused → Type 0
 IsRefusedPackage members place cause (IsRefused refusal) = IsPackageBad members place cause refusal
 IsRefusedPackage members place cause Disk = ⊥

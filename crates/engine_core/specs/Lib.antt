@@ -1,4 +1,4 @@
--- passed on: a crate above that names this one need not name these
+-- re-exported crates: a crate that depends on this one can use their definitions without depending on them too
 pub use Rattle.change_report.specs.adb_sound as adb_sound
 pub use Rattle.change_report.specs.candidate_core as candidate_core
 pub use Rattle.change_report.specs.change_files as change_files
@@ -19,13 +19,13 @@ pub use Rattle.change_report.specs.v2_lines as v2_lines
 pub use Rattle.journal_staging.specs.adb_fields as adb_fields
 pub use Rattle.journal_staging.specs.adb_schema as adb_schema
 pub use Rattle.journal_staging.specs.journal_commit as journal_commit
--- cited by the contract of `apk`
+-- modules that the contract of `apk` cites
 pub mod Choice
 pub mod Selecting
 pub mod Wishes
 pub mod Changed
 pub mod ChangeRun
--- used by inner contracts and proofs only
+-- modules that only inner contracts and proofs use
 pub mod Chosen
 pub mod Runs
 pub mod SelectionSeen

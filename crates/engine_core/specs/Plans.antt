@@ -1,6 +1,5 @@
--- The plan of the files of a change, and how a missing one is reported. Serves the contracts of
--- `src/planning.rt`; the rules are in `docs/commands.md`, "What a change does with files", the three
--- tests.
+-- The plan of the files of a change, and the refusal if there is none. Serves the contracts of `src/planning.rt`; the
+-- rules are in `docs/commands.md`, "What a change does with files", part "Tests".
 use Rattle.std.specs.Prelude.{◌≡◌, Bool, false, map, All, List}
 use Rattle.journal_staging.specs.adb_schema.Reserved.{is_reserved}
 use Rattle.base_core.specs.Calls.{IfObservable}
@@ -17,7 +16,7 @@ use Rattle.change_report.specs.own_core.declared.fault.PlanFault.TheVariants as 
 use Rattle.change_report.specs.own_core.declared.planning.FilePlan.{FilePlan}
 use Rattle.report_core.specs.declared.refusal.Refusal.TheVariants.{Owned, PathClash, Reserved}
 
--- the refusal that reports why there is no plan
+-- the refusal, I/O error or out of memory that is returned if planning failed with this fault
 abbrev pub IsRefusalOfPlanFault : PlanFault → Refused → Type 0
 IsRefusalOfPlanFault (Plans.Reserved path) refused = refused ≡ Commands.Refusal (Reserved path)
 IsRefusalOfPlanFault (Plans.PathClash path other) refused =
@@ -31,7 +30,7 @@ IsRefusalOfPlanFault Plans.Memory refused = refused ≡ Commands.Memory
 -- removed
 pub record IsPlanFrom (history : List TreeState) (purge : Bool) (db : Db) (members : Members)
     (plan : FilePlan) : Type 0 where
-  -- the plan has the files that the change writes, removes, keeps and lays aside, over some files
+  -- the plan has the files that the change writes, removes, keeps or writes as `PATH.apk-new`, over some files
   pub lists : IsPlanOverSomeFiles (file_change_between db members purge) history plan
   -- no name is both written and removed, and none is reserved
   pub names : HasDisjointUnreservedNames plan

@@ -53,10 +53,10 @@ replacement_of_packages a = replacement_seen a.selection.now
 abbrev pub wishes_of_packages : ReadPackages → ChangeWishes
 wishes_of_packages a = wishes_of_selection a.selection.now
 
--- packages were read for a selection, and are those that are found
+-- the packages after the change of a selection were read, and are those that the definition finds (`found`)
 pub record ArePackagesReadForSelection (history : List TreeState) (s : Selection) (a : ReadPackages)
     (found : List MemberFound) : Type 0 where
-  -- they were read for this selection
+  -- the packages were read for this selection
   pub selection : a.selection.now ≡ s
   -- the names are those of the packages before and of the selected candidates, with their places
   pub placed : placed_names_seen a.names ≡ placed_names_of (placed_replacement_from_parts
@@ -64,8 +64,8 @@ pub record ArePackagesReadForSelection (history : List TreeState) (s : Selection
   -- each package was read as the definition finds it
   pub read : AreMembersRead history (packages_of a.selection.now.db) (arrivals_seen a.arrivals) found
 
--- the added packages were read, and with the kept ones they are those that are found
--- found: the packages after the change, with the file of each added one
+-- The added packages were read. With the kept ones they are the packages `found`: those after the change, each added
+-- one with its file.
 pub record HasReadAddedPackages (history : List TreeState) (a : ReadPackages) (found : List MemberFound)
     : Type 0 where
   -- the packages before are those of the inputs
@@ -117,7 +117,7 @@ pub record IsPlanOfPackages (history : List TreeState) (a : ReadPackages) (p : P
   pub members : members_of p.members
       ≡ members_of_read_packages (packages_of p.packages.now.selection.now.db)
       (arrivals_seen p.packages.now.arrivals)
-  -- it has the files that the change writes, removes, keeps and lays aside
+  -- the plan has the files that the change writes, removes, keeps or writes as `PATH.apk-new`
   pub files : IsPlanFrom history (wishes_of_plan p).purge p.packages.now.selection.now.db p.members
       p.files
   -- no trigger is due, or scripts are skipped
@@ -160,14 +160,15 @@ pub record AreNewRecordsOf (inputs : Inputs) (records : NewRecords) : Type 0 whe
   pub world : records.world ≡ world_text inputs.root.new_world
   -- both have the names of their files
   pub database_name : records.database_name ≡ Names.database_name
+  -- the name for world is that of its file
   pub world_name : records.world_name ≡ Names.world_name
 
--- the bytes that are to be written of a file: only one that differs is written
+-- the bytes that are to be written of a file: these bytes if the test is true, and otherwise None
 abbrev pub bytes_if : Bool → List ℕ → Option (List ℕ)
 bytes_if true bytes = Some bytes
 bytes_if false bytes = None
 
--- what of the database and world is written
+-- which of the database and world are written, and with which bytes
 pub record AreRecordWrites (inputs : Inputs) (records : NewRecords) (writes : RecordWrites)
     : Type 0 where
   -- the name of the database's file

@@ -47,7 +47,7 @@ removals_of_plan p = sorted_distinct_names (p.files.removals
 
 -- ---- the journal entry
 
--- the stage of a change that removes and writes these names; there is none if it does nothing
+-- the stage of a change that removes and writes these names; None if there are no names
 abbrev pub IsStageOf : List (List ℕ) → List (List ℕ) → Option Staging → Type 0
 IsStageOf removals writes None =
     has_actions (record { removals = removals; writes = writes }) ≡ false
@@ -55,7 +55,8 @@ IsStageOf removals writes (Some stage) =
     (has_actions (record { removals = removals; writes = writes }) ≡ true)
     × (stage ≡ new_stage_of_removals_and_writes removals writes)
 
--- a change is refused since its journal entry exceeds a limit of the writer; or memory has run out
+-- A change is refused since its journal entry exceeds a limit of the writer; or memory has run out. This holds for all
+-- packages and files by which the plan is made.
 abbrev pub IsRefusedForOverflow : Plan → NewRecords → Refused → Type 0
 IsRefusedForOverflow p records refused =
     (history : List TreeState) (found : List MemberFound) (files : Files)

@@ -37,11 +37,11 @@ pub record IsRunOnSelection (command : CommandLine) (selected : Result InputsAnd
   pub present_files : Files
   -- on an observable tree the present files are its files at the start
   pub stand : IfObservable old (λ v. present_files ≡ files_of v)
-  -- the first clash of names, if there is one
+  -- two names of which one would be a folder of the other after the change; None if there are none
   pub clash : Option NamePair
-  -- the first clash of names of the change, if there is one
+  -- `clash` is the first such clash of the change among `present_files`
   pub is_clash : IsClashOfSelectedAmong command read files present_files selected clash
-  -- how the run ends
+  -- the run ends as the packages found and the result of the change say
   pub comes : IsEndOfRunOfWantedChange (packages_found_after_change command read selected)
       (and_then selected (change_of_selected command read files clash))
       old now before after result
@@ -58,11 +58,11 @@ pub record IsRunOnFoundPackages (inputs : Inputs) (r : Replacement) (wishes : Ch
   pub present_files : Files
   -- on an observable tree the present files are its files at the start
   pub stand : IfObservable old (λ v. present_files ≡ files_of v)
-  -- the first clash of names, if there is one
+  -- two names of which one would be a folder of the other after the change; None if there are none
   pub clash : Option NamePair
-  -- the first clash of names of the change, if there is one
+  -- `clash` is the first such clash of the change among `present_files`
   pub is_clash : IsClashFoundAmong inputs wishes files present_files (Ok found) clash
-  -- how the run ends
+  -- the run ends as the packages found and the result of the change say
   pub comes : IsEndOfRunOfWantedChange (Ok found) (change_with_members inputs r wishes clash files found)
       old now before after result
 
@@ -70,9 +70,9 @@ pub record IsRunOnFoundPackages (inputs : Inputs) (r : Replacement) (wishes : Ch
 pub record IsRunCounted {A : Type 0} (before after : Counts) (result : Result A Refused) : Type 0 where
   -- no count falls
   pub goes_on : CountsOnlyRise before after
-  -- the tree is reported as failed only if that has its cause
+  -- an I/O error is answered only if a failed call was counted, with its cause
   pub disk : IsErrOf result Disk → IsFaultCountedWithCause before after
-  -- an answer that is no I/O error of the tree raised neither the count of faults nor that of calls
-  -- without memory
+  -- after Ok, neither the count of faults nor that of calls without memory rose
   pub kept : OnOk result (CountsNoNewFault before after)
+  -- after a refusal or out of memory, neither of these two counts rose
   pub others : IfErr result (λ refused. (refused ≡ Disk → ⊥) → CountsNoNewFault before after)

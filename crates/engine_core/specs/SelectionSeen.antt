@@ -1,6 +1,6 @@
--- What a selection of the program means. Serves the contracts of `src/choosing.rt`, which makes a
--- `Selection`, and of the steps that use one; the rules are in `docs/commands.md`, "`add` and `del`" and
--- "`upgrade` and `fix`", what is refused.
+-- What a selection of the program means. Serves the contracts of `src/choosing.rt`, which makes a `Selection`, and of
+-- the steps that use one; the rules are in `docs/commands.md`, "`add` and `del`", part "What is refused", and
+-- "`upgrade` and `fix`".
 use Rattle.std.specs.Prelude.{◌≡◌, ℕ, List, Ok, Option, Result}
 use Rattle.change_report.specs.change_inputs.Answers.{Agrees}
 use Rattle.change_report.specs.change_inputs.Inputs.{Inputs}
@@ -20,7 +20,7 @@ use Rattle.engine_core.specs.declared.choosing.Selection.{Selection}
 abbrev pub inputs_of_selection : Selection → Inputs
 inputs_of_selection s = inputs_seen s.loaded.now
 
--- the chosen candidates in the place of the packages before
+-- the replacement of the packages before by the chosen candidates
 abbrev pub replacement_seen : Selection → Replacement
 replacement_seen s =
     replacement_of_choice s.again (inputs_of_selection s) s.pool s.trace
@@ -44,7 +44,7 @@ wishes_of_selection s = wishes_of s.command.now
 
 -- ---- a choice is made
 
--- what a command selects by the choice among its candidates; or its refusal
+-- the result is what a command selects by the one choice among its candidates, or its refusal
 abbrev pub IsSelectedFrom : CommandLine → Inputs → Result Selection Refused → Type 0
 IsSelectedFrom command inputs result =
     (chosen : Option (List ℕ))
@@ -53,11 +53,11 @@ IsSelectedFrom command inputs result =
 
 -- a selection has this command, these inputs, their database, and the command's candidates
 pub record IsSelectionFor (command : CommandLine) (inputs : Inputs) (s : Selection) : Type 0 where
-  -- it is made for this command
+  -- the selection is made for this command
   pub command_is : s.command.now ≡ command
-  -- it is made of these inputs
+  -- the selection is made of these inputs
   pub inputs_are : inputs_of_selection s ≡ inputs
-  -- its packages before are those of the inputs
+  -- its opened database has the packages of the inputs
   pub database : HasDatabaseOfInputs s
   -- its candidates are those of the inputs
   pub pool : HasPoolOfInputs s

@@ -51,7 +51,7 @@ is_installed_name inputs name = was_installed inputs.root.database.packages name
 abbrev pub is_known_name : Inputs → List ℕ → Bool
 is_known_name inputs name = has_dependency_named name inputs.root.world || is_installed_name inputs name
 
--- the place on the command line of the first operand whose text is no known name
+-- the place on the command line of the first operand whose text fails the test `is_known`; None if there is none
 abbrev pub place_of_first_unknown_operand : (List ℕ → Bool) → List Operand → Option ℕ
 place_of_first_unknown_operand is_known [] = None
 place_of_first_unknown_operand is_known (o ∷ operands) =
@@ -67,7 +67,7 @@ unknown_operand_place Fix inputs operands =
     place_of_first_unknown_operand (is_installed_name inputs) operands
 unknown_operand_place applet inputs operands = None
 
--- the next result, unless an operand that names no known package refuses the command
+-- the result `next`, unless there is the place of an operand that names no known package: it refuses the command
 abbrev pub unless_unknown_operand : {A : Type 0} → Option ℕ → Result A Refusal → Result A Refusal
 unless_unknown_operand None next = next
 unless_unknown_operand (Some place) next = Err (NotInstalled place)

@@ -1,5 +1,5 @@
 -- What a change writes, and its source. Serves the contracts of `src/writes.rt`; the rules are in
--- `docs/commands.md`, "What a change does with files" and "`add` and `del`", what is written.
+-- `docs/commands.md`, "What a change does with files" and "`add` and `del`", part "What is written".
 use Rattle.std.specs.Prelude.{◌≡◌, ◌⊎◌, ℕ, true, false, List, [], ◌∷◌, ◌++◌, Option, Some, None, Contains, is_some, option_and_then, slice_get}
 use Rattle.std.specs.Borrow.{Bor}
 use Rattle.added_packages.specs.Arrivals.{arrivals_seen, added_package_in_member_read}
@@ -17,7 +17,7 @@ use Rattle.journal_staging.specs.declared.writes.Source.TheVariants.{Bytes, File
 use Rattle.journal_staging.specs.declared.writes.StagedWrite.{StagedWrite}
 use Rattle.engine_core.specs.declared.writes.RecordWrites.{RecordWrites}
 
--- the name that the staged file is to have
+-- the final name of the file that a write stages
 abbrev pub name_of_write : StagedWrite → List ℕ
 name_of_write w = w.name.now
 
@@ -28,7 +28,7 @@ abbrev pub entry_of_write : List Member → FileWrite → Plain
 entry_of_write members w =
     listed_file_at (folders_if_any (slice_get members w.member)) w.folder w.file
 
--- the packages that were read for the added members, by their places
+-- for the place (index) of each member the package that was read for this member; None for a kept member
 abbrev pub PackagesRead : Type 0
 PackagesRead = ℕ → Option TestedPackage
 
@@ -38,7 +38,9 @@ pub record IsFileOfWrite (packages : PackagesRead) (w : FileWrite) (f : Packaged
   pub read : packages w.member ≡ Some f.package.now
   -- the write and the file are of the same member, folder and place in the folder
   pub member : f.member ≡ w.member
+  -- the folder has the same position in the package
   pub folder : f.folder ≡ w.folder
+  -- the file has the same position in the folder
   pub file : f.file ≡ w.file
 
 -- the source of a write's bytes: a link's text, or the file in the package
@@ -50,11 +52,12 @@ IsSourceOfWrite members packages w (Link target) =
 IsSourceOfWrite members packages w (File f) =
     (has_target (entry_of_write members w) ≡ false) × IsFileOfWrite packages w f
 
--- the staged file of a name is the one that the plan writes there
+-- a write stages a file of the plan (`planned` are all writes of the plan)
 pub record IsFileWrite (members : List Member) (packages : PackagesRead) (planned : List FileWrite)
     (write : StagedWrite) : Type 0 where
   -- a file of the plan
   pub file : FileWrite
+  -- this file is one that the plan writes
   pub planned_file : Contains planned file
   -- the staged file has the name of this file
   pub named : name_of_write write ≡ file.name
@@ -69,19 +72,20 @@ HasBytes bytes (Bytes own) = own.now ≡ bytes
 HasBytes bytes (Link target) = ⊥
 HasBytes bytes (File f) = ⊥
 
--- the staged file of this name has these bytes
+-- a write stages a file with this final name and these bytes
 pub record IsRecordWrite (name bytes : List ℕ) (write : StagedWrite) : Type 0 where
   -- the staged file has this name
   pub named : name_of_write write ≡ name
   -- its source has these bytes
   pub source : HasBytes bytes write.source
 
--- a write is that of a record, which has bytes if it is written; without bytes it is unchanged
+-- a write is that of the database or of world, whose file has this name and gets these bytes; with None this file is
+-- not written, and there is no such write
 abbrev pub IsWriteOfRecord : List ℕ → Option (Bor (List ℕ)) → StagedWrite → Type 0
 IsWriteOfRecord name None write = ⊥
 IsWriteOfRecord name (Some bytes) write = IsRecordWrite name bytes.now write
 
--- the writes of a record, the database or world: one if it changes, none if it is unchanged
+-- the writes of the database or of world, whose file has this name: one write of these bytes, or no write with None
 abbrev pub record_writes : Bor (List ℕ) → Option (Bor (List ℕ)) → List StagedWrite
 record_writes name None = []
 record_writes name (Some bytes) = record { name = name; source = Bytes bytes } ∷ []
@@ -104,7 +108,7 @@ IsWriteOfChange members packages planned r write =
 
 -- ---- what was read
 
--- the package that was read for the member at a place, if one was
+-- the package that was read for the member at this place (index); None if the member is kept
 abbrev pub package_at : Arrivals → ℕ → Option TestedPackage
 package_at arrivals place =
     option_and_then added_package_in_member_read (slice_get (arrivals_seen arrivals) place)

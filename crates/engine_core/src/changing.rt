@@ -26,15 +26,14 @@ use std::alloc::{AllocError, Global};
 /// Changes what is installed, as `add`, `del`, `upgrade` or `fix` asks for, and reports it; with
 /// `--simulate` it only reports what would change. The change is first tested and prepared in
 /// memory. Then its files are staged, from packages that are read once more, and one step commits
-/// all of them. Once the first file is staged, the engine takes memory only for the text of a
-/// refusal.
+/// all of them. Once the first file is staged, memory is requested only for the text of a refusal.
 ///
 /// # Errors
 ///
-/// The refusals of what is read, `TooMany`, `NotInstalled` of all except `add`, and `Unsatisfied`;
-/// then, unless the change is only simulated, those of the added packages, `Reserved`, `PathClash`,
-/// `Owned`, `TriggerNeeded`, and `ResultTooLarge` of the database and then of the intent. `Disk` if
-/// the tree failed, and `Memory`.
+/// In this order: the refusals of the files of the root, `TooMany`, `NotInstalled` (not for `add`),
+/// and `Unsatisfied`. Then, unless the change is only simulated: those of the added packages,
+/// `Reserved`, `PathClash`, `Owned`, `TriggerNeeded`, and `ResultTooLarge` of the database and then
+/// of the intent (journal entry). `Disk` is an I/O error of the tree, `Memory` is out of memory.
 pub fn change<T: Tree>(alloc: Global, command: &Command, tree: &mut T) -> Result<Text, Refused>
     // The answer, and the effect on the tree, moment by moment.
     ensures run { IsChangeRun command.now (T.history tree.old) (T.history tree.new)
@@ -42,7 +41,8 @@ pub fn change<T: Tree>(alloc: Global, command: &Command, tree: &mut T) -> Result
     // How the tree's counts explain the answer: no count falls, an I/O error has its cause, and any
     // other answer hides none.
     ensures counts { IsRunCounted (T.counts tree.old) (T.counts tree.new) result }
-    // At each moment the tree accepts each name to which a recovery gives other bytes than it had.
+    // At each moment the tree has accepted each name to which recovery would then give other bytes
+    // than it had at the start.
     ensures promised { TargetsAreAccepted T.accepts (T.history tree.old) (T.history tree.new) }
 {
     // Laws that the proof needs; they have no effect at run time.
@@ -63,9 +63,11 @@ pub fn change<T: Tree>(alloc: Global, command: &Command, tree: &mut T) -> Result
     make_change(alloc, &selection, tree)
 }
 
-// Reports what would change. This is all that a command with `--simulate` does.
+// The report of what would change. This is all that a command with `--simulate` does.
 fn simulate(alloc: Global, selection: &Selection<'_>) -> Result<Text, AllocError>
+    // The opened database is the one that was read of the root.
     requires { HasDatabaseOfInputs selection.now }
+    // The report is that of the definition, for the replacement of this selection.
     ensures { IfOk result (λ report. report ≡ simulated_report (replacement_seen selection.now)
         (names_to_remove selection.now.command.now.applet
         selection.now.command.now.operands)) }

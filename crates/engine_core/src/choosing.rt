@@ -1,6 +1,6 @@
 //! The candidates that replace the packages before, and how they are chosen. Laws: there is always
-//! exactly one choice. The rules are in `docs/selection.md`, "Which selection is taken", and for the
-//! refusals in `docs/commands.md`, "`add` and `del`" and "`upgrade` and `fix`".
+//! exactly one choice. The rules are in `docs/selection.md`, "Which selection is taken", and for
+//! the refusals in `docs/commands.md`, "`add` and `del`" and "`upgrade` and `fix`".
 
 ghost use Rattle.change_report.specs.change_inputs.Seen.{inputs_seen};
 ghost use Rattle.engine_core.specs.Chosen.{IsResultOfChoice};
@@ -29,18 +29,18 @@ pub(crate) struct Selection<'a> {
     pub command: &'a Command,
     /// What was read of the root.
     pub loaded: &'a Loaded,
-    /// The database of the root, opened.
+    /// The database that was read of the root, opened as a list of installed packages.
     pub db: Db<'a>,
-    /// The candidates.
+    /// The candidates that the command may choose from, under the new world.
     pub pool: Sealed<'a>,
-    /// The places of the chosen candidates, in the order in which they were chosen.
+    /// The places of the chosen candidates in `pool`, in the order in which they were chosen.
     pub trace: Trace,
     /// The names to be reinstalled: the operands of `fix`, and none for another command.
     pub again: Words,
 }
 
-/// Chooses the candidates that a command installs, given what was read of the root and the operands
-/// of `upgrade`.
+/// Chooses the candidates that are installed after a command. `loaded` is what was read of the
+/// root; `upgraded` are the operands of `upgrade`, and none for another command.
 ///
 /// # Errors
 ///
@@ -52,10 +52,12 @@ pub(crate) fn choose<'a>(
     upgraded: &'a Words,
     loaded: &'a Loaded,
 ) -> Result<Selection<'a>, Refused>
+    // `upgraded` are the operands of `upgrade`.
     requires { upgraded.now ≡ names_of_upgrade command.now.applet command.now.operands }
-    // The selection by the choice among the command's candidates, or the refusal instead.
+    // The result is what the command selects by the one choice among its candidates, or its
+    // refusal.
     ensures selected { IsSelectedFrom command.entry.now (inputs_seen loaded.entry.now) result }
-    // The selection has this command, what was read, the opened database, and the candidates.
+    // The selection is made for this command, of these inputs, their database and their candidates.
     ensures parts { IfOk result
         (IsSelectionFor command.entry.now (inputs_seen loaded.entry.now)) }
 {
@@ -78,14 +80,16 @@ pub(crate) fn choose<'a>(
     })
 }
 
-// The first preferred selection (the preferred solution) under the new world. `Unsatisfied` if no
-// selection satisfies the new world; or `Memory`.
+// The places of the first preferred selection (the preferred solution) under the new world. The
+// error is `Unsatisfied` if no selection satisfies the new world, or `Memory`.
 fn first_selection<'a>(
     alloc: Global,
     loaded: &'a Loaded,
     pool: &Sealed<'a>,
 ) -> Result<Trace, Refused>
+    // The candidates are to satisfy the new world of what was read.
     requires { pool.now.world ≡ (inputs_seen loaded.now).root.new_world }
+    // There is a choice (a selection, or None), and the result is the answer to this choice.
     ensures { (chosen : Option (List ℕ)) × IsPreferredChoice pool.now chosen
         × IsResultOfChoice chosen result }
 {
@@ -98,7 +102,8 @@ fn first_selection<'a>(
     }
 }
 
-/// There is always a choice: the first preferred selection, or none.
+/// A law: there is always a choice among candidates. The choice is the first preferred selection,
+/// or None if no selection satisfies world or the candidates were refused.
 pub fn a_choice_exists()
     ensures { (pool : Result SealedPool Refusal) →
         (chosen : Option (List ℕ)) × IsChoiceFrom pool chosen }
@@ -107,7 +112,7 @@ pub fn a_choice_exists()
     options_are_the_best_first();
 }
 
-/// There is only one choice, so it depends on the candidates alone.
+/// A law: there is only one choice among given candidates.
 pub fn a_choice_is_unique()
     ensures { (pool : Result SealedPool Refusal) (a b : Option (List ℕ)) →
         IsChoiceFrom pool a → IsChoiceFrom pool b → a ≡ b }

@@ -1,10 +1,11 @@
-//! A change of what is installed: `add`, `del`, `upgrade` and `fix`, from their arguments to their
-//! end.
+//! A change of the installed packages: `add`, `del`, `upgrade` and `fix`, from their arguments to
+//! their report or refusal. `apk_front` calls `change` after recovery.
 //!
-//! The contract of `change` cites these modules of `specs/`: `ChangeRun` (the answer of a run, and
-//! its effect on the tree), `Changed` (the result of a command, by what is read and by what is
-//! chosen) and `Choice` (which candidates are chosen). `laws` says that there is exactly one
-//! choice. Each command's rules are in `docs/commands.md`, under its name.
+//! The contract of `change` cites three modules of `specs/`. `ChangeRun` defines the answer of a
+//! run and its effect on the tree. `Changed` defines the result of a command, by the files that are
+//! read and the candidates that are chosen. `Choice` defines which candidates are chosen. Laws in
+//! `choosing` say that there is exactly one choice. Each command's rules are in `docs/commands.md`,
+//! under its name.
 #![tactic(auto)]
 
 mod changing;
@@ -20,6 +21,8 @@ mod targets;
 mod wishes;
 mod writes;
 
+// What crates that depend on this one may call: functions, types and laws of this crate, and of
+// crates on which it depends.
 pub use change_report::{
     Refused, a_change_has_a_first_clash_or_none, a_change_keeps_paths_free,
     a_change_that_is_made_passes_each_test, a_change_that_writes_nothing_leaves_the_files,

@@ -17,27 +17,33 @@ use change_report::{Refused, a_change_has_a_first_clash_or_none};
 use journal_staging::runs_with_accepted_targets_begin_with_reads;
 use std::alloc::Global;
 
-/// Makes the change of a selection: reads its packages, plans it, renders all that it writes, and
-/// commits.
+/// Makes the change of a selection, and returns its report. The steps: read the added packages,
+/// plan the files, make all that is written in memory, and commit it.
 ///
 /// # Errors
 ///
-/// Those of `read_packages`, then those of `plan_change`, of `database_and_world_after_change`, of `render` and of
-/// `commit`.
+/// Those of `read_packages`, `plan_change`, `database_and_world_after_change`, `render` and
+/// `commit`, in this order.
 pub(crate) fn make_change<T: Tree>(
     alloc: Global,
     selection: &Selection<'_>,
     tree: &mut T,
 ) -> Result<Text, Refused>
+    // The opened database and the candidates of the selection are those of what was read.
     requires database { HasDatabaseOfInputs selection.now }
     requires pool { HasPoolOfInputs selection.now }
+    // On an observable tree, the database and world were read from its files.
     requires root { IsRootRead (T.history tree.old) (inputs_of_selection selection.now) }
     // The change is not only simulated.
     requires real { selection.now.command.now.flags.simulate ≡ false }
     // The run is that of a change with this selection.
     ensures run { IsRunOnSelection selection.now.command.now (Ok (selection_seen selection.now))
         (T.history tree.old) (T.history tree.new) (T.counts tree.old) (T.counts tree.new) result }
+    // How the tree's counts explain the answer: no count falls, an I/O error was counted with its
+    // cause, and any other answer hides none.
     ensures counts { IsRunCounted (T.counts tree.old) (T.counts tree.new) result }
+    // At each moment the tree has accepted each name to which recovery would then give other bytes
+    // than it had at the start.
     ensures promised { TargetsAreAccepted T.accepts (T.history tree.old) (T.history tree.new) }
 {
     // Laws that the proof needs; they have no effect at run time.

@@ -1,5 +1,5 @@
 //! The packages after a change: each added one is read and tested. The rules are in
-//! `docs/commands.md`, "`add` and `del`", what is read, and the refusals of a package.
+//! `docs/commands.md`, "`add` and `del`", parts "What is read" and "What is refused".
 
 ghost use Rattle.added_packages.specs.Answered.{DenotesUnlessDisk};
 ghost use Rattle.added_packages.specs.Arrivals.{CanBeMembers, arrivals_seen};
@@ -23,9 +23,10 @@ pub(crate) struct ReadPackages<'r, 'a> {
     /// The selection: the command, what was read of the root, the candidates, which of them are
     /// chosen, and the names to be reinstalled.
     pub selection: &'r Selection<'a>,
-    /// The names of the packages before and of the candidates, each with its place.
+    /// The names of the packages before and of the chosen candidates. Each name has its change, if
+    /// its package changes, and the places of its package and of its candidate.
     pub names: PlacedNames<'a>,
-    /// The added packages, read and tested, among the kept ones.
+    /// The packages after the change: the added ones, read and tested, and the kept ones.
     pub arrivals: Arrivals,
 }
 
@@ -40,17 +41,21 @@ pub(crate) fn read_packages<'r, 'a, T: Tree>(
     selection: &'r Selection<'a>,
     tree: &mut T,
 ) -> Result<ReadPackages<'r, 'a>, Refused>
+    // The opened database and the candidates of the selection are those of what was read.
     requires database { HasDatabaseOfInputs selection.now }
     requires pool { HasPoolOfInputs selection.now }
-    // The packages are those that reads of the tree find; or the first that has a fault is refused.
+    // The packages are those that the definition finds by reads of the tree; or the first package
+    // with a fault is refused.
     ensures found { IsExplainedBySomeReads (T.history tree.old) (λ read.
         DenotesUnlessDisk (ArePackagesReadForSelection
         (T.history tree.old) selection.entry.now) result
         (members_after_change (inputs_of_selection selection.entry.now)
         (replacement_seen selection.entry.now) (wishes_of_selection selection.entry.now) read)) }
-    // One database can list all packages.
+    // One database can list all these packages: their names are in order, and they are not too
+    // many.
     ensures members { IfOk result (λ packages. CanBeMembers
         (packages_of packages.selection.now.db) (arrivals_seen packages.arrivals)) }
+    // The tree is only read, and an I/O error has its cause there.
     ensures tree { OnlyReads Refused.Disk (T.history tree.old) (T.history tree.new)
         (T.counts tree.old) (T.counts tree.new) result }
 {

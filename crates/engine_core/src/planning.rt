@@ -1,6 +1,6 @@
 //! The plan of a change: the packages after it, what it does with files, and the tests by which a
 //! change is refused before anything is made. The rules are in `docs/commands.md`, "What a change
-//! does with files", and for triggers in "`add` and `del`", which triggers are due.
+//! does with files", and for triggers in "`add` and `del`", part "Which triggers are due".
 
 ghost use Rattle.added_packages.specs.Arrivals.{CanBeMembers, arrivals_seen};
 ghost use Rattle.base_core.specs.Read.{OnlyReads};
@@ -33,11 +33,13 @@ pub(crate) struct Plan<'r, 's, 'a> {
     pub packages: &'r ReadPackages<'s, 'a>,
     /// The packages after the change, as the database is to list them.
     pub members: Members<'r>,
-    /// What the change removes, writes, writes beside an old file, and keeps.
+    /// The names that the change removes or writes, those written as `PATH.apk-new` beside a
+    /// modified file, and the modified files that it keeps.
     pub files: FilePlan,
 }
 
-/// Plans a change of packages that were read, and tests its files and triggers.
+/// Plans the change to packages that were read: makes the plan of its files, and tests its files
+/// and triggers.
 ///
 /// # Errors
 ///
@@ -47,12 +49,14 @@ pub(crate) fn plan_change<'r, 's, 'a, T: Tree>(
     packages: &'r ReadPackages<'s, 'a>,
     tree: &mut T,
 ) -> Result<Plan<'r, 's, 'a>, Refused>
+    // One database can list all these packages: their names are in order, and they are not too
+    // many.
     requires { CanBeMembers (packages_of packages.now.selection.now.db)
         (arrivals_seen packages.now.arrivals) }
     // The plan of these packages, over the tree's files if they are observable.
     ensures plan { IfOk result (IsPlanOfPackages (T.history tree.old) packages.entry.now) }
-    // Or the result is the refusal for the first test that the change fails, whatever reads find
-    // these packages.
+    // Or the run ends with the refusal of the first test that the change fails, or with a failure.
+    // This holds for all reads that find these packages (`found`).
     ensures refused { IfErr result (λ refused. (read : Reads) (found : List MemberFound)
         → ArePackagesFoundByReads (T.history tree.old) packages.entry.now read found
         → IsRunOnFoundPackages (inputs_of_packages packages.entry.now)
@@ -98,6 +102,7 @@ fn plan_files<T: Tree>(
     ensures tree { OnlyReads Refused.Disk (T.history tree.old) (T.history tree.new)
         (T.counts tree.old) (T.counts tree.new) result }
 {
+    // A law: no path that the database lists is reserved.
     db.no_listed_path_is_reserved();
     match plan(alloc, db, members, tree, purge) {
         Ok(plan) => Ok(plan),
@@ -105,7 +110,8 @@ fn plan_files<T: Tree>(
     }
 }
 
-// The refusal of a change whose files cannot be planned.
+// Why a change ends if its files cannot be planned: the refusal of the failed test, an I/O error of
+// the tree, or out of memory.
 fn refused_plan(fault: PlanFault) -> Refused
     ensures { IsRefusalOfPlanFault fault result }
 {
@@ -128,7 +134,8 @@ fn refused_plan(fault: PlanFault) -> Refused
     }
 }
 
-/// Tests that no trigger is due, or that scripts may be skipped (`--no-scripts`).
+/// Tests that no trigger of a member is due after the change, unless scripts may be skipped
+/// (`--no-scripts`, the argument `no_scripts`).
 ///
 /// # Errors
 ///
@@ -139,6 +146,8 @@ fn test_triggers(
     members: &Members<'_>,
     plan: &FilePlan,
 ) -> Result<(), Refused>
+    // The result is Ok exactly if the definition refuses nothing, and otherwise its refusal, unless
+    // memory ran out.
     ensures { Agrees (λ _. true) result
         (unless_trigger_due no_scripts (planned_paths plan.now) (members_of members.now)) }
 {
@@ -155,8 +164,9 @@ fn test_triggers(
     }
 }
 
-/// The name of the package at a place among the packages after the change.
+/// The name of the member at this place (index): a package that is installed after the change.
 fn member_name(alloc: Global, members: &Members<'_>, place: usize) -> Result<Text, AllocError>
+    // The place is one of the members.
     requires { place < length (members_of members.now) }
     ensures { IfOk result (λ name. name ≡ member_name_at_place (members_of members.now) place) }
 {

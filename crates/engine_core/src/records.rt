@@ -18,8 +18,8 @@ use change_report::{Members, Owned, Refused, Stage, write_db};
 use report_core::Refusal;
 use std::alloc::Global;
 
-/// The bytes of the database that lists the packages after a change, and of their files those that
-/// are theirs.
+/// The bytes of the database that lists the packages after a change, each with those of its files
+/// that it owns. `owned` says which files these are.
 ///
 /// # Errors
 ///
@@ -29,6 +29,7 @@ pub(crate) fn new_database(
     members: &Members<'_>,
     owned: &Owned,
 ) -> Result<Vec<u8>, Refused>
+    // The result is the definition's: the bytes of the database, or the refusal; or out of memory.
     ensures { Agrees (λ file. file.items) result
         (or_result_too_large (database_of (members_of members.now) owned.now)) }
 {
@@ -51,16 +52,20 @@ pub(crate) fn is_absent_or_different(found: Option<&[u8]>, bytes: &[u8]) -> bool
     }
 }
 
-/// Begins the stage of a change: makes its intent (the journal entry) in memory, of the names that
-/// are removed and written, each in byte order. The tree is not called.
+/// Makes the stage of a change, which later writes its files. Its intent (journal entry) is made in
+/// memory: the names that are removed and those that are written, each list in byte order. The tree
+/// is not called.
 ///
 /// # Errors
 ///
 /// `ResultTooLarge` if the intent exceeds a limit of the writer, or `Memory`.
 pub(crate) fn begin_stage(alloc: Global, removals: Names, writes: Names) -> Result<Stage, Refused>
+    // No name is twice in the lists, and an intent may have each of them.
     requires { AreDistinctNamesAllowedInIntent (removals ++ writes) }
+    // The stage is the new one of these names, of which nothing is written yet.
     ensures stage { IfOk result (λ stage. stage
         ≡ new_stage_of_removals_and_writes removals writes) }
+    // Refused exactly if the intent exceeds a limit of the writer, unless memory ran out.
     ensures told { Agrees (λ _. true) result (unless_overflow
         (overflow_of (value_of_intent (intent_of_lists removals writes))) true) }
 {

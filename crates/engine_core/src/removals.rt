@@ -12,13 +12,14 @@ use base_core::{Name, Names};
 use root_names::text_database_name;
 use std::alloc::{AllocError, Global};
 
-/// The names that a change removes, in byte order: those that its plan removes, and that of a text
-/// database which is converted.
+/// The names that a change removes, in byte order: the names `planned` of its plan, and that of the
+/// text database, if its packages are taken over (`takes_text_over`).
 pub(crate) fn removals_of(
     alloc: Global,
     planned: &Names,
     takes_text_over: bool,
 ) -> Result<Names, AllocError>
+    // No name is removed twice.
     requires { HaveNoRepeats (planned.now ++ name_if_needed takes_text_over text_database_name) }
     ensures { IfOk result (λ names. names
         ≡ sorted_distinct_names (planned.now

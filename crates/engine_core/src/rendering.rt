@@ -33,7 +33,7 @@ use journal_staging::StagedWrite;
 use root_names::{database_name, world_name};
 use std::alloc::{AllocError, Global};
 
-/// A change as it is to be carried out: what is written, the journal entry, and the report.
+/// A change as it is to be committed: its writes, the journal entry, and the report.
 #[derive(Drop)]
 pub(crate) struct Rendered<'c> {
     /// What is written, in byte order of the names: files of packages, the database and world.
@@ -54,14 +54,18 @@ pub(crate) fn render<'c>(
     plan: &'c Plan<'_, '_, '_>,
     records: &'c NewRecords,
 ) -> Result<Rendered<'c>, Refused>
+    // The plan is that of a change to packages that were read, over some files.
     requires plan { (history : List TreeState) × IsPlannedFromSomeFiles history plan.now }
+    // The database and world have the names of their files, and the text of the new world.
     requires records { AreNewRecordsOf (inputs_of_plan plan.now) records.now }
+    // The writes, the journal entry and the report are those of the plan.
     ensures rendered { IfOk result (IsRendered plan.entry.now records.entry.now) }
-    // Or the change is refused, since its journal entry is too large.
+    // Or the change is refused, since its journal entry exceeds a limit; or memory ran out.
     ensures refused { IfErr result (IsRefusedForOverflow plan.entry.now records.entry.now) }
 {
     // A law that the proof needs; it has no effect at run time.
     a_package_that_was_read_is_that_of_its_file();
+    // The writes of the database and of world.
     let record_writes = record_writes_of(plan.packages.selection.loaded, records);
     let arrivals = &plan.packages.arrivals;
     let writes = writes_of(alloc, &plan.members, arrivals, &plan.files, &record_writes)?;
@@ -84,9 +88,12 @@ fn journal_entry(
     plan: &Plan<'_, '_, '_>,
     writes: &[StagedWrite<'_>],
 ) -> Result<Option<Stage>, Refused>
+    // The plan is that of a change to packages that were read, over some files.
     requires plan { (history : List TreeState) × IsPlannedFromSomeFiles history plan.now }
+    // The writes are those of the plan and of some new database and world.
     requires writes { (records : NewRecords) × AreNewRecordsOf (inputs_of_plan plan.now) records
         × AreWritesOf plan.now records writes.now }
+    // The stage is the new one of the names that are removed and written, or None without any name.
     ensures stage { IfOk result
         (IsStageOf (removals_of_plan plan.now) (map name_of_write writes.now)) }
     // Refused exactly if the value of the intent exceeds a limit of the writer.
@@ -106,7 +113,7 @@ fn journal_entry(
     Ok(Some(stage))
 }
 
-/// The database and world after a change, and their names.
+/// The database and world after a change, and the names of their files.
 #[derive(Drop)]
 pub(crate) struct NewRecords {
     /// The bytes of the new database.
@@ -127,6 +134,7 @@ pub(crate) fn database_and_world_after_change(
     // The bytes of the new database, or the refusal if it exceeds a limit of the writer.
     ensures told { Agrees (λ records. records.database.items) result
         (or_result_too_large (database_of (members_of plan.now.members) plan.now.files.owned)) }
+    // World has the text of the new world, and both have the names of their files.
     ensures records { IfOk result (AreNewRecordsOf (inputs_of_plan plan.now)) }
 {
     let database = new_database(alloc, &plan.members, plan.files.owned())?;
@@ -141,7 +149,8 @@ pub(crate) fn database_and_world_after_change(
     })
 }
 
-/// The bytes of a file, if they differ from its old ones and so are to be written.
+/// The new bytes of a file, if they are to be written: if `is_other`, that is, if the file is
+/// absent or has other bytes.
 fn bytes_if(is_other: bool, bytes: &[u8]) -> Option<&[u8]>
     ensures { option_copied result ≡ bytes_if is_other bytes.now }
 {
@@ -166,9 +175,10 @@ fn record_writes_of<'c>(loaded: &Loaded, records: &'c NewRecords) -> RecordWrite
     }
 }
 
-/// The report of a change that is made: what becomes of each package, of the names to be removed,
-/// of configuration and triggers, and the total.
+/// The report of a change that is made: a line for each package that changes, lines on names to be
+/// removed that are kept, on configuration files and on triggers, and the total.
 fn report_of(alloc: Global, plan: &Plan<'_, '_, '_>) -> Result<Text, AllocError>
+    // The report is that of the definition, for all packages and files by which this plan is made.
     ensures { IfOk result (λ report. (history : List TreeState) (found : List MemberFound)
         (files : Files) → IsPlanned history plan.now found files
         → report ≡ change_report (replacement_of_plan plan.now) (wishes_of_plan plan.now)

@@ -1,4 +1,5 @@
-//! What a command asks of a change besides world. The rules are in `docs/commands.md`, "`add` and
+//! What a command asks of a change besides its new world: names to be removed, upgraded or
+//! reinstalled; and which operand is unknown. The rules are in `docs/commands.md`, "`add` and
 //! `del`" and "`upgrade` and `fix`".
 ghost use Rattle.change_report.specs.change_inputs.Seen.{inputs_seen};
 ghost use Rattle.change_report.specs.db_core.Seen.{packages_of};
@@ -62,8 +63,10 @@ pub(crate) fn names_of_upgrade(alloc: Global, command: &Command) -> Result<Words
     }
 }
 
-/// The names that `upgrade` upgrades, given the texts of its operands.
+/// The names that the command upgrades, given the texts `names` of the operands of `upgrade`: none
+/// if the command is not `upgrade`.
 pub(crate) fn names_to_upgrade<'a>(command: &Command, names: &'a Words) -> Upgrade<'a>
+    // `names` are the operands of `upgrade`.
     requires { names.now ≡ names_of_upgrade command.now.applet command.now.operands }
     ensures { names_upgraded_by result
         ≡ names_to_upgrade command.now.applet command.now.operands }
@@ -76,7 +79,9 @@ pub(crate) fn names_to_upgrade<'a>(command: &Command, names: &'a Words) -> Upgra
 
 // The names that `upgrade` upgrades: the listed ones, or all if none is listed.
 fn all_or_listed(names: &Words) -> Upgrade<'_>
+    // Without operands, all names are upgraded.
     ensures all { names.entry.now ≡ [] → names_upgraded_by result ≡ all_names }
+    // With operands, just their texts are upgraded.
     ensures listed { (names.entry.now ≡ [] → ⊥)
         → names_upgraded_by result ≡ listed_names names.entry.now }
 {
@@ -86,9 +91,11 @@ fn all_or_listed(names: &Words) -> Upgrade<'_>
     Upgrade::Listed(names)
 }
 
-/// The place of the first operand that the command does not know: for `del` one that is neither in
-/// world nor installed, for `upgrade` and `fix` one that is not installed.
+/// The place on the command line of the operand that is refused as unknown: for `del` the first
+/// name that is neither in world nor installed, for `upgrade` and `fix` the first that is not
+/// installed.
 pub(crate) fn unknown_operand(command: &Command, loaded: &Loaded, db: &Db<'_>) -> Option<u32>
+    // The opened database has the packages that were read of the root.
     requires { packages_of db.now ≡ (inputs_seen loaded.now).root.database.packages }
     ensures { result
         ≡ unknown_operand_place command.now.applet (inputs_seen loaded.now) command.now.operands }
@@ -100,8 +107,10 @@ pub(crate) fn unknown_operand(command: &Command, loaded: &Loaded, db: &Db<'_>) -
     }
 }
 
-// The place of the first operand that is neither in world nor installed.
+// The place on the command line of the first operand whose text is neither a name in world nor that
+// of an installed package.
 fn place_of_first_unknown_operand(operands: &Operands, loaded: &Loaded, db: &Db<'_>) -> Option<u32>
+    // The opened database has the packages that were read of the root.
     requires { packages_of db.now ≡ (inputs_seen loaded.now).root.database.packages }
     ensures { result ≡ place_of_first_unknown_operand (is_known_name
         (inputs_seen loaded.now)) operands.now }
@@ -115,7 +124,7 @@ fn place_of_first_unknown_operand(operands: &Operands, loaded: &Loaded, db: &Db<
     None
 }
 
-// The place of the first operand that is not installed.
+// The place on the command line of the first operand whose text is no name of an installed package.
 fn first_not_installed(operands: &Operands, db: &Db<'_>) -> Option<u32>
     ensures { result ≡ place_of_first_unknown_operand (was_installed
         (packages_of db.now)) operands.now }
@@ -131,6 +140,7 @@ fn first_not_installed(operands: &Operands, db: &Db<'_>) -> Option<u32>
 
 // Whether world has an entry of a name, or a package of this name is installed.
 fn is_known(name: &[u8], loaded: &Loaded, db: &Db<'_>) -> bool
+    // The opened database has the packages that were read of the root.
     requires { packages_of db.now ≡ (inputs_seen loaded.now).root.database.packages }
     ensures { result ≡ is_known_name (inputs_seen loaded.now) name.now }
 {
@@ -140,7 +150,7 @@ fn is_known(name: &[u8], loaded: &Loaded, db: &Db<'_>) -> bool
     is_installed(name, db)
 }
 
-// Whether world has an entry of a name, by bisection: in time linear in log n for n entries.
+// Whether world has an entry of a name. World is sorted by name, so this is a binary search.
 fn is_in_world(name: &[u8], world: &World) -> bool
     ensures { result ≡ has_dependency_named name.now world.now }
 {

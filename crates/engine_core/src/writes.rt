@@ -1,5 +1,6 @@
-//! What a change writes. The rules are in `docs/commands.md`, "What a change does with files" and
-//! "`add` and `del`", what is written.
+//! What a change writes: the staged writes of its plan, of the database and of world, used by
+//! `rendering.rt`. The rules are in `docs/commands.md`, "What a change does with files" and "`add`
+//! and `del`", part "What is written".
 ghost use Rattle.change_report.specs.change_files.PlanLists.{sorted_distinct_names};
 ghost use Rattle.change_report.specs.db_core.Seen.{members_of};
 ghost use Rattle.engine_core.specs.Writing.{HasPackageOfEachAdded, IsFileWrite, IsSourceOfWrite, IsWriteOfChange, package_at, database_and_world_names, record_writes, name_of_write};
@@ -19,7 +20,7 @@ use change_report::{FilePlan, Members, Write};
 use journal_staging::{PackagedFile, Source, StagedWrite};
 use std::alloc::{AllocError, Global};
 
-/// The writes of the database and of world. A file without given bytes is not written.
+/// The writes of the database and of world. A file whose bytes are None is not written.
 #[derive(Clone, Copy)]
 pub(crate) struct RecordWrites<'c> {
     /// The name of the database's file.
@@ -35,8 +36,11 @@ pub(crate) struct RecordWrites<'c> {
 /// The source of a planned write: the text of a link, or the file of the package that was read for
 /// its member.
 fn source_of<'c>(members: &Members<'c>, arrivals: &'c Arrivals, write: &Write) -> Source<'c>
+    // The write is of a file of an added package.
     requires file { IsOfAddedFile (members_of members.now) (write_seen write.now) }
+    // Each added package was read.
     requires packages { HasPackageOfEachAdded (members_of members.now) arrivals.now }
+    // The source is the text of the file's link, or the file in its package.
     ensures { IsSourceOfWrite (members_of members.now) (package_at arrivals.now)
         (write_seen write.now) result }
 {
@@ -51,19 +55,23 @@ fn source_of<'c>(members: &Members<'c>, arrivals: &'c Arrivals, write: &Write) -
             folder: write.path,
             file: write.file,
         }),
+        // The write is of an added package, and each added package was read.
         None => unreachable!(),
     }
 }
 
-/// Adds the staged write of each write that the plan has.
+/// Appends to `writes` one staged write for each write of the plan, in the order of the plan.
 fn push_files<'c>(
     writes: &mut Vec<StagedWrite<'c>>,
     members: &Members<'c>,
     arrivals: &'c Arrivals,
     plan: &'c FilePlan,
 ) -> Result<(), AllocError>
+    // Each planned write is of a file of an added package.
     requires sources { HasSources (members_of members.now) plan.now }
+    // Each added package was read.
     requires packages { HasPackageOfEachAdded (members_of members.now) arrivals.now }
+    // The appended writes have the names of the plan, and each has the source that the plan says.
     ensures { OnOk result ((files : List StagedWriteValue)
         × (writes.new.items ≡ writes.old.items ++ files)
         × (map name_of_write files ≡ written_names plan.entry.now)
@@ -82,7 +90,7 @@ fn push_files<'c>(
     Ok(())
 }
 
-/// Adds a write of the database or of world, if it has bytes to write.
+/// Appends the write of the database or of world, if its file has bytes to be written.
 fn push_record<'c>(
     writes: &mut Vec<StagedWrite<'c>>,
     name: &'c Name,
@@ -128,7 +136,7 @@ pub(crate) fn writes_of<'c>(
     ensures names { IfOk result (λ writes. map name_of_write writes.items
         ≡ sorted_distinct_names (written_names plan.entry.now
         ++ database_and_world_names records.now)) }
-    // Each write has the bytes that its name is to have.
+    // Each write is that of a file of the plan, of the database, or of world.
     ensures each { IfOk result (λ writes. All (IsWriteOfChange (members_of members.now)
         (package_at arrivals.entry.now) (writes_in plan.entry.now.writes) records.now)
         writes.items) }

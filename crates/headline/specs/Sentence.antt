@@ -1,6 +1,6 @@
--- The sentence with which the README of the repository begins, as one statement. What it cites is
--- defined in `run_lists` (runs, and what a root has seen), `apk_front` (answers), `journal_core`
--- (states), `outcome` (what a command comes to) and `refusal_laws` (what a refusal says).
+-- The sentence with which the README of the repository begins, as one statement. The definitions that it cites are in
+-- `run_lists` (runs, and what a root has seen), `apk_front` (answers), `journal_core` (states of files), `outcome` (the
+-- outcomes of commands) and `refusal_laws` (the faults that refusals state).
 use Rattle.std.specs.Prelude.{◌≡◌, ◌⊎◌, ℕ, Bool, true, false, List, Some, None, Ok}
 use Rattle.run_lists.specs.apk_front.Answers.{IsAnswerOfSomeOutcome, LeavesFiles}
 use Rattle.run_lists.specs.apk_front.Moments.{IsOkRefusedOrOutputFault, IsDurableAndLeavesFiles, MustOutcomeBeDurable}
@@ -23,23 +23,22 @@ use Rattle.run_lists.specs.Recovered.{ReachesWithoutBadIntent, HasStateOfSomeCra
 use Rattle.run_lists.specs.Safety.{HasStateAsReadOrOutcome}
 use Rattle.refusal_laws.specs.words_core.Grammar.{command_of}
 
--- A root has seen any list of runs, stops, crashes and changes by others. Its files were durable at
--- first, apart from the ignored names, and neither then nor later did others leave a bad intent.
+-- A root has come from the state `first` to v by these events: runs, stops, crashes and changes by others. At first the
+-- tree was durable, apart from the ignored names, and no crash could leave a bad intent. No edit by others left one.
 pub record HasGoodPast (ignored : List ℕ → Bool) (first : TreeState) (events : List RootEvent)
     (v : TreeState) : Type 0 where
   -- the name of the intent is not ignored
   pub counts : ignored intent_name ≡ false
-  -- at first the tree was durable, apart from the ignored names
+  -- at first no crash could change the bytes of a file on which the state depends, apart from the ignored names
   pub durable : IsDurable (StateDependsOn ignored) first
   -- at first no crash could leave a bad intent
   pub good : LeavesNoBadIntent first
-  -- the events led to the state v, and none of them put a bad intent there
+  -- the events led from `first` to v, and after no edit by others was there a bad intent
   pub seen : ReachesWithoutBadIntent first events v
 
--- From the state m on, a root recovers to files with the state *HasState*, apart from the ignored names.
--- Each crash in m leaves such files. The next run that recovers works on such files, after any crashes,
--- any touches by others, and any runs, ended or stopped, that commit nothing. What others touched is then
--- ignored too.
+-- From the state m on, a root recovers to files for whose state `HasState` holds, apart from the ignored names. Each
+-- crash in m leaves such files. The next run that recovers works on such files, after any crashes, any touches by
+-- others, and any runs, ended or stopped, that commit nothing. The names that others touched are then ignored too.
 pub record RootRecoversTo (HasState : (List ℕ → Bool) → Files → Type 0) (ignored : List ℕ → Bool)
     (m : TreeState) : Type 0 where
   -- each crash leaves files of this state
@@ -49,18 +48,18 @@ pub record RootRecoversTo (HasState : (List ℕ → Bool) → Files → Type 0) 
       → IsRunFrom w next → does_recover (effect_of_arguments (command_of next.words)) ≡ true
       → IsRecoveredBy (HasState (ignored_with_all_touched later ignored)) w next
 
--- A change is refused only for what is so, or because no selection satisfies the new world. Else the
--- first preferred selection is carried out and reported. The packages are then just the selected ones,
--- unless the change is only simulated.
+-- A change is refused only for a fault that is true, or because no selection satisfies the new world. Otherwise the
+-- first preferred selection is taken and reported. The installed packages are then just the selected ones, unless the
+-- change is only simulated. `o` is the outcome of the command over these files, which are those before recovery.
 pub record EndsInTrueRefusalOrFirstSelection (command : CommandLine) (files : Files)
     (o : Outcome) : Type 0 where
   -- the outcome is one of the ends that a change can have
   pub end : IsChangeEndOrIntentRefusal command files o
-  -- if the outcome is a refusal, what it reports is so
+  -- if the outcome is a refusal, the fault that it reports is true
   pub fault : (refusal : Refusal) → o.refusal ≡ Some refusal → IsFaultOfRun command files refusal
-  -- without a refusal the preferred selection is taken
+  -- without a refusal, the first preferred selection is taken over the recovered files
   pub first : o.refusal ≡ None → TakesFirstPreferredSelection command (unstaged_files files) o
-  -- without a refusal the packages after a change that is made are the selected ones
+  -- without a refusal, and without `--simulate`, the packages after the change are the selected ones
   pub packages : o.refusal ≡ None → command.flags.simulate ≡ false
       → HasFaultlessFirstPreferredSelection command (unstaged_files files)
 
@@ -93,9 +92,9 @@ pub record IsAsPromised (ignored : List ℕ → Bool) (v : TreeState) (run : Run
       → effect_of command.applet ≡ Changes → IsOutcomeFrom v run o
       → EndsInTrueRefusalOrFirstSelection command (files_of v) o
 
--- The sentence: whatever list a root has seen, the run is as promised. If a root had one state at
--- first, it has one when the run begins, unless a run that might commit was stopped or the tree failed.
--- Even then it has one again after a crash, or after an event that *ReachesOneCrashState* names.
+-- The sentence: after any list of events that a root has seen, the run is as promised. If each crash left one state at
+-- first, each leaves one state when the run begins, unless a run that might commit was stopped or the tree failed. Even
+-- then this holds again after a crash, or after another event of *EnsuresOneCrashState*.
 abbrev pub IsAsPromisedAfterAnyEvents : TreeState → Run → Type 0
 IsAsPromisedAfterAnyEvents v run =
     (ignored : List ℕ → Bool) (first : TreeState) (events : List RootEvent)

@@ -1,5 +1,5 @@
-//! The sentence, of a call of `apk`, beside those clauses of `apk` that are about every tree, or
-//! about one run alone.
+//! The function that the program calls: `apk`, with the theorem of the README as its contract, and
+//! with those clauses of `apk` that are about every tree, or about one run alone.
 ghost use Rattle.std.specs.Prelude.{◌≡◌, IsTrue};
 ghost use Rattle.run_lists.specs.apk_front.Answers.{is_applet_help_or_version_named, IsAnswerExplainedByCounts, IsAnswerOfSomeOutcome, AnswersOutcomeUnlessMemory, IsFaultless, IsAnsweredInFullUnlessMemory, HasNoPlannedFailure, LeavesAnyFiles, LeavesFiles};
 ghost use Rattle.run_lists.specs.apk_front.Moments.{AreRecoveryTargetsAccepted, AreRunPathsFree};
@@ -19,8 +19,8 @@ use base_core::{Sink, Tree, Words};
 use run_lists::{Answer, a_run_is_safe_after_any_events, apk};
 use std::alloc::Global;
 
-/// Runs a command line on a root, by `apk`. The call is a run, and the sentence holds of it, if the
-/// history of the tree is observable.
+/// Runs a command line on a root, by `apk`. If the tree is observable, the call is a run for which
+/// the theorem holds.
 pub fn apk_as_promised<T: Tree, O: Sink, E: Sink>(
     alloc: Global,
     words: &Words,
@@ -28,7 +28,7 @@ pub fn apk_as_promised<T: Tree, O: Sink, E: Sink>(
     out: &mut O,
     err: &mut E,
 ) -> Answer
-    // The call is a run, and the sentence holds of it.
+    // On an observable tree the call is a run from the state v, and the theorem holds for this run.
     ensures promised { IfObservable (T.history tree.old) (λ v. let run : Run = record {
       words = words.now;
       old = T.history tree.old;
@@ -40,7 +40,7 @@ pub fn apk_as_promised<T: Tree, O: Sink, E: Sink>(
       answer = result;
     } in IsRunFrom v run × IsAsPromisedAfterAnyEvents v run) }
 
-    // ---- the clauses of `apk` that *IsRunFrom* does not have, as they are there
+    // ---- the clauses of `apk` that *IsRunFrom* does not have, unchanged
 
     // If no count of faults rose, the answer is the outcome's, or memory ran out.
     ensures complete { IfObservable (T.history tree.old) (λ v.
@@ -48,7 +48,8 @@ pub fn apk_as_promised<T: Tree, O: Sink, E: Sink>(
         (sink_before_and_after O.bytes O.counts out.old out.new)
         (sink_before_and_after E.bytes E.counts err.old err.new)
         → AnswersOutcomeUnlessMemory words.now (files_of v) result) }
-    // An outcome that depends on the arguments alone is answered on every tree.
+    // On every tree: an outcome that depends on the arguments alone is answered, and the tree never
+    // fails.
     ensures every_tree { IsTrue (depends_only_on_arguments (command_of words.now))
         → IsAnswerOfSomeOutcome (IsOutcome (command_of words.now) no_names) LeavesAnyFiles ⊥ result
         (sink_before_and_after O.bytes O.counts out.old out.new)
@@ -58,23 +59,29 @@ pub fn apk_as_promised<T: Tree, O: Sink, E: Sink>(
         (IsFaultCountedWithCause (T.counts tree.old) (T.counts tree.new)) result
         (sink_before_and_after O.bytes O.counts out.old out.new)
         (sink_before_and_after E.bytes E.counts err.old err.new) }
-    // A change asks the tree about each name before it commits.
+    // At each moment of a change, the tree has accepted each name to which recovery would then give
+    // other bytes than recovery at the start.
     ensures asked { effect_of_arguments (command_of words.now) ≡ Changes
         → AreRecoveryTargetsAccepted T.accepts (T.history tree.old) (T.history tree.new) }
-    // The counts of the tree and of the sinks explain the answer.
+    // The counts of the tree and of the sinks explain the answer: which call failed, if any, and
+    // why.
     ensures causes { IsAnswerExplainedByCounts result (T.counts tree.old) (T.counts tree.new)
         (sink_before_and_after O.bytes O.counts out.old out.new)
         (sink_before_and_after E.bytes E.counts err.old err.new) }
+    // No count falls, and no sink is misused.
     ensures tree_counts { CountsOnlyRise (T.counts tree.old) (T.counts tree.new) }
     ensures out_counts { IsUseWithoutMisuse
         (sink_before_and_after O.bytes O.counts out.old out.new) }
     ensures err_counts { IsUseWithoutMisuse
         (sink_before_and_after E.bytes E.counts err.old err.new) }
+    // Out of memory is answered only if the arguments name an applet, or ask for help or the
+    // version.
     ensures memory { result ≡ Answer.Memory → IsTrue (is_applet_help_or_version_named words.now) }
-    // No call is a misuse of the tree, if the paths to be written are free.
+    // No call is a misuse of the tree, if the paths that recovery and the outcome write are free.
     ensures proper { IfObservable (T.history tree.old) (λ v. AreRunPathsFree words.now (files_of v)
         → (T.counts tree.new).misuses ≡ (T.counts tree.old).misuses) }
-    // If no failure is planned, the run ends as its outcome says, unless memory runs out.
+    // If these paths are free and no failure is planned, the run ends as its outcome says, unless
+    // memory runs out.
     ensures unless_memory { IfObservable (T.history tree.old) (λ v.
         AreRunPathsFree words.now (files_of v) → HasNoPlannedFailure (T.counts tree.old)
         → HasNoPlannedFailure (O.counts out.old) → HasNoPlannedFailure (E.counts err.old)
@@ -83,8 +90,10 @@ pub fn apk_as_promised<T: Tree, O: Sink, E: Sink>(
         (T.counts tree.old) (T.counts tree.new)
         (sink_before_and_after O.bytes O.counts out.old out.new)
         (sink_before_and_after E.bytes E.counts err.old err.new)) }
+    // If the outcome depends on the arguments alone, no call is made on the tree.
     ensures untouched { IsTrue (depends_only_on_arguments (command_of words.now)) → tree.new
         ≡ tree.old }
+    // A command that only reads makes no new state of the tree.
     ensures same { IsTrue (reads_only (command_of words.now))
         → T.history tree.new ≡ T.history tree.old }
 {

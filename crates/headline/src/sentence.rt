@@ -1,5 +1,6 @@
-//! The sentence, of every run and every list of what a root has seen before it. The rules that it
-//! states are in `docs/crash-safety.md`, "Recovery", and in `docs/commands.md`, "`add` and `del`".
+//! A law: the theorem of the README holds for every run, after every list of events that a root has
+//! seen before it. The rules that the theorem states are in `docs/crash-safety.md`, "Recovery", and
+//! in `docs/commands.md`, "`add` and `del`".
 ghost use Rattle.base_core.specs.Tree.{TreeState};
 ghost use Rattle.headline.specs.Sentence.{IsAsPromisedAfterAnyEvents};
 ghost use Rattle.run_lists.specs.Events.{IsRunFrom, Run};
@@ -13,10 +14,10 @@ use run_lists::{
     a_run_is_safe_after_any_events, a_stopped_run_is_recovered, more_names_may_be_ignored,
 };
 
-/// The sentence holds of every run: whatever runs, stops, crashes and changes by others a root has
-/// seen, the run recovers to a state from before it or to that of its outcome. It recovers to the
-/// latter once the outcome is answered. What a change is refused for is so; else it carries out the
-/// first preferred selection.
+/// The theorem holds for every run, whatever runs, stops, crashes and changes by others a root has
+/// seen before it. Recovery after the run yields a state from before the run, or that of its
+/// outcome; the latter once an outcome that commits is answered. If a change is refused, the reason
+/// that it states is true. Otherwise it takes the first preferred selection.
 pub fn the_sentence_holds()
     ensures { (v : TreeState) (run : Run) → IsRunFrom v run → IsAsPromisedAfterAnyEvents v run }
 {

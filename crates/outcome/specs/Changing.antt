@@ -6,7 +6,8 @@ use Rattle.engine_core.specs.change_outcome.ChangeOutcome.{ChangeDone}
 use Rattle.report_core.specs.declared.refusal.Refusal.{Refusal}
 use Rattle.outcome.specs.Outcome.{Outcome, just_refusal, just_report}
 
--- the outcome of a change's result: the report and the files afterwards, or a refusal instead
+-- the outcome of a command, given the result of its change: the report and the files afterwards, or the refusal, which
+-- leaves `files`
 abbrev pub change_outcome : Files → Result ChangeDone Refusal → Outcome
 change_outcome files (Ok done) =
     record (just_report done.files done.report) { commits = done.commits }

@@ -29,22 +29,24 @@ use Rattle.outcome.specs.Work.{recovery_fault, files_recovered_if_needed}
 
 -- ---- the outcome of an applet
 
--- the outcome of an applet that reads its arguments only; `demo` has none here: what it runs is defined
--- in `Demo`
+-- the outcome of an applet that reads its arguments only. The last line is for other applets, for which it is not used:
+-- `demo`, among them, is defined in `Demo`
 abbrev pub outcome_from_arguments_alone : Applet → CommandLine → Files → Outcome
 outcome_from_arguments_alone Version command files = version files command.flags command.operands
 outcome_from_arguments_alone Help command files = just_report files (help_text command.operands)
 outcome_from_arguments_alone ProgramVersion command files = just_report files version_line
 outcome_from_arguments_alone other command files = just_report files []
 
--- the outcome of an applet that reads files, by what its reads find
+-- the outcome of an applet that only reads files, by what its reads find; the last line is for other applets, for which
+-- it is not used
 abbrev pub reading_outcome : Applet → CommandLine → Reads → Files → Outcome
 reading_outcome Verify command read files = verify read files command.operands
 reading_outcome Adbdump command read files = adbdump read files command.operands
 reading_outcome Adbgen command read files = adbgen read files command.operands
 reading_outcome other command read files = just_report files []
 
--- the outcome of an applet that makes a file, given the names below the folder of `mkpkg -F`
+-- the outcome of an applet that makes a file, given the names below the folder of `mkpkg -F`; the last line is for
+-- other applets, for which it is not used
 abbrev pub making_outcome : Applet → CommandLine → List (List ℕ) → Reads → Files → Outcome
 making_outcome Mkpkg command names read files = mkpkg read files command names
 making_outcome Mkndx command names read files = mkndx read files command
@@ -93,11 +95,11 @@ IsOutcomeWithoutDemo (Err place) files outcome = outcome ≡ just_refusal files 
 IsOutcomeWithoutDemo (Ok command) files outcome =
     IsOutcomeUnlessBadIntent (recovery_fault (effect_of command.applet) files) command files outcome
 
--- ---- over a tree whose files no contract knows, such as a folder of the host
+-- ---- over a tree that is not observable, such as a folder of the host
 
--- The file of an added package is read once more when a change is carried out. The change is refused if
--- the file is no longer what was tested. The refusal has the cause of some file with the length and the
--- values that the first read found, and with other contents.
+-- The file of an added package is read once more when a change is committed. The change is refused if the file is no
+-- longer what was tested. The refusal has the cause of some file with the length and the values that the first read
+-- found, and with other contents.
 pub record IsRefusedForSpoiledPackage (command : CommandLine) (read : Reads) (given : Given) (files :
     Files)
     (outcome : Outcome) : Type 0 where
@@ -107,16 +109,18 @@ pub record IsRefusedForSpoiledPackage (command : CommandLine) (read : Reads) (gi
   pub commits :
       (effect_outcome (effect_of command.applet) command.applet command given read files).commits
       ≡ true
-  -- the refusal, which is that of a spoiled package
+  -- the refusal
   pub refusal : Refusal
+  -- the refusal is that of a spoiled package among those that the reads find
   pub spoiled : IsRefusalOfSpoiledPackage
       (packages_found_after_change command read
       (selected_from_reads_by_choice command read given.chosen)) refusal
   -- the outcome is this refusal, and the files are unchanged
   pub is : outcome ≡ just_refusal files refusal
 
--- the outcome is one for some listing, some contents at each read, some files, and the first clash of
--- names among some present files; or an added package is refused as spoiled
+-- on a tree that is not observable, an outcome of a command after recovery. It is one for some listing, some contents
+-- at each read, some files, and the first clash of names among some present files; or an added package is refused as
+-- spoiled
 abbrev pub IsPossibleOutcomeAfterRecovery : CommandLine → Outcome → Type 0
 IsPossibleOutcomeAfterRecovery command outcome =
     (given : Given)
@@ -126,7 +130,7 @@ IsPossibleOutcomeAfterRecovery command outcome =
     × ((outcome ≡ effect_outcome (effect_of command.applet) command.applet command given read files)
     ⊎ IsRefusedForSpoiledPackage command read given files outcome)
 
--- some file is no sound journal entry (intent), and is refused as such; nothing is said of the tree's files
+-- the outcome is the refusal of some file that is no sound intent (journal entry); nothing is said of the tree's files
 abbrev pub IsPossibleIntentRefusal : Outcome → Type 0
 IsPossibleIntentRefusal outcome =
     (file : List ℕ)
@@ -134,8 +138,8 @@ IsPossibleIntentRefusal outcome =
     × (container_fault_except_contents IntentTable file ≡ Some cause)
     × (outcome ≡ just_refusal no_names (IntentBad cause))
 
--- the outcome of a command other than `demo` on a tree whose files no contract knows: one after recovery,
--- or the refusal of a corrupt journal entry (intent)
+-- the outcome of a command other than `demo` on a tree that is not observable: one after recovery, or the refusal of a
+-- bad intent (journal entry)
 abbrev pub IsPossibleOutcomeWithoutDemo : CommandLine → Outcome → Type 0
 IsPossibleOutcomeWithoutDemo command outcome =
     IsPossibleOutcomeAfterRecovery command outcome

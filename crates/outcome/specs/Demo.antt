@@ -11,15 +11,16 @@ use Rattle.outcome.specs.Outcome.{Outcome, just_report, just_report_unless_refus
 
 -- ---- one run after another
 
--- the outcome of the next run, given the refusal of the run before it, if there is one. A refusal ends
--- `demo`, and its outcome stays; otherwise the command line `words` is run over `files`.
+-- The outcome of the next run, given the outcome `before` of the run before it, and the refusal of that run, if there
+-- is one. After a refusal nothing more is run, and the outcome is `before`; otherwise the command line `words` is run
+-- over `files`.
 abbrev pub IsOutcomeOfNextRunUnlessRefused : Option Refusal → List (List ℕ) → Files → Outcome → Outcome
     → Type 0
 IsOutcomeOfNextRunUnlessRefused (Some refusal) words files before outcome = outcome ≡ before
 IsOutcomeOfNextRunUnlessRefused None words files before outcome =
     IsOutcomeWithoutDemo (command_of words) files outcome
 
--- the outcome of the command line `words` over `files`; a refusal by the run before it stays the outcome
+-- the outcome of the command line `words` over `files`; if the run before it was refused, its outcome `before` instead
 abbrev pub IsOutcomeOfNextRun : List (List ℕ) → Files → Outcome → Outcome → Type 0
 IsOutcomeOfNextRun words files before outcome =
     IsOutcomeOfNextRunUnlessRefused before.refusal words files before outcome
@@ -30,7 +31,7 @@ IsOutcomeOfNextRun words files before outcome =
 abbrev pub outcome_with_demo_repositories : Outcome
 outcome_with_demo_repositories = just_report (put_name no_names repositories_name demo_repositories) []
 
--- the files, to which the file that package i contains was added under its name
+-- the files, with the one file that package i will contain added under its name
 abbrev pub with_demo_file : ℕ → Files → Files
 with_demo_file i files = put_name files (demo_file i) (demo_text i)
 
@@ -58,8 +59,8 @@ IsDemoOutcomeAfterInstalling n outcome =
 
 -- ---- the report
 
--- the outcome of `demo`: the last line of the last run, or the first refusal; no file of the tree is
--- read or changed
+-- the outcome of `demo N`: a line with the last line of the last run's report, or the first refusal; no file of the
+-- tree (`files`) is read or changed
 abbrev pub IsDemoOutcome : ℕ → Files → Outcome → Type 0
 IsDemoOutcome n files outcome =
     (last : Outcome)

@@ -28,7 +28,8 @@ framing_fault done = None
 framing_fault (fault c) = Some c
 framing_fault (more b at r) = framing_fault r
 
--- the first fault of a payload's head and shape; its texts are not tested
+-- the first fault of the head of a payload, and then of the shape of its values by the table `which`; texts are not
+-- tested
 abbrev pub payload_head_or_shape_fault : Which → List ℕ → Option Cause
 payload_head_or_shape_fault which payload =
     option_or (payload_head_fault payload)
@@ -41,18 +42,20 @@ dump_fault_of_blocks which (fault c) = Some c
 dump_fault_of_blocks which (more b at r) =
     option_or (payload_head_or_shape_fault which b.payload) (framing_fault r)
 
--- the text of a container, unless a test failed
+-- the text of a container, unless a test failed with a cause
 abbrev pub text_unless_fault : Option Cause → List ℕ → Result (List ℕ) Cause
 text_unless_fault None text = Ok text
 text_unless_fault (Some cause) text = Err cause
 
--- the text of blocks with this table at their root, or the first failed test
+-- the dump text of the blocks of a file, whose root object has the fields of the table `which`; or the first failed
+-- test
 abbrev pub dump_of_blocks : Which → Reading → Result (List ℕ) Cause
 dump_of_blocks which r =
     text_unless_fault (dump_fault_of_blocks which r)
     (dump_text which (root_value which (first_block_payload r)))
 
--- the text of blocks by the table at their root; a schema that is no table of a root is refused
+-- the dump text of the blocks of a file with this schema, given the table of the schema; None means that the schema is
+-- none of a root, which is refused
 abbrev pub dump_by_root_table : ℕ → Reading → Option Which → Result (List ℕ) Cause
 dump_by_root_table schema r None = Err (WrongSchema schema)
 dump_by_root_table schema r (Some which) = dump_of_blocks which r
@@ -69,17 +72,18 @@ dump_by_schema file (Ok schema) =
 unfoldable pub dump_of : List ℕ → Result (List ℕ) Cause
 dump_of file = dump_by_schema file (schema_of_header file)
 
--- the outcome of a dump text or of a fault: the text is the report, or the operand at this place is refused
+-- the outcome with the dump text as its report; or the refusal of the operand at this place, whose file has this fault
 abbrev pub text_outcome : Files → ℕ → Result (List ℕ) Cause → Outcome
 text_outcome files place (Ok text) = just_report files text
 text_outcome files place (Err cause) = just_refusal files (FileBad place cause)
 
--- the outcome of what a read finds for the argument at a place
+-- the outcome of `adbdump`, given the file that a read finds for the argument at this place of the command line, or
+-- None
 abbrev pub dump_outcome : Files → ℕ → Option (List ℕ) → Outcome
 dump_outcome files place None = just_refusal files (FileMissing place)
 dump_outcome files place (Some bytes) = text_outcome files place (dump_of bytes)
 
--- the text of the first operand's file; the grammar gives exactly one operand
+-- the outcome of `adbdump`: the dump text of the first operand's file; the grammar allows exactly one operand
 abbrev pub adbdump : Reads → Files → List Operand → Outcome
 adbdump read files [] = just_report files []
 adbdump read files (o ∷ operands) = dump_outcome files o.place (read 0 (without_dot_slash o.text))

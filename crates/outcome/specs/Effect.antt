@@ -22,21 +22,26 @@ pub data Effect : Type 0 where
 
 -- the effect of a command, by the applet that it names
 abbrev pub effect_of : Applet → Effect
+-- applets that read their arguments only
 effect_of Version = Computes
 effect_of Demo = Computes
 effect_of Help = Computes
 effect_of ProgramVersion = Computes
+-- applets that read files, without recovery
 effect_of Verify = OnlyReadsFiles
 effect_of Adbdump = OnlyReadsFiles
 effect_of Adbgen = OnlyReadsFiles
+-- applets that report on the root
 effect_of Info = AsksRoot
 effect_of Audit = AsksRoot
 effect_of Manifest = AsksRoot
 effect_of ListApplet = AsksRoot
 effect_of Search = AsksRoot
 effect_of Policy = AsksRoot
+-- applets that make one file
 effect_of Mkpkg = Makes
 effect_of Mkndx = Makes
+-- applets that change the installed packages
 effect_of Add = Changes
 effect_of Del = Changes
 effect_of Upgrade = Changes
@@ -58,7 +63,7 @@ does_only_read AsksRoot = false
 does_only_read Makes = false
 does_only_read Changes = false
 
--- whether a command first recovers: it finishes the change of an intent that is found
+-- whether a command first recovers: it completes the change of an intent (journal entry) that is found
 abbrev pub does_recover : Effect → Bool
 does_recover Computes = false
 does_recover OnlyReadsFiles = false
@@ -76,7 +81,7 @@ output_name_for_effect Changes command = None
 
 -- ---- of a command line; a usage error reads and changes nothing
 
--- the effect of a command line; a usage error counts as a command that computes
+-- the effect of the command of parsed arguments; a usage error counts as a command that computes
 abbrev pub effect_of_arguments : Result CommandLine ℕ → Effect
 effect_of_arguments (Ok command) = effect_of command.applet
 effect_of_arguments (Err place) = Computes
@@ -86,7 +91,7 @@ abbrev pub depends_only_on_arguments : Result CommandLine ℕ → Bool
 depends_only_on_arguments (Ok command) = ignores_files (effect_of command.applet)
 depends_only_on_arguments (Err place) = true
 
--- whether a command line writes and removes no file of the root
+-- whether a command line writes and removes no file of the root, as is so for a usage error
 abbrev pub reads_only : Result CommandLine ℕ → Bool
 reads_only (Ok command) = does_only_read (effect_of command.applet)
 reads_only (Err place) = true

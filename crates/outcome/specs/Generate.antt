@@ -11,22 +11,22 @@ use Rattle.make_core.specs.make_info.Reads.{Reads}
 use Rattle.report_core.specs.declared.refusal.Refusal.TheVariants.{FileMissing, ResultTooLarge, TextBad}
 use Rattle.outcome.specs.Outcome.{Outcome, just_refusal, just_report}
 
--- the outcome of a generated container: the container is the report, or the operand at this place is
--- refused for its first bad line, or for the counts of a container that is too large
+-- the outcome with the generated container as its report, or with a refusal: of the operand at this place, for the
+-- first bad line of its text; or of a container that is too large, with its counts of bytes and values
 abbrev pub container_outcome : Files → ℕ → Result (List ℕ) GenFault → Outcome
 container_outcome files place (Ok file) = just_report files file
 container_outcome files place (Err (Bad line)) = just_refusal files (TextBad place line)
 container_outcome files place (Err (TooLarge bytes values)) =
     just_refusal files (ResultTooLarge bytes values)
--- no text gives this: *generated_file* never runs out of memory
+-- never the case: *generated_file* never runs out of memory
 container_outcome files place (Err Memory) = just_report files []
 
--- the outcome of what a read finds for the argument at a place
+-- the outcome of `adbgen`, given the file that a read finds for the argument at this place of the command line, or None
 abbrev pub generate_outcome : Files → ℕ → Option (List ℕ) → Outcome
 generate_outcome files place None = just_refusal files (FileMissing place)
 generate_outcome files place (Some text) = container_outcome files place (generated_file text)
 
--- the container of the first operand's text; the grammar gives exactly one operand
+-- the outcome of `adbgen`: the container of the first operand's text; the grammar allows exactly one operand
 abbrev pub adbgen : Reads → Files → List Operand → Outcome
 adbgen read files [] = just_report files []
 adbgen read files (o ∷ operands) = generate_outcome files o.place (read 0 (without_dot_slash o.text))

@@ -1,4 +1,4 @@
--- The parts of an outcome that relations specify, and no function computes: the names that a command
+-- The parts of an outcome that definitions only relate to the files, and do not compute: the names that a command
 -- lists, the candidates that it chooses, and the first clash of names. The rules are in
 -- `docs/commands.md`, "`mkpkg`" (`-F DIR`) and "What a change does with files" (test 2), and in
 -- `docs/selection.md`, "Which selection is taken".
@@ -21,8 +21,8 @@ use Rattle.outcome.specs.Make.{AreNamesBelowOptionFolder}
 pub record Given : Type 0 where
   -- the names below the folder of `mkpkg -F`
   pub names : List (List ℕ)
-  -- the places of the candidates that the command chooses, in the order of the choice; None if none
-  -- satisfy the world
+  -- the places of the candidates that the command chooses, in the order of the choice; None if no selection satisfies
+  -- the new world, or the command chooses nothing
   pub chosen : Option (List ℕ)
   -- the first clash of the names after a change, if there is one
   pub clash : Option NamePair
@@ -40,20 +40,22 @@ IsChoiceForCommand other command read chosen = chosen ≡ None
 
 -- ---- over these files
 
--- the names that an applet lists: `mkpkg` those below its folder, the others none
+-- `names` are those that an applet lists over these files: `mkpkg` those below the folder of `-F`, the others none
 abbrev pub AreNamesListedForApplet : Applet → CommandLine → Files → List (List ℕ) → Type 0
 AreNamesListedForApplet Mkpkg command files names =
     AreNamesBelowOptionFolder (values_of_letter FILES command.values) files names
 AreNamesListedForApplet other command files names = names ≡ []
 
--- the first clash of the names after a command, which only a change has
+-- `clash` is the first clash of names that a command with this effect makes over these files, or None; only a change
+-- has one
 abbrev pub IsFirstClashForEffect :
     Effect → CommandLine → Reads → Files → Option (List ℕ) → Option NamePair → Type 0
 IsFirstClashForEffect Changes command read files chosen clash =
     IsClashOfCommand command read files chosen clash
 IsFirstClashForEffect other command read files chosen clash = clash ≡ None
 
--- all parts that a command is given, if reads find the contents of these files
+-- `given` are the names listed, the candidates chosen and the first clash of a command over these files, by what its
+-- reads find
 pub record IsListingChoiceAndClashFor (command : CommandLine) (read : Reads) (files : Files) (given : Given)
     : Type 0 where
   -- the names that the command lists are those of the files
@@ -64,23 +66,25 @@ pub record IsListingChoiceAndClashFor (command : CommandLine) (read : Reads) (fi
   pub clash :
       IsFirstClashForEffect (effect_of command.applet) command read files given.chosen given.clash
 
--- ---- over a tree whose files no contract knows
+-- ---- over a tree that is not observable
 
--- names that an applet may list: `mkpkg` some below its folder, in byte order and each once, the others
--- none
+-- `names` are some that an applet may list: `mkpkg` some below the folder of `-F`, in byte order and each once, the
+-- others none
 abbrev pub MayBeNamesListedForApplet : Applet → CommandLine → List (List ℕ) → Type 0
 MayBeNamesListedForApplet Mkpkg command names =
     AreNamesBelowFirstFolder (values_of_letter FILES command.values) names
 MayBeNamesListedForApplet other command names = names ≡ []
 
--- the first clash of names after a command among some present files; only a change has one
+-- `clash` is the first clash of names that a command makes among some present files, or None; only a change has one.
+-- `files` decide which configuration files are kept
 abbrev pub MayBeFirstClashForEffect :
     Effect → CommandLine → Reads → Files → Option (List ℕ) → Option NamePair → Type 0
 MayBeFirstClashForEffect Changes command read files chosen clash =
     (present_files : Files) × IsClashOfCommandAmong command read files present_files chosen clash
 MayBeFirstClashForEffect other command read files chosen clash = clash ≡ None
 
--- all parts that a command may be given on a tree whose files no contract knows, by some files
+-- `given` are names that a command may list, the candidates that it chooses, and a clash that it may find, on a tree
+-- that is not observable
 pub record MayBeListingChoiceAndClashFor (command : CommandLine) (read : Reads) (files : Files)
     (given : Given)
     : Type 0 where

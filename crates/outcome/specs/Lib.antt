@@ -1,4 +1,4 @@
--- passed on: a crate above that names this one need not name these
+-- re-exported crates: a crate that depends on this one can use their definitions without depending on them too
 pub use Rattle.demo_lines.specs as demo_lines
 pub use Rattle.engine_core.specs as engine_core
 pub use Rattle.engine_core.specs.change_files as change_files
@@ -31,7 +31,7 @@ pub use Rattle.tell_core.specs.path_clashes as path_clashes
 pub use Rattle.tell_core.specs.query_core as query_core
 pub use Rattle.tell_core.specs.v2_core as v2_core
 pub use Rattle.words_core.specs as words_core
--- cited by the contract of `apk`, in the order in which it is best read
+-- modules that the contract of `apk` cites, in the order in which they are best read
 pub mod Outcome
 pub mod Words
 pub mod Commands
@@ -46,7 +46,7 @@ pub mod OutcomeOfReport
 pub mod Changing
 pub mod Given
 pub mod Demo
--- used by inner contracts and proofs only
+-- modules that only inner contracts and proofs use
 pub mod ChangeEnd
 pub mod Recovers
 pub mod Sound

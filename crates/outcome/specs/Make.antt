@@ -21,12 +21,13 @@ use Rattle.outcome.specs.Outcome.{Outcome, commit_report, just_refusal, just_rep
 
 -- ---- what is below the folder that `-F` names
 
--- the files below a folder under their whole names, with the folder in front
+-- the files below a folder; their names stay whole paths from the root, and so begin with the folder
 abbrev pub files_below : List ℕ → Files → Files
 files_below folder files name =
     if starts_with nat_eq name (folder ++ codes "/") then files name else None
 
--- exactly the names of the files below the folder, in byte order; none if no folder is given
+-- `names` are exactly the names of the files below the folder of the first value of `-F`, in byte order; none without
+-- `-F`
 abbrev pub AreNamesBelowOptionFolder : List OptionValue → Files → List (List ℕ) → Type 0
 AreNamesBelowOptionFolder [] files names = names ≡ []
 AreNamesBelowOptionFolder (folder ∷ values) files names =
@@ -40,14 +41,13 @@ outcome_unless_output_reserved files None otherwise = otherwise
 outcome_unless_output_reserved files (Some name) otherwise =
     if is_reserved name then just_refusal files (Reserved name) else otherwise
 
--- the files once an output is written: these bytes are under its name, and no file is under its scratch
--- name
+-- the files once an output is written: these bytes are under the output's name, and no file is under its scratch name
 abbrev pub files_with_output : Option (List ℕ) → List ℕ → Files → Files
 files_with_output None bytes files = files
 files_with_output (Some name) bytes files = files_after_replacement name bytes files
 
--- A container is written and reported; a fault of its input is refused. A reserved output is refused
--- after all other faults except a container that is too large.
+-- The outcome of making a container: a container that was made is written to `output` and `report` is printed; a fault
+-- is refused. A reserved output is refused after all faults of the input, and before a container that is too large.
 abbrev pub make_outcome : Files → Option (List ℕ) → List ℕ → Result (List ℕ) MakeFault → Outcome
 make_outcome files output report (Ok bytes) =
     outcome_unless_output_reserved files output
@@ -58,12 +58,12 @@ make_outcome files output report (Err (BadFile place cause)) =
 make_outcome files output report (Err (BadInfo place)) = just_refusal files (InfoBad place)
 make_outcome files output report (Err (TooLarge bytes values)) =
     outcome_unless_output_reserved files output (just_refusal files (ResultTooLarge bytes values))
--- an I/O error of the file tree, and out of memory: the definitions of what is made give neither
+-- never the case: the definitions of what is made give no I/O error of the tree, and no out of memory
 make_outcome files output report (Err Disk) = just_report files []
 make_outcome files output report (Err Memory) = just_report files []
 
--- the outcome of `mkpkg`: a package of the names below its folder, and of what reads find; nothing is
--- reported
+-- the outcome of `mkpkg`: a package of the files under `names`, which are below the folder of `-F`, as reads find them;
+-- nothing is printed
 abbrev pub mkpkg : Reads → Files → CommandLine → List (List ℕ) → Outcome
 mkpkg read files command names =
     make_outcome files (output_name command) [] (made_package command names read)

@@ -1,5 +1,5 @@
 -- The outcome of a command. The rules are in `docs/commands.md`, "Answers and statuses": the rows of
--- done and refused.
+-- the answers done and refused.
 use Rattle.std.specs.Prelude.{ℕ, Bool, true, false, List, [], Option, Some, None}
 use Rattle.base_core.specs.Files.{Files}
 use Rattle.report_core.specs.Texts.{refusal_line}
@@ -13,7 +13,7 @@ pub record Outcome : Type 0 where
   pub out : List ℕ
   -- the bytes that are printed on standard error
   pub err : List ℕ
-  -- the files afterwards
+  -- the files after the run
   pub files : Files
   -- whether the run writes or removes files
   pub commits : Bool
@@ -33,7 +33,7 @@ outcome_without_commit refusal report files = record {
   commits = false;
 }
 
--- the outcome with a report, whose files are written
+-- the outcome with a report, without a refusal, that commits and leaves these files
 abbrev pub commit_report : Files → List ℕ → Outcome
 commit_report files report = record (outcome_without_commit None report files) { commits = true }
 

@@ -6,8 +6,8 @@ use Rattle.tell_core.specs.installed_info.declared.telling.ReportAndRefusal.{Rep
 use Rattle.report_core.specs.declared.refusal.Refusal.{Refusal}
 use Rattle.outcome.specs.Outcome.{Outcome, just_refusal, outcome_without_commit}
 
--- the outcome of a report: it is printed, with the refusal after it, if there is one; or a refusal
--- instead. Nothing is written.
+-- the outcome of a command that only reports: its report, with the refusal after it, if there is one; or a refusal
+-- instead of a report. The files are unchanged.
 abbrev pub outcome_of_report : Files → Result ReportAndRefusal Refusal → Outcome
 outcome_of_report files (Ok done) = outcome_without_commit done.following_refusal done.report files
 outcome_of_report files (Err refusal) = just_refusal files refusal

@@ -7,18 +7,22 @@ use Rattle.command_core.specs.declared.command.Applet.TheVariants.{Adbdump, Adbg
 -- whether an applet has to recover first: the applets that report on or change what is installed, and
 -- those that make a file below the root
 abbrev pub must_recover : Applet → Bool
+-- applets that change the installed packages
 must_recover Add = true
 must_recover Del = true
 must_recover Upgrade = true
 must_recover Fix = true
+-- applets that report on the root
 must_recover Info = true
 must_recover Audit = true
 must_recover Manifest = true
 must_recover ListApplet = true
 must_recover Search = true
 must_recover Policy = true
+-- applets that make one file
 must_recover Mkpkg = true
 must_recover Mkndx = true
+-- applets that leave the root as it is, without recovery
 must_recover Verify = false
 must_recover Adbdump = false
 must_recover Adbgen = false

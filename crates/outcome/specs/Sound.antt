@@ -1,5 +1,5 @@
--- When a file that a command leaves is a sound container. The rule is in `docs/formats.md`, "Tests of a
--- container"; it serves the law `what_is_made_is_sound`.
+-- When a file that a command leaves is a sound container. The rule is in `docs/formats.md`, "Tests of a container". The
+-- definition serves the law `what_is_made_is_sound`.
 use Rattle.std.specs.Prelude.{◌≡◌, ℕ, ◌<◌, ◌^◌, List, length, Some, None}
 use Rattle.base_core.specs.Files.{Files}
 use Rattle.make_core.specs.pkg_core.Whole.{container_fault}

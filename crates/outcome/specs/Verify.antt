@@ -12,24 +12,24 @@ use Rattle.command_core.specs.declared.operands.Operand.{Operand}
 use Rattle.make_core.specs.pkg_core.Whole.{container_fault}
 use Rattle.outcome.specs.Outcome.{Outcome, just_report_unless_refusal}
 
--- the refusal of a file that fails a test
+-- the refusal of the file at this place of the command line, if it fails a test with a cause
 abbrev pub refusal_if_file_bad : ℕ → Option Cause → Option Refusal
 refusal_if_file_bad place None = None
 refusal_if_file_bad place (Some cause) = Some (FileBad place cause)
 
--- the refusal of what a read finds for the argument at a place, if it is no sound container
+-- the refusal of what a read finds for the argument at this place, if it is absent or no sound container
 abbrev pub file_refusal : ℕ → Option (List ℕ) → Option Refusal
 file_refusal place None = Some (FileMissing place)
 file_refusal place (Some bytes) = refusal_if_file_bad place (container_fault bytes)
 
--- the refusal of the first missing or bad file, operand by operand; the first file has the read number `n`
+-- the refusal of the first missing or bad file, operand by operand; the file of the first operand is read number `n`
 abbrev pub verify_refusal : Reads → ℕ → List Operand → Option Refusal
 verify_refusal read n [] = None
 verify_refusal read n (o ∷ operands) =
     option_or (file_refusal o.place (read n (without_dot_slash o.text)))
     (verify_refusal read (n + 1) operands)
 
--- what is printed for a sound file
+-- the line `FILE: OK` that is printed for a sound file with this name
 abbrev pub sound_line : List ℕ → List ℕ
 sound_line file = file ++ codes ": OK\n"
 

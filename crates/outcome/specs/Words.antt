@@ -26,17 +26,18 @@ abbrev pub IsOutcome : Result CommandLine ℕ → Files → Outcome → Type 0
 IsOutcome (Err place) files outcome = outcome ≡ just_refusal files (Usage place)
 IsOutcome (Ok command) files outcome = IsOutcomeOfApplet command.applet command files outcome
 
--- ---- over a tree whose files no contract knows
+-- ---- over a tree that is not observable
 
--- *IsOutcomeOfApplet* on a tree whose files no contract knows: `demo` depends on no files
+-- *IsOutcomeOfApplet* on a tree that is not observable: the report and the refusal of `demo` depend on no files; the
+-- files afterwards are none here
 abbrev pub IsPossibleOutcomeOfApplet : Applet → CommandLine → Outcome → Type 0
 IsPossibleOutcomeOfApplet Demo command outcome =
     IsDemoOutcome (demo_count command.operands) no_names outcome
 IsPossibleOutcomeOfApplet other command outcome = IsPossibleOutcomeWithoutDemo command outcome
 
--- An outcome of parsed arguments on a tree whose files no contract knows: for some listing, some contents
--- (or none) at each read and of the journal entry, and some files. Nothing is said of the files
--- afterwards: for a usage error they are none here.
+-- An outcome of parsed arguments on a tree that is not observable: for some listing, some contents (or none) at each
+-- read and of the journal entry, and some files. Nothing is said of the files afterwards: for a usage error they are
+-- none here.
 abbrev pub IsPossibleOutcome : Result CommandLine ℕ → Outcome → Type 0
 IsPossibleOutcome (Err place) outcome = outcome ≡ just_refusal no_names (Usage place)
 IsPossibleOutcome (Ok command) outcome = IsPossibleOutcomeOfApplet command.applet command outcome

@@ -17,12 +17,12 @@ files_recovered_if_needed AsksRoot files = unstaged_files files
 files_recovered_if_needed Makes files = unstaged_files files
 files_recovered_if_needed Changes files = unstaged_files files
 
--- why the file under the intent's name is no intent container; without a file there is no fault
+-- the first test of an intent that the file under the intent's name fails; without a file there is no fault
 abbrev pub fault_of_intent : Option (List ℕ) → Option Cause
 fault_of_intent None = None
 fault_of_intent (Some file) = container_fault_except_contents IntentTable file
 
--- why a command cannot recover these files, if it has to
+-- the fault of the intent in these files, if the command recovers; a command with such a fault is refused
 abbrev pub recovery_fault : Effect → Files → Option Cause
 recovery_fault Computes files = None
 recovery_fault OnlyReadsFiles files = None

@@ -1,5 +1,5 @@
-//! The outcome of every command: its answer, output and files, as a function of its arguments and
-//! of the files of the tree.
+//! The outcome of every command: its answer, output and files, defined by its arguments and by the
+//! files of the tree. The contract of `apk` (`apk_front`) cites these definitions.
 //!
 //! This is a crate of definitions. The modules of `specs/` are:
 //! - `Outcome`: the parts of a command's outcome;
@@ -13,7 +13,7 @@
 //! - `ChangeEnd`, `Recovers`, `Sound`: cited by laws: how a change ends, which commands recover,
 //!   and when a file is a sound container.
 //!
-//! The functions are laws: they do nothing, and their contracts say what follows from the
+//! The functions are laws: they compute nothing, and their contracts say what follows from the
 //! definitions, for all arguments and files. The rules are in `docs/commands.md`, in the sections
 //! that the heads of the files of `specs/` name.
 #![tactic(auto)]
@@ -56,7 +56,7 @@ use gen_core::sound_containers_hold_sound_values;
 use make_core::{a_made_index_is_sound, a_made_package_is_sound};
 use tell_core::info_refuses_only_for_an_operand;
 
-/// A command line has an outcome over any files under finitely many names.
+/// A command line has an outcome over any files, if all their names are in a list (`within`).
 pub fn an_outcome_exists()
     ensures { (words within : List (List ℕ)) (files : Files)
         → HasNamesAmong within files → (o : Outcome) × IsOutcome (command_of words) files o }
@@ -78,7 +78,7 @@ pub fn an_outcome_is_unique()
     a_change_has_a_first_clash_or_none();
 }
 
-/// A command has at most one outcome over the files on which it works.
+/// A command has at most one outcome over the files on which it works, after recovery.
 pub fn an_outcome_over_files_is_unique()
     ensures { (command : CommandLine) (files : Files) (a b : Outcome)
         → IsOutcomeOverRecoveredFiles command files a
@@ -196,8 +196,8 @@ pub fn a_command_recovers()
     a_change_that_writes_nothing_leaves_the_files();
 }
 
-/// A command that recovers is refused for a bad intent only if the intent is bad. It reports the
-/// first test that the intent fails.
+/// A command that recovers is refused for a bad intent only if the intent is bad. The refusal
+/// reports the first test that the intent fails.
 pub fn only_a_bad_intent_is_refused_as_one()
     ensures { (words : List (List ℕ)) (files : Files) (o : Outcome) (cause : Cause)
         → does_recover (effect_of_arguments (command_of words)) ≡ true
@@ -210,7 +210,7 @@ pub fn only_a_bad_intent_is_refused_as_one()
     a_change_takes_the_first_selection_or_is_refused();
 }
 
-/// A command that only reports is refused for its input alone. The refusal replaces its report or
+/// A command that only reports is refused for its input alone. The refusal replaces the report, or
 /// follows it.
 pub fn a_reporting_command_is_refused_for_its_input()
     // The refusal replaces the report.
@@ -254,8 +254,8 @@ pub fn a_change_takes_the_first_selection_or_is_refused()
     a_change_that_is_made_passes_each_test();
 }
 
-/// A change leaves room for the next one: recovery finds no intent, there is no staged file, and
-/// the paths that a stage may create are free.
+/// After a change that is not refused, there is no staged file, and the paths that recovery and the
+/// next change write are free. The recovered files before the change must meet the same conditions.
 pub fn a_change_leaves_free_paths_for_the_next()
     ensures { (words : List (List ℕ)) (files : Files) (o : Outcome)
         → effect_of_arguments (command_of words) ≡ Changes → IsOutcome (command_of words) files o
@@ -269,9 +269,9 @@ pub fn a_change_leaves_free_paths_for_the_next()
     an_intent_is_read_from_a_sound_container();
 }
 
-/// An outcome that depends on the arguments alone is the same over all other files, which it
-/// leaves. It is that of a usage error, of `version`, of `demo`, of `--help` or of `--version`
-/// (`docs/commands.md`, "Words" and the sections of these commands).
+/// An outcome that depends on the arguments alone has the same refusal and output over all other
+/// files, and leaves these. It is that of a usage error, of `version`, of `demo`, of `--help` or of
+/// `--version` (`docs/commands.md`, "Words" and the sections of these commands).
 pub fn an_outcome_of_arguments_is_the_same_on_every_tree()
     ensures { (words : List (List ℕ)) (files others : Files) (o : Outcome)
         → IsTrue (depends_only_on_arguments (command_of words))
@@ -289,7 +289,8 @@ fn words_alone_are_the_same_everywhere()
         → IsOutcomeWithoutDemo read others (outcome_without_commit o.refusal o.out others) }
 {}
 
-/// The names below a folder, as a tree lists them, are those of its files.
+/// The list of names that a tree gives for a folder has exactly the names of the tree's files below
+/// this folder, in byte order.
 pub fn a_listing_of_a_tree_is_that_of_its_files()
     ensures { (folder : List ℕ) (v : TreeState) (names : List (List ℕ))
         → IsSortedListingOfFolder folder v names
@@ -297,7 +298,7 @@ pub fn a_listing_of_a_tree_is_that_of_its_files()
 {}
 
 /// The file that `mkpkg` or `mkndx` leaves as its output passes all tests of a container, if it has
-/// fewer than 2^64 bytes. This holds in every state of a tree.
+/// fewer than 2^64 bytes. This holds for every well-formed state of a tree in which the run begins.
 pub fn what_is_made_is_sound()
     ensures { (words : List (List ℕ)) (v : TreeState) (o : Outcome) (name : List ℕ)
         → IsWellFormed v → IsOutcome (command_of words) (files_of v) o → o.refusal ≡ None
@@ -311,6 +312,7 @@ pub fn what_is_made_is_sound()
     a_made_index_is_sound();
 }
 
+// Functions and laws of crates on which this one depends, for crates that depend on this one.
 pub use demo_lines::{
     add_words, demo_count, demo_file, demo_line, demo_repositories, demo_text, mkndx_words,
     mkpkg_words,

@@ -13,12 +13,14 @@ IsOneLine text = list_any is_line_end text ≡ false
 abbrev pub AreWholeLines : List ℕ → Type 0
 AreWholeLines text = (text ≡ []) ⊎ ((before : List ℕ) × (text ≡ before ++ codes "\n"))
 
--- the name is that of one of n packages, on which no other of them depends: from the second on, each
--- depends on the package of half its number, rounded down
+-- The name is that of one of n packages, on which no other of these packages depends. Package j, from the second on,
+-- depends on package j / 2 (rounded down).
 pub record IsDemoPackageNeededByNone (n : ℕ) (name : List ℕ) : Type 0 where
   -- the number of the package, from 1 to n
   pub number : ℕ
+  -- the number is at least 1
   pub least : 1 ≤ number
+  -- the number is at most n
   pub most : number ≤ n
   -- the name is that of the package with this number
   pub named : name ≡ demo_package_name number

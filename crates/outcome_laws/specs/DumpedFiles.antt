@@ -18,37 +18,39 @@ use Rattle.container_laws.specs.adb_schema.Soundness.{payload_in, root_value}
 use Rattle.adb_view.specs.declared.tables.Which.{Which}
 use Rattle.container_laws.specs.pkg_core.Whole.{table_of_schema}
 
--- a text is that of the value of a file, by the table that the schema of its header has at its root
+-- `text` is the dump text of the value of a file, by the table that the schema in the file's header has at its root
 pub record HasDumpTextOfRootValue (file text : List ℕ) : Type 0 where
   -- the schema number in the header of the file
   pub schema : ℕ
+  -- the header has this schema
   pub header : schema_of_header file ≡ Ok schema
   -- the table that this schema has at its root
   pub which : Which
+  -- the schema has this table at its root
   pub root : table_of_schema schema ≡ Some which
   -- the text is that of the value of the file, by this table
   pub text_is : text ≡ dump_text which (root_value which (payload_in file))
 
 -- ---- why a file is not printed
 
--- the tests of what is printed: the head of the first block's payload, the shapes of its values, and
--- the framing of the further blocks
+-- the results of three tests of the blocks of a file: of the head of the first block's payload, of the shapes of its
+-- values, and of the framing of the blocks after it (`behind`)
 abbrev pub tests_of_printed : Which → List ℕ → Reading → List (Option Cause)
 tests_of_printed which payload behind =
     payload_head_fault payload
     ∷ (shape_fault payload (shape_of (Obj which)) (root_word_of_payload payload)
     ∷ (framing_fault behind ∷ []))
 
--- the fault of a file's blocks: the first block is bad; or it is good, and the fault is that of the
--- first failed test
+-- `c` is the fault of the blocks of a file: the framing of the first block has this fault; or it has none, and `c` is
+-- the cause of the first failed test of the three
 abbrev pub IsFaultOfPrinted : Which → Reading → Cause → Type 0
 IsFaultOfPrinted which r c =
     (r ≡ fault c)
     ⊎ ((b : Piece) × (at : ℕ) × (behind : Reading) × (r ≡ more b at behind)
     × IsFirstFailing (tests_of_printed which b.payload behind) c)
 
--- the fault for which a file is not printed: of its header, then that its schema is none of the four,
--- then of its blocks
+-- `c` is the fault for which `adbdump` refuses a file: that of its header; or else that its schema is none of the four;
+-- or else that of its blocks
 abbrev pub IsDumpRefusalCause : List ℕ → Cause → Type 0
 IsDumpRefusalCause file c =
     (schema_of_header file ≡ Err c)

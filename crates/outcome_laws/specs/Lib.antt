@@ -1,4 +1,4 @@
--- what the laws say
+-- modules that the laws of this crate cite
 pub mod TestedFiles
 pub mod DumpedFiles
 pub mod CheckedVersions

@@ -12,15 +12,16 @@ use Rattle.outcome.specs.Outcome.{Outcome}
 
 -- ---- reserved names
 
--- four names; they and all names below them are reserved
+-- the four names that are reserved, with all names below them
 abbrev pub four_names : List (List ℕ)
 four_names = codes "etc/apk/world" ∷ codes "lib/apk/intent" ∷ codes "lib/apk/stage" ∷
     codes "lib/apk/db" ∷ []
 
 -- a name is one of the four, or one of them followed by a slash and by more
 pub record IsReservedName (name : List ℕ) : Type 0 where
-  -- one of the four names
+  -- the one of the four names
   pub top : List ℕ
+  -- it is one of the four
   pub listed : IsIn top four_names
   -- the name is this one, or it is below it
   pub below : (name ≡ top) ⊎ ((rest : List ℕ) × (name ≡ top ++ codes "/" ++ rest))
@@ -31,8 +32,7 @@ IsUnreserved output = (name : List ℕ) → output ≡ Some name → IsReservedN
 
 -- ---- outcomes
 
--- the command is refused: it prints the line of the refusal on standard error, and nothing else, and
--- writes nothing
+-- the outcome is this refusal: the command prints only the line of the refusal, on standard error, and writes nothing
 pub record IsRefusedWith (refusal : Refusal) (files : Files) (outcome : Outcome) : Type 0 where
   -- the outcome is this refusal
   pub refused : outcome.refusal ≡ Some refusal
@@ -77,7 +77,7 @@ pub record IsOutputWrittenAndReported (output : Option (List ℕ)) (bytes report
 
 -- ---- what was made
 
--- the refusal of a fault of the input, which is a file that is absent or bad, or a bad value of `-I`
+-- the refusal of a fault of the input: a file that is absent or bad, or a bad value of `-I`; None for any other fault
 abbrev pub refusal_if_input_fault : MakeFault → Option Refusal
 refusal_if_input_fault (NoFile place) = Some (FileMissing place)
 refusal_if_input_fault (BadFile place cause) = Some (FileBad place cause)

@@ -11,13 +11,14 @@ use Rattle.report_core.specs.declared.refusal.Refusal.TheVariants.{FileBad, File
 
 -- a file was found, and passes every test of a container
 pub record IsFoundSound (found : Option (List ℕ)) : Type 0 where
-  -- the bytes that were found
+  -- the bytes of the file
   pub file : List ℕ
+  -- the file was found with these bytes
   pub is : found ≡ Some file
-  -- they pass every test of a container
+  -- the bytes pass every test of a container
   pub passes : PassesEveryContainerTest file
 
--- the read with an operand's number, from 0, finds a file that passes every test
+-- if there is an operand with index i, counted from 0, read number i finds under its name a file that passes every test
 abbrev pub IsOperandSound : Reads → List Operand → ℕ → Type 0
 IsOperandSound read operands i =
     (o : Operand) → slice_get operands i ≡ Some o → IsFoundSound (read i (without_dot_slash o.text))
@@ -26,8 +27,8 @@ IsOperandSound read operands i =
 abbrev pub AreFilesSound : Reads → List Operand → Type 0
 AreFilesSound read operands = (i : ℕ) → IsOperandSound read operands i
 
--- the refusal of what was found for the operand at a place: it is absent, or fails a test, whose cause
--- is reported
+-- the refusal of what was found for the operand at this place of the command line: the file is absent, or fails a test,
+-- whose cause is reported
 abbrev pub IsFileRefusal : Option (List ℕ) → ℕ → Refusal → Type 0
 IsFileRefusal None place refusal = refusal ≡ FileMissing place
 IsFileRefusal (Some file) place refusal =
@@ -38,7 +39,9 @@ pub record IsRefusalOfFirstUnsoundFile (read : Reads) (operands : List Operand)
     (refusal : Refusal) : Type 0 where
   -- the index of the operand, counted from 0
   pub number : ℕ
+  -- the operand with this index
   pub operand : Operand
+  -- the operand has this index among all operands
   pub at : slice_get operands number ≡ Some operand
   -- the refusal is that of the file under this operand
   pub refused : IsFileRefusal (read number (without_dot_slash operand.text)) operand.place refusal

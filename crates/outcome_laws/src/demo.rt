@@ -11,20 +11,20 @@ ghost use Rattle.outcome.specs.demo_lines.Report.{demo_line};
 ghost use Rattle.outcome_laws.specs.DemoLines.{AreWholeLines, IsDemoPackageNeededByNone, IsOneLine};
 ghost use Rattle.report_core.specs.Reports.{report_line};
 
-/// `demo` prints one line: `demo N: ` and the last line of a report, whatever whole lines precede
-/// it.
+/// `demo` prints one line: `demo N: ` and then the last line of a report. `front` are the lines of
+/// the report before its last one.
 pub fn demo_prints_the_last_line_of_a_report()
     ensures { (n : ℕ) (front line : List ℕ) → AreWholeLines front → IsOneLine line
         → demo_line n (front ++ report_line line)
         ≡ report_line (codes "demo " ++ decimal n ++ codes ": " ++ line) }
 {}
 
-/// The number of packages is that of the operand.
+/// The number of packages that `demo` makes is that of its operand.
 pub fn demo_makes_as_many_packages_as_its_operand_says()
     ensures { (n : ℕ) (o : Operand) → n < 2 ^ 64 → o.text ≡ decimal n → demo_count (o ∷ []) ≡ n }
 {}
 
-/// Of n packages exactly those are added on which no other one depends.
+/// Of n packages, `demo` adds exactly those on which no other package depends.
 pub fn demo_adds_the_packages_on_which_no_other_depends()
     ensures { (n : ℕ) (name : List ℕ) → IsIn name (names_not_needed_by_first_n n n)
         ↔ IsDemoPackageNeededByNone n name }

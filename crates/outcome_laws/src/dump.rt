@@ -13,8 +13,8 @@ ghost use Rattle.outcome_laws.specs.DumpedFiles.{HasDumpTextOfRootValue, IsDumpR
 ghost use Rattle.report_core.specs.declared.refusal.Refusal.{Refusal};
 ghost use Rattle.report_core.specs.declared.refusal.Refusal.TheVariants.{FileBad, FileMissing};
 
-/// Unless it is refused, `adbdump` prints the text of the file's value: that of its first block, by
-/// the schema of its header.
+/// Unless `adbdump` is refused, it prints the dump text of the value of the file: the value in the
+/// file's first block, by the schema in the file's header.
 pub fn adbdump_prints_the_text_of_the_value()
     ensures { (read : Reads) (files : Files) (o : Operand) (file : List ℕ)
         → read 0 (without_dot_slash o.text) ≡ Some file
@@ -35,10 +35,10 @@ pub fn adbdump_prints_what_passes_every_test()
         → (adbdump read files (o ∷ [])).refusal ≡ Some (FileMissing o.place) }
 {}
 
-/// The cause for which `adbdump` refuses a file is that of the first failed test. The order is: the
-/// header, the schema, which is one of the four, the first block, the head of its payload, the
-/// shapes of its values, the framing of the further blocks. It is refused exactly if one of them
-/// fails, and prints nothing then. The files stay as they are.
+/// The cause for which `adbdump` refuses a file is that of the first failed test. The tests are, in
+/// this order: the header; that the schema is one of the four; the first block; the head of its
+/// payload; the shapes of its values; the framing of the further blocks. `adbdump` is refused
+/// exactly if one of these tests fails, and prints nothing then. The files stay as they are.
 pub fn adbdump_refuses_the_first_failed_test()
     // The cause is the first test that the file fails.
     ensures refused { (read : Reads) (files : Files) (o : Operand) (file : List ℕ) (cause : Cause)
@@ -54,6 +54,7 @@ pub fn adbdump_refuses_the_first_failed_test()
     ensures nothing { (read : Reads) (files : Files) (o : Operand)
         → is_some (adbdump read files (o ∷ [])).refusal ≡ true
         → (adbdump read files (o ∷ [])).out ≡ [] }
+    // The files are unchanged.
     ensures same { (read : Reads) (files : Files) (o : Operand)
         → (adbdump read files (o ∷ [])).files ≡ files }
 {}

@@ -1,7 +1,7 @@
 //! Laws above the outcomes of `verify`, `adbdump`, `version`, `demo`, `mkpkg` and `mkndx`.
 //!
-//! Each is a function that does nothing; its contract is what it says. The rules are in
-//! `docs/commands.md`, in the section of each command.
+//! Each law is a function that computes nothing; the theorem is its contract. No other crate calls
+//! these laws. The rules are in `docs/commands.md`, in the section of each command.
 #![tactic(auto)]
 
 pub mod demo;

@@ -40,7 +40,7 @@ pub fn a_reserved_output_is_reported_before_a_result_that_is_too_large()
 {}
 
 /// A container that is made is written to its output, if this is not reserved, and the report is
-/// printed. No file is left under the scratch name, and each other file stays as it is.
+/// printed. No file is left under the scratch name, and each other file is unchanged.
 pub fn a_made_container_is_written_to_its_output()
     ensures { (files : Files) (output : Option (List ℕ)) (report bytes : List ℕ)
         → IsUnreserved output

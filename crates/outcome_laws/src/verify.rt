@@ -17,8 +17,8 @@ pub fn verify_is_not_refused_if_every_test_holds()
         → ((verify read files operands).refusal ≡ None) ↔ AreFilesSound read operands }
 {}
 
-/// `verify` is refused for the first file that is absent, or that fails a test; the cause is that
-/// of its first failed test.
+/// `verify` is refused for the first file that is absent, or that fails a test; the refusal has the
+/// cause of the first test that this file fails.
 pub fn verify_refuses_the_first_bad_file()
     ensures { (read : Reads) (files : Files) (operands : List Operand) (refusal : Refusal)
         → (verify read files operands).refusal ≡ Some refusal

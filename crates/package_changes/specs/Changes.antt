@@ -18,14 +18,13 @@ use Rattle.std.specs.Option.{option_cmp}
 use Rattle.version_core.specs.Order.{version_cmp}
 use Rattle.report_core.specs.Reports.{Change, Downgrade, Install, Purge, Reinstall, Replace, Upgrade}
 
--- a replacement: the packages before, the selected candidates, and the names that are to be installed
--- again
+-- a replacement of the packages before a change by selected candidates
 pub record Replacement : Type 0 where
   -- the packages that are installed before the change
   pub before : List Plain
   -- the candidates that are to be installed after it
   pub selected : List Candidate
-  -- names of packages to be installed again, though they are installed
+  -- the names of packages to be installed again, though the selected candidate is already installed
   pub again : List (List ℕ)
 
 -- the text of a candidate's version, as the index or the database has it
@@ -36,37 +35,38 @@ candidate_version_text c = text_in (entry_in c.info INFO_VERSION)
 abbrev pub is_candidate_named : List ℕ → Candidate → Bool
 is_candidate_named name c = bytes_eq c.name name
 
--- whether a candidate is an installed package with this version and this id: it is of no
--- repository, or has the same text and the same id
+-- Whether a candidate is the installed package that has this text of a version and this id: the candidate is of no
+-- repository (then it comes from the database), or has the same text and the same id.
 abbrev pub is_installed_with_version_and_id : List ℕ → List ℕ → Candidate → Bool
 is_installed_with_version_and_id version id c =
     not (is_some c.repository) || (bytes_eq version (candidate_version_text c) && is_same_id id c.id)
 
--- whether a candidate is this very package of the database, so that the package is kept as it is
+-- whether a candidate is this package of the database itself, so that the package is kept as it is
 abbrev pub is_candidate_this_package : Plain → Candidate → Bool
 is_candidate_this_package pkg c =
     is_installed_with_version_and_id (package_version_text pkg) (installed_id pkg) c
 
--- the change of a package from one version to another, by their order
+-- the change of the package `name` from the version `old` to the version `new`, given the order of old and new
 abbrev pub version_change : List ℕ → List ℕ → List ℕ → Ordering → Change
 version_change name old new Less = Upgrade name old new
 version_change name old new Equal = Replace name old new
 version_change name old new Greater = Downgrade name old new
 
--- the order of the texts of two versions; a text that is no version is first, and no tested container
--- has one
+-- the order of two texts of versions; a text that is no version precedes every version (no tested container has such a
+-- text)
 abbrev pub version_text_cmp : List ℕ → List ℕ → Ordering
 version_text_cmp old new = option_cmp version_cmp (version_of_text old) (version_of_text new)
 
--- the change of a package whose candidate is selected: none if the candidate is the package, unless it
--- is to be installed again
+-- The change of the package `name`, installed as `pkg`, for which the candidate `c` is selected. `is_same` says whether
+-- the candidate is the package itself: then nothing changes, or the package is reinstalled if `is_again` is true.
 abbrev pub change_unless_same : List ℕ → Plain → Candidate → Bool → Bool → Option Change
 change_unless_same name pkg c is_same is_again =
     if not is_same then Some (version_change name (package_version_text pkg) (candidate_version_text c)
     (version_text_cmp (package_version_text pkg) (candidate_version_text c)))
     else if is_again then Some (Reinstall name (candidate_version_text c)) else None
 
--- the change of a name, given the package before and the selected candidate, if there are any
+-- the change of a name, given the package before and the selected candidate with this name, each None if absent;
+-- `is_again` says whether the name is to be installed again
 abbrev pub change_between : Bool → List ℕ → Option Plain → Option Candidate → Option Change
 change_between is_again name None None = None
 change_between is_again name None (Some c) = Some (Install name (candidate_version_text c))

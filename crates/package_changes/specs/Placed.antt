@@ -1,5 +1,5 @@
--- The changes of a selection, with the places of their packages.
--- The rules are those of *Changes*.
+-- The changes of a selection, with the places of the packages in the database and among the candidates. The rules are
+-- those of the definitions in `Changes`.
 use Rattle.std.specs.Prelude.{ℕ, List, Option, bytes_eq, map, option_map, option_and_then, slice_get}
 use Rattle.std.specs.List.{filter_map, find, list_any, position_from}
 use Rattle.adb_view.specs.Plain.{Plain}
@@ -9,16 +9,15 @@ use Rattle.solve_core.specs.candidate_core.Rank.{SealedPool, candidate_at, candi
 use Rattle.report_core.specs.Reports.{Change}
 use Rattle.package_changes.specs.Changes.{Replacement, change_between, is_candidate_named, names_before_and_selected}
 
--- a replacement, by places: the packages before, the candidates, the places of the selected ones among
--- them, and the names that are to be installed again
+-- a replacement in which the selected candidates are given by their places in the list of all candidates
 pub record PlacedReplacement : Type 0 where
   -- the packages that are installed before the change
   pub before : List Plain
-  -- the candidates, under the new world
+  -- all candidates, with the new world
   pub pool : SealedPool
   -- the places of the selected candidates in the list of candidates
   pub trace : List ℕ
-  -- names of packages to be installed again, though they are installed
+  -- the names of packages to be installed again, though the selected candidate is already installed
   pub again : List (List ℕ)
 
 -- the candidates at places, in the order of the places
@@ -30,21 +29,22 @@ abbrev pub replacement_of : PlacedReplacement → Replacement
 replacement_of p =
     record { before = p.before; selected = candidates_at p.pool p.trace; again = p.again }
 
--- the place among the candidates of the selected one with this name, if one has it
+-- the place, among all candidates, of the first selected candidate with this name (`trace` are the places of the
+-- selected ones); None if none has it
 abbrev pub selected_place : SealedPool → List ℕ → List ℕ → Option ℕ
 selected_place pool trace name = find (candidate_at_passes pool (is_candidate_named name)) trace
 
--- the change of a package (`change`); its place among the packages before, counted from 0, if it was
--- there (`old`); and the place of its candidate, if one is selected (`new`)
+-- the change of a package, with its places before and after the change
 pub record PlacedChange : Type 0 where
   -- the change, such as an installation or an upgrade
   pub change : Change
-  -- the package's place before the change, counted from 0
+  -- the package's place among the packages before the change, counted from 0; None if it was not installed
   pub old : Option ℕ
-  -- the place of the selected candidate, counted from 0
+  -- the place of the selected candidate among all candidates, counted from 0; None if none is selected
   pub new : Option ℕ
 
--- the change of the package of this name, with its two places; none if the package is kept
+-- the change of the package with this name, which has the place `old` among the packages before and whose candidate has
+-- the place `new`, with these places; None if the package is kept
 abbrev pub placed_change_with :
     List Plain → SealedPool → List (List ℕ) → List ℕ → Option ℕ → Option ℕ → Option PlacedChange
 placed_change_with before pool again name old new =
@@ -52,7 +52,8 @@ placed_change_with before pool again name old new =
     (change_between (list_any (bytes_eq name) again) name (option_and_then (slice_get before) old)
     (option_and_then (candidate_at pool) new))
 
--- the change of the package of this name, with its place in the database and its candidate's; none if it is kept
+-- the change of the package with this name, with its places among the packages before and among the candidates; None if
+-- the package is kept
 unfoldable pub placed_change_of : PlacedReplacement → List ℕ → Option PlacedChange
 placed_change_of p name =
     placed_change_with p.before p.pool p.again name
@@ -64,19 +65,19 @@ placed_changes_of p = filter_map (placed_change_of p) (names_before_and_selected
 
 -- ---- each name of a package before or of a selected candidate
 
--- a name of a package before or of a selected candidate; the change of the package, if it changes; and
--- its two places, as in *PlacedChange*
+-- a name of a package before or of a selected candidate, with what happens to the package
 pub record PlacedName : Type 0 where
   -- the name
   pub name : List ℕ
   -- the change of the package with this name, if it changes
   pub change : Option Change
-  -- the package's place before the change, counted from 0
+  -- the package's place among the packages before the change, counted from 0; None if it was not installed
   pub old : Option ℕ
-  -- the place of the selected candidate, counted from 0
+  -- the place of the selected candidate among all candidates, counted from 0; None if none is selected
   pub new : Option ℕ
 
--- what happens to the package of this name, with its two places, even if it is kept
+-- what happens to the package with this name, even if it is kept. The package has the place `old` among the packages
+-- before, and its candidate has the place `new`
 abbrev pub placed_name_with :
     List Plain → SealedPool → List (List ℕ) → List ℕ → Option ℕ → Option ℕ → PlacedName
 placed_name_with before pool again name old new = record {
@@ -87,7 +88,8 @@ placed_name_with before pool again name old new = record {
   new = new;
 }
 
--- the change of the package of this name, if it changes, with its place in the database and among candidates
+-- what happens to the package with this name, even if it is kept, with its places among the packages before and among
+-- the candidates
 unfoldable pub placed_name_of : PlacedReplacement → List ℕ → PlacedName
 placed_name_of p name =
     placed_name_with p.before p.pool p.again name
@@ -97,14 +99,14 @@ placed_name_of p name =
 unfoldable pub placed_names_of : PlacedReplacement → List PlacedName
 placed_names_of p = map (placed_name_of p) (names_before_and_selected (replacement_of p))
 
--- the package before that the first place of a name leads to, if there is one
+-- the package before the change at the old place of a name, if there is one
 abbrev pub package_at_old_place : List Plain → PlacedName → Option Plain
 package_at_old_place before n = option_and_then (slice_get before) n.old
 
--- the selected candidate that the second place of a name leads to, if there is one
+-- the selected candidate at the new place of a name, if there is one
 abbrev pub candidate_at_new_place : SealedPool → PlacedName → Option Candidate
 candidate_at_new_place pool n = option_and_then (candidate_at pool) n.new
 
--- the change of a name with its places, if there is one
+-- the change of a name with its two places; None if its package is kept
 abbrev pub change_in : PlacedName → Option PlacedChange
 change_in n = option_map (λ change. record { change = change; old = n.old; new = n.new }) n.change

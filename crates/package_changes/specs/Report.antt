@@ -1,5 +1,5 @@
 -- The report of a change that is only simulated (apk(8)). The lines are defined in `docs/commands.md`,
--- "`add` and `del`", what is reported, which also says which ones `--simulate` leaves out.
+-- "`add` and `del`", part "What is reported", which also says which lines `--simulate` leaves out.
 use Rattle.std.specs.Prelude.{ℕ, Bool, not, ◌&&◌, List, ◌++◌, length, map, bytes_eq, sum_by}
 use Rattle.std.specs.List.{filter, flat_map, list_any}
 use Rattle.adb_view.specs.Plain.{Plain}
@@ -33,7 +33,7 @@ names_needing_candidate selected needed =
     sorted_distinct_names (map (λ (c : Candidate). c.name)
     (filter (is_other_candidate_needing needed) selected))
 
--- a line for each selected package of this name, of which there is one at most
+-- the lines that say that the package `name` is kept: one for each selected candidate with this name, at most one
 abbrev pub still_needed_lines_of_name : List Candidate → List ℕ → List ℕ
 still_needed_lines_of_name selected name =
     flat_map (λ (c : Candidate). report_line (still_needed_text name (names_needing_candidate selected c)))
@@ -43,8 +43,8 @@ still_needed_lines_of_name selected name =
 abbrev pub was_installed : List Plain → List ℕ → Bool
 was_installed before name = list_any (is_package_named name) before
 
--- The lines on the names that were to be removed, in byte order, each once: those that are kept. A name
--- that was not installed has no line.
+-- The lines on those of the names `to_remove` that were installed before and are still selected, in byte order, each
+-- once: they say that the package is kept, and which packages need it.
 abbrev pub still_needed_lines : List Plain → List Candidate → List (List ℕ) → List ℕ
 still_needed_lines before selected to_remove =
     flat_map (still_needed_lines_of_name selected)
@@ -58,8 +58,8 @@ abbrev pub selected_sum_line : List Candidate → List ℕ
 selected_sum_line selected =
     report_line (bytes_and_package_count_text (sum_by candidate_installed_size selected) (length selected))
 
--- the whole report of a simulated change: the change of each package, the kept ones of the names that
--- were to be removed, and the sum
+-- the whole report of a simulated change: a line for each package that changes, a line for each kept package with one
+-- of the names `to_remove`, and the sum
 unfoldable pub simulated_report : Replacement → List (List ℕ) → List ℕ
 simulated_report r to_remove =
     change_lines (changes_of r) ++ still_needed_lines r.before r.selected to_remove ++ selected_sum_line

@@ -1,5 +1,5 @@
--- What the changes of the program denote.
--- No document has a rule for this: it serves the contracts of `src/`, whose texts are slices.
+-- The values of definitions that the changes of the program denote. No document has a rule for this: it serves the
+-- contracts of `src/`, whose texts are slices.
 use Rattle.std.specs.Prelude.{ℕ, List, map, option_map}
 use Rattle.change_files.specs.db_core.Seen.{packages_of}
 use Rattle.change_files.specs.db_core.declared.db.Db.{Db}
@@ -43,7 +43,8 @@ placed_name_seen n = record {
 abbrev pub placed_names_seen : PlacedNames → List PlacedName
 placed_names_seen names = map placed_name_seen names.list.items
 
--- the replacement by a database, a pool, a selection and the names that are to be installed again
+-- the replacement of the packages of a database by the candidates at the places `trace` of a pool, with the names that
+-- are to be installed again
 abbrev pub placed_replacement_from_parts : Db → SealedPool → List ℕ → List (List ℕ) → PlacedReplacement
 placed_replacement_from_parts db pool trace again =
     record { before = packages_of db; pool = pool; trace = trace; again = again }

@@ -1,5 +1,5 @@
--- The table of the names of the selected candidates.
--- No rule of a document: serves the contracts of `src/selected.rt` and `src/placed.rt`.
+-- The table of the names of the selected candidates, each with the candidate's place. No document has a rule for this:
+-- it serves the contracts of `src/selected.rt`, `src/placed.rt` and `src/stays.rt`.
 use Rattle.std.specs.Prelude.{ℕ, List, [], ◌∷◌, map, Option, Some, None, if◌then◌else◌, bytes_eq}
 use Rattle.std.specs.Borrow.{Bor}
 use Rattle.std.specs.List.{position_from}
@@ -12,13 +12,13 @@ use Rattle.package_changes.specs.Placed.{PlacedName, placed_name_with}
 abbrev pub names_and_places : List (Bor (List ℕ) × ℕ) → List (List ℕ × ℕ)
 names_and_places entries = map (λ (e : Bor (List ℕ) × ℕ). (e.0.now, e.1)) entries
 
--- the place beside a name in the table, if the name is there
+-- the place that the table gives for a name, if the table has the name
 abbrev pub place_paired_with_name : List ℕ → List (List ℕ × ℕ) → Option ℕ
 place_paired_with_name name [] = None
 place_paired_with_name name (e ∷ es) =
     if bytes_eq e.0 name then Some e.1 else place_paired_with_name name es
 
--- what happens to the package of a name, if the selected candidates have these names and places
+-- what happens to the package of a name, if `selected` is the table of the names and places of the selected candidates
 abbrev pub placed_name_at :
     List Plain → SealedPool → List (List ℕ) → List (List ℕ × ℕ) → List ℕ → PlacedName
 placed_name_at before pool again selected name =

@@ -1,4 +1,5 @@
-//! What happens to one package.
+//! What happens to one package in a change: it is installed, removed, or replaced. Used by
+//! `placed.rt`.
 //! The rules are in `docs/selection.md`, "What there is to choose from" (when a candidate is the
 //! installed package), in `docs/formats.md`, "Versions" (their order), and in `docs/names.md`,
 //! "A change of what is installed".
@@ -18,8 +19,8 @@ use std::cmp::Ordering;
 use std::marker::PhantomData;
 use version_core::Version;
 
-/// What happens to a package: its name, and its version; for the last three, the version before and
-/// that after.
+/// What happens to a package. The fields of a variant are the package's name and its version; the
+/// last three variants have the version before the change and then the version after it.
 #[derive(Clone, Copy)]
 pub enum Change<'a> {
     /// The package is installed.
@@ -36,19 +37,21 @@ pub enum Change<'a> {
     Replace(&'a [u8], &'a [u8], &'a [u8]),
 }
 
-/// A change of a package, with its places.
+/// A change of a package, with the places of the package before and of the selected candidate.
 #[derive(Clone, Copy)]
 pub struct PlacedChange<'a> {
     /// What happens to the package.
     pub change: Change<'a>,
-    /// The place in the database of the package before, counted from 0, if it was there.
+    /// The place of the package in the database before the change, counted from 0, if it was
+    /// installed.
     pub old: Option<usize>,
-    /// The place of the selected candidate in the list of all, counted from 0, if one is selected.
+    /// The place of the selected candidate in the list of all candidates, counted from 0, if a
+    /// candidate with this name is selected.
     pub(crate) new: Option<u32>,
 }
 
 impl<'a> PlacedChange<'a> {
-    /// The place of the package's candidate, if one is selected.
+    /// The place of the selected candidate of this name, if there is one.
     pub fn new_place(&self) -> Option<CandId>
         ensures { result ≡ self.now.new }
     {
@@ -59,7 +62,7 @@ impl<'a> PlacedChange<'a> {
     }
 }
 
-/// The fields of a database's package that are compared.
+/// The fields of an installed package that are compared with those of a candidate.
 #[derive(Clone, Copy)]
 pub(crate) struct OldPackage<'a> {
     /// The text of the package's version.
@@ -69,11 +72,12 @@ pub(crate) struct OldPackage<'a> {
 }
 
 impl<'a> OldPackage<'a> {
-    /// The fields of a database's package that are compared. The mark serves only the borrow
-    /// checker: it does not know the parts of a view that is made and lent here unless the
-    /// signature names the view.
+    /// The fields of this installed package. `_mark` serves only the borrow checker: it does not
+    /// know the parts of a view that is made and lent here unless the signature names the view.
     pub(crate) fn of(pkg: &PackageView<'a>, _mark: PhantomData<PackageView<'a>>) -> OldPackage<'a>
+        // The version is the text that the package's information has.
         ensures version { result.version.now ≡ package_version_text (package_value pkg.now) }
+        // The id is that of the installed package.
         ensures id { result.id.now ≡ installed_id (package_value pkg.now) }
     {
         let info = pkg.info();
@@ -84,7 +88,7 @@ impl<'a> OldPackage<'a> {
     }
 }
 
-/// The change of a candidate whose name no package of the database has.
+/// The change for the selected candidate `new`, whose name no installed package has.
 pub(crate) fn install<'a>(name: &'a [u8], new: &Candidate<'a>) -> Change<'a>
     ensures { change_seen result
         ≡ Texts.Install name.entry.now (candidate_version_text (candidate_value new.now)) }
@@ -92,15 +96,17 @@ pub(crate) fn install<'a>(name: &'a [u8], new: &Candidate<'a>) -> Change<'a>
     Change::Install(name, new.info.version())
 }
 
-/// The change of the package of the database at a place, counted from 0, for which no candidate is
-/// selected: it is removed.
+/// The change of the installed package at place `i` of the database, counted from 0, for which no
+/// candidate is selected: the package is removed.
 pub(crate) fn purge<'a>(
     name: &'a [u8],
     db: &Db<'a>,
     i: usize,
     _mark: PhantomData<PackageView<'a>>,
 ) -> Change<'a>
+    // The place is one of the database.
     requires { i < length (packages_of db.now) }
+    // The result is the change between the package at this place and no candidate.
     ensures { option_map (λ p. change_between false name.entry.now (Some p) None)
         (slice_get (packages_of db.now) i) ≡ Some (Some (change_seen result)) }
 {
@@ -109,10 +115,10 @@ pub(crate) fn purge<'a>(
     Change::Purge(name, old.version)
 }
 
-/// The change of the package of the database at a place, counted from 0, whose name a selected
-/// candidate has. If the candidate is the package, there is none, or a reinstallation if its name
-/// is to be installed again; otherwise it is an upgrade, a downgrade, or a replacement by a version
-/// that is equal in order.
+/// The change of the installed package at place `i` of the database, counted from 0, for which the
+/// candidate `new` is selected. If this candidate is the package itself, nothing changes, or the
+/// package is reinstalled if `is_again` is true. Otherwise the change is an upgrade, a downgrade,
+/// or a replacement by a version that is equal in order.
 pub(crate) fn replace<'a>(
     name: &'a [u8],
     db: &Db<'a>,
@@ -121,8 +127,9 @@ pub(crate) fn replace<'a>(
     is_again: bool,
     _mark: PhantomData<PackageView<'a>>,
 ) -> Option<Change<'a>>
+    // The place is one of the database.
     requires { i < length (packages_of db.now) }
-    // The change between the package at the place and the new candidate, if they differ.
+    // The result is the change between the package at this place and the new candidate.
     ensures { option_map (λ p. change_between is_again name.entry.now (Some p)
         (Some (candidate_value new.now))) (slice_get (packages_of db.now) i)
         ≡ Some (option_map change_seen result) }
@@ -138,8 +145,8 @@ pub(crate) fn replace<'a>(
     None
 }
 
-/// Whether the candidate is the installed package: it is of no repository, or has the same text of
-/// the version and the same id.
+/// Whether the candidate `new` is the installed package `old` itself: it is of no repository, or
+/// has the same text of the version and the same id as `old`.
 fn is_candidate_this_package(old: &OldPackage<'_>, new: &Candidate<'_>) -> bool
     ensures { result
         ≡ is_installed_with_version_and_id old.now.version.now old.now.id.now
@@ -155,7 +162,7 @@ fn is_candidate_this_package(old: &OldPackage<'_>, new: &Candidate<'_>) -> bool
     is_same_id(old.id, new.info.hashes())
 }
 
-/// The change from one version of a package to another, by their order.
+/// The change of a package from the version `old` to the version `new`, by their order.
 fn version_change<'a>(name: &'a [u8], old: &'a [u8], new: &'a [u8]) -> Change<'a>
     ensures { change_seen result ≡ version_change name.entry.now old.entry.now new.entry.now
         (version_text_cmp old.entry.now new.entry.now) }
@@ -167,7 +174,7 @@ fn version_change<'a>(name: &'a [u8], old: &'a [u8], new: &'a [u8]) -> Change<'a
     }
 }
 
-/// The order of the texts of two versions; a text that is no version is first.
+/// The order of two texts of versions; a text that is no version precedes every version.
 fn version_text_cmp(old: &[u8], new: &[u8]) -> Ordering
     ensures { result ≡ version_text_cmp old.now new.now }
 {

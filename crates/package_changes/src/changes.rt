@@ -1,5 +1,5 @@
-//! The packages that change.
-//! The rule is in `docs/commands.md`, "`add` and `del`", **What is reported**: a line for each
+//! The packages that change, without the kept ones.
+//! The rule is in `docs/commands.md`, "`add` and `del`", part "What is reported": a line for each
 //! package that changes, in byte order of the names. `PlacedNames` has the kept packages, too.
 ghost use Rattle.package_changes.specs.Changes.{changes_of};
 ghost use Rattle.package_changes.specs.Placed.{change_in, placed_changes_of, replacement_of};
@@ -14,7 +14,7 @@ use change_files::Db;
 use solve_core::{Sealed, Trace};
 use std::alloc::{AllocError, Global};
 
-/// The changes that a selection leads to, in byte order of names.
+/// The changes of packages that a selection makes, in byte order of the packages' names.
 #[derive(Drop)]
 pub struct Changes<'a> {
     /// The changes, in byte order of the packages' names.
@@ -22,8 +22,9 @@ pub struct Changes<'a> {
 }
 
 impl<'a> Changes<'a> {
-    /// The changes if the candidates of a selection replace the packages of a database, and some
-    /// names are to be installed again. It takes as long as `PlacedNames::of`.
+    /// The changes if candidates replace the packages of the database. `trace` are the places of
+    /// these candidates in the pool, and the names `again` are to be installed again. Takes as long
+    /// as `PlacedNames::of`.
     pub fn of(
         alloc: Global,
         db: &Db<'a>,
@@ -31,11 +32,11 @@ impl<'a> Changes<'a> {
         trace: &Trace,
         again: &Words,
     ) -> Result<Changes<'a>, AllocError>
-        // The change of each package, by the rule.
+        // The changes are those of the definition `changes_of`, which has no places.
         ensures changes { IfOk result (λ changes. map (λ c. c.change) (changes_seen changes)
             ≡ changes_of (replacement_of
             (placed_replacement_from_parts db.now pool.now trace.now again.now))) }
-        // The same with the places of each package on both sides.
+        // With their places, the changes are those of the definition `placed_changes_of`.
         ensures places { IfOk result (λ changes. changes_seen changes
             ≡ placed_changes_of (placed_replacement_from_parts db.now pool.now trace.now again.now)) }
     {
@@ -69,8 +70,9 @@ impl<'a> Changes<'a> {
         self.list.is_empty()
     }
 
-    /// The change at a place, counted from 0.
+    /// The change with index i among the changes, counted from 0.
     pub fn get(&self, i: usize) -> &PlacedChange<'a>
+        // `i` is below the number of changes.
         requires { i < length (changes_seen self.now) }
         ensures { slice_get (changes_seen self.now) i ≡ Some (placed_change_seen result.now) }
     {

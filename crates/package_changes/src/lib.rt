@@ -1,13 +1,14 @@
 //! What happens to each package if a selection replaces the packages before, and the lines that
-//! report it. It takes a database, a pool and a selection, and returns changes with their places,
-//! and reports: a line for each change, for each kept package that was to be removed, and the sum
-//! over the packages afterwards.
+//! report this. The functions take a database, a pool of candidates and a selection. They return
+//! the changes with their places, and reports: a line for each change, for each kept package that
+//! was to be removed, and the sum over the packages afterwards.
 //!
 //! The contracts cite `Changes` (what happens to a package), `Placed` (the places of the packages
 //! that change) and `Report` of `specs/`.
 //!
 //! The rules are in `docs/commands.md`, "`add` and `del`" (a line for each package that changes, in
-//! byte order of the names; what is reported), and "`upgrade` and `fix`" (what is installed again);
+//! byte order of the names; part "What is reported"), and "`upgrade` and `fix`" (which packages are
+//! installed again);
 //! the terms in `docs/names.md`, "A change of what is installed".
 #![tactic(auto)]
 
@@ -20,6 +21,8 @@ mod report;
 mod selected;
 mod stays;
 
+// What crates that depend on this one may call: functions, types and laws of this crate, and of
+// crates on which it depends.
 pub use change::{Change, PlacedChange};
 pub use change_files::the_lists_of_a_plan_hold_just_its_names;
 pub use changes::Changes;

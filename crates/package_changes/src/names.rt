@@ -1,7 +1,7 @@
-//! Names in byte order, each once.
-//! Only their order has a rule in a document: `docs/commands.md`, "`add` and `del`", reports
-//! packages in byte order of their names. The contract is that of `sorted_distinct_names`, over the
-//! definition of that name in `change_files`.
+//! Lists of names: sorted in byte order without repeats, and made of words. `placed.rt` and
+//! `stays.rt` use them. Only the order has a rule in a document: `docs/commands.md`, "`add` and
+//! `del`", reports packages in byte order of their names. The definition `sorted_distinct_names` is
+//! in `change_files`.
 ghost use Rattle.change_files.specs.PlanLists.{sorted_distinct_names, without_repeats};
 ghost use Rattle.base_core.specs.ByteOrder.{bytes_cmp};
 ghost use Rattle.base_core.specs.Sorted.{sorted_by};
@@ -31,7 +31,7 @@ fn sort_names(names: &mut Vec<&[u8]>) -> Result<(), AllocError>
     Ok(())
 }
 
-/// Drops each name that follows the same one.
+/// Drops each name that is equal to the name before it.
 fn drop_repeats(names: &mut Vec<&[u8]>)
     ensures { map (λ n. n.now) names.new.items
         ≡ without_repeats (map (λ n. n.now) names.old.items) }
@@ -39,7 +39,7 @@ fn drop_repeats(names: &mut Vec<&[u8]>)
     names.dedup();
 }
 
-/// The words of a list as names, in their order.
+/// The words of a list as a vector of names, in the order of the list.
 pub fn names_of_words<'a>(alloc: Global, words: &'a Words) -> Result<Vec<&'a [u8]>, AllocError>
     ensures { IfOk result (λ names. map (λ n. n.now) names.items ≡ words.entry.now) }
 {

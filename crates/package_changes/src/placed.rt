@@ -1,6 +1,7 @@
-//! What happens to each package, name by name, with the kept ones.
-//! The rules are in `docs/commands.md`, "`add` and `del`", **What is reported**, and "`upgrade` and
-//! `fix`"; the terms in `docs/names.md`, "A change of what is installed".
+//! What happens to each package, name by name, also to the kept ones. `Changes` and the reading of
+//! added packages (`added_packages`) use it. The rules are in `docs/commands.md`, "`add` and
+//! `del`", part "What is reported", and "`upgrade` and `fix`"; the terms in `docs/names.md`, "A
+//! change of what is installed".
 ghost use Rattle.change_files.specs.adb_fields.Repeated.{package_name};
 ghost use Rattle.change_files.specs.adb_schema.Views.{package_value};
 ghost use Rattle.change_files.specs.PlanLists.{sorted_distinct_names};
@@ -33,14 +34,16 @@ pub struct PlacedName<'a> {
     pub name: &'a [u8],
     /// The change of the package, if it changes.
     pub change: Option<Change<'a>>,
-    /// The place in the database of the package before, counted from 0, if it was there.
+    /// The place of the package in the database before the change, counted from 0, if it was
+    /// installed.
     pub old: Option<usize>,
-    /// The place of the selected candidate in the list of all, counted from 0, if one is selected.
+    /// The place of the selected candidate in the list of all candidates, counted from 0, if a
+    /// candidate with this name is selected.
     pub(crate) new: Option<u32>,
 }
 
 impl<'a> PlacedName<'a> {
-    /// The package's candidate, if one is selected.
+    /// The selected candidate with this name, if there is one.
     pub fn candidate(&self, pool: &Sealed<'a>) -> Option<Candidate<'a>>
         ensures { option_map candidate_value result
             ≡ candidate_at_new_place pool.now (placed_name_seen self.now) }
@@ -50,17 +53,18 @@ impl<'a> PlacedName<'a> {
 }
 
 /// The names of the packages of a database and of the selected candidates, in byte order, each
-/// once.
+/// once, with what happens to the package of each name.
 #[derive(Drop)]
 pub struct PlacedNames<'a> {
-    /// The names, in byte order.
+    /// The names with their changes, in byte order of the names.
     pub(crate) list: Vec<PlacedName<'a>>,
 }
 
 impl<'a> PlacedNames<'a> {
-    /// The change of each package, if the candidates of a selection replace the packages of a
-    /// database, and the names `again` are to be installed again. It takes time in proportion to n
-    /// log n in the number of packages, candidates and names to be installed again.
+    /// What happens to each package, if candidates replace the packages of the database. `trace`
+    /// are the places of these candidates in the pool, and the names `again` are to be installed
+    /// again. The time is in proportion to n log n, for n packages, candidates and names to be
+    /// installed again.
     pub fn of(
         alloc: Global,
         db: &Db<'a>,
@@ -71,6 +75,7 @@ impl<'a> PlacedNames<'a> {
         ensures { IfOk result (λ names. placed_names_seen names
             ≡ placed_names_of (placed_replacement_from_parts db.now pool.now trace.now again.now)) }
     {
+        // The selected candidates by their names, all names, and the names of `again`, sorted.
         let selected = SelectedNames::of(alloc, pool, trace)?;
         let names = names_before_and_selected(alloc, db, pool, trace)?;
         let sorted = SortedWords::of(alloc, again)?;
@@ -92,8 +97,9 @@ impl<'a> PlacedNames<'a> {
         self.list.is_empty()
     }
 
-    /// The name at a place, counted from 0.
+    /// The name with index i, counted from 0, and what happens to its package.
     pub fn get(&self, i: usize) -> &PlacedName<'a>
+        // `i` is below the number of names.
         requires { i < length (placed_names_seen self.now) }
         ensures { slice_get (placed_names_seen self.now) i ≡ Some (placed_name_seen result.now) }
     {
@@ -120,7 +126,7 @@ fn names_before_and_selected<'a>(
     sorted_distinct_names(names)
 }
 
-/// Adds the names of the packages of a database, in its order.
+/// Appends to `names` the names of the packages of a database, in the order of the database.
 fn push_old_names<'a>(names: &mut Vec<&'a [u8]>, db: &Db<'a>) -> Result<(), AllocError>
     ensures { OnOk result (map (λ n. n.now) names.new.items
         ≡ map (λ n. n.now) names.old.items ++ map package_name (packages_of db.now)) }
@@ -131,10 +137,11 @@ fn push_old_names<'a>(names: &mut Vec<&'a [u8]>, db: &Db<'a>) -> Result<(), Allo
     Ok(())
 }
 
-/// The name of the package of a database at a place, counted from 0. The mark serves only the
+/// The name of the package at place `i` of a database, counted from 0. `_mark` serves only the
 /// borrow checker: it does not know the parts of a view that is made and lent here unless the
 /// signature names the view.
 fn name_at<'a>(db: &Db<'a>, i: usize, _mark: PhantomData<PackageView<'a>>) -> &'a [u8]
+    // The place is one of the database.
     requires { i < length (packages_of db.now) }
     ensures { option_map package_name (slice_get (packages_of db.now) i) ≡ Some result.now }
 {
@@ -150,7 +157,7 @@ fn name_of<'a>(pkg: &PackageView<'a>, _mark: PhantomData<PackageView<'a>>) -> &'
     info.name()
 }
 
-/// Adds the names of the selected candidates, in the order chosen.
+/// Appends to `names` the names of the selected candidates, in the order in which they were chosen.
 fn push_selected_names<'a>(
     names: &mut Vec<&'a [u8]>,
     pool: &Sealed<'a>,
@@ -167,7 +174,7 @@ fn push_selected_names<'a>(
     Ok(())
 }
 
-/// Adds the name of the candidate at a place, if there is one.
+/// Appends to `names` the name of the candidate at the place `id` of the pool, if there is one.
 fn push_selected_name<'a>(
     names: &mut Vec<&'a [u8]>,
     pool: &Sealed<'a>,
@@ -188,7 +195,8 @@ fn push_selected_name<'a>(
 }
 
 /// What happens to the packages with these names, in the order of the names. `again` has the names
-/// of the packages that are to be installed again.
+/// of the packages to be installed again, and `selected` the place of the selected candidate of
+/// each name.
 fn placed_names<'a>(
     alloc: Global,
     db: &Db<'a>,
@@ -218,7 +226,8 @@ fn placed_name<'a>(
     name: &'a [u8],
     new: Option<u32>,
 ) -> PlacedName<'a>
-    // The place before the change is that of the first package with this name.
+    // The result is that of the definition, in which the old place is that of the first package
+    // with this name in the database.
     ensures { placed_name_seen result
         ≡ placed_name_with (packages_of db.now) pool.now again.now name.entry.now
         (position_from (is_package_named name.entry.now) 0 (packages_of db.now)) new }
@@ -243,6 +252,7 @@ fn change_between<'a>(
     old: Option<usize>,
     new: Option<u32>,
 ) -> Option<Change<'a>>
+    // The old place, if there is one, is a place of the database.
     requires { ForSome old (λ i. i < length (packages_of db.now)) }
     // The change from the package at `old` to the candidate at `new`; each may be absent.
     ensures { option_map change_seen result
@@ -258,7 +268,7 @@ fn change_between<'a>(
     }
 }
 
-/// The candidate at a place, if there is one.
+/// The candidate at a place of the pool, if there is a place and a candidate there.
 fn candidate_of<'a>(pool: &Sealed<'a>, place: Option<u32>) -> Option<Candidate<'a>>
     ensures { option_map candidate_value result
         ≡ option_and_then (candidate_at pool.now) place }

@@ -1,6 +1,7 @@
-//! The report of a change that is only simulated, the lines on changes of packages, and the sum.
-//! They are defined in `docs/commands.md`, "`add` and `del`", what is reported, and "`upgrade` and
-//! `fix`".
+//! The report of a change that is only simulated, and two of its parts, which the report of a
+//! change that is made (`change_report`) has too: the lines on changes of packages, and the sum.
+//! The lines are defined in `docs/commands.md`, "`add` and `del`", part "What is reported", and
+//! "`upgrade` and `fix`".
 ghost use Rattle.package_changes.specs.Changes.{changes_of};
 ghost use Rattle.package_changes.specs.Placed.{candidates_at, replacement_of};
 ghost use Rattle.package_changes.specs.Report.{candidate_installed_size, selected_sum_line, simulated_report};
@@ -21,8 +22,9 @@ use report_core::Report;
 use solve_core::{CandId, Sealed, Trace};
 use std::alloc::{AllocError, Global};
 
-/// The report of a change that is only simulated: its changes, the installed packages among
-/// `to_remove` that are kept, and the sum over the selected candidates.
+/// The report of a change that is only simulated: its changes, the installed packages with a name
+/// of `to_remove` that are kept, and the sum over the selected candidates. `trace` are their places
+/// in the pool.
 #[tactic(auto, unfolding(crate::specs::Report::simulated_report))]
 pub fn simulated_report(
     alloc: Global,
@@ -32,6 +34,8 @@ pub fn simulated_report(
     changes: &Changes<'_>,
     to_remove: &Words,
 ) -> Result<Report, AllocError>
+    // If the changes are those of this replacement, with some names `again` to be installed again,
+    // the report is that of the definition.
     ensures { IfOk result (λ report. (again : List (List ℕ))
         → map (λ c. c.change) (changes_seen changes.now)
         ≡ changes_of (replacement_of
@@ -46,7 +50,8 @@ pub fn simulated_report(
     Ok(report)
 }
 
-/// Adds a line for each change, with its number and how many there are.
+/// Adds a line for each change, which begins with its number and the number of all changes: `(1/3)
+/// `.
 pub fn push_change_lines(report: &mut Report, changes: &Changes<'_>) -> Result<(), AllocError>
     ensures { OnOk result (report.new
         ≡ report.old ++ change_lines (map (λ c. c.change) (changes_seen changes.now))) }
@@ -58,7 +63,8 @@ pub fn push_change_lines(report: &mut Report, changes: &Changes<'_>) -> Result<(
     Ok(())
 }
 
-/// Adds the line of a change, which is preceded by this many of `count`.
+/// Adds the line of a change. `before` is the number of changes before it, `count` that of all
+/// changes.
 fn push_change_line(
     report: &mut Report,
     before: usize,
@@ -101,7 +107,7 @@ fn push_change_text(report: &mut Report, change: &Change<'_>) -> Result<(), Allo
     }
 }
 
-/// Adds a word, and a package at a version: `Installing lib (1.1-r0)`.
+/// Adds `word`, then a package with its version: `Installing lib (1.1-r0)`.
 fn push_version(
     report: &mut Report,
     word: &[u8],
@@ -119,7 +125,8 @@ fn push_version(
     Ok(())
 }
 
-/// Adds a word, and a package from one version to another: `Upgrading app (1.0-r0 -> 2.0-r0)`.
+/// Adds `word`, then a package with its version before and after: `Upgrading app (1.0-r0 ->
+/// 2.0-r0)`.
 fn push_versions(
     report: &mut Report,
     word: &[u8],
@@ -140,7 +147,8 @@ fn push_versions(
     Ok(())
 }
 
-/// Adds the last line of a simulated report, by the sizes of the candidates.
+/// Adds the last line of a simulated report: how many bytes and packages there are after the
+/// change, by the installed sizes of the selected candidates.
 fn push_selected_sum(
     report: &mut Report,
     pool: &Sealed<'_>,
@@ -165,7 +173,7 @@ pub fn push_sum_line(report: &mut Report, bytes: u128, count: u128) -> Result<()
     Ok(())
 }
 
-/// Adds the text of the last line, without its line end.
+/// Adds the text of the last line, `OK: BYTES bytes in COUNT packages`, without its line end.
 fn push_sum(report: &mut Report, bytes: u128, count: u128) -> Result<(), AllocError>
     ensures { OnOk result (report.new ≡ report.old ++ bytes_and_package_count_text bytes count) }
 {
@@ -189,7 +197,7 @@ fn selected_size(pool: &Sealed<'_>, trace: &Trace) -> u128
     sum
 }
 
-/// The bytes that the candidate at a place takes when it is installed, if there is one.
+/// The bytes that the candidate at the place `id` takes when it is installed; 0 if there is none.
 fn size_at(pool: &Sealed<'_>, id: CandId) -> u64
     ensures { result ≡ option_map_or candidate_installed_size (candidate_at pool.now id) 0 }
 {
@@ -210,9 +218,12 @@ fn selected_count(pool: &Sealed<'_>, trace: &Trace) -> u128
     count
 }
 
-/// How many candidates there are at a place: one, or none.
+/// How many candidates there are at the place `id` of the pool: 1, or 0 if it is no place of the
+/// pool.
 fn count_at(pool: &Sealed<'_>, id: CandId) -> u8
+    // The number is that of the definition of places.
     ensures value { result ≡ option_map_or (λ _. 1) (candidate_at pool.now id) 0 }
+    // At most 1, so that the sum of all counts cannot overflow.
     ensures one { result ≤ 1 }
 {
     match pool.at(id) {

@@ -1,7 +1,7 @@
-//! The selected candidates: each by its place, and all of them by their names.
-//! No document has a rule for this: the table serves `src/placed.rt`, so that each name is searched
-//! once. `docs/selection.md`, "What satisfies world", 3, says that a selection has at most one
-//! candidate of a name.
+//! The selected candidates: the candidate at a place, and a table from their names to their places.
+//! No document has a rule for this: the table serves `placed.rt` and `stays.rt`, so that the
+//! selection is not searched for each name. `docs/selection.md`, "What satisfies world", 3, says
+//! that a selection has at most one candidate of a name.
 ghost use Rattle.package_changes.specs.Changes.{is_candidate_named};
 ghost use Rattle.package_changes.specs.Placed.{selected_place};
 ghost use Rattle.package_changes.specs.SelectedNames.{place_paired_with_name};
@@ -15,7 +15,7 @@ use solve_core::{CandId, Candidate, Sealed, Trace};
 use std::alloc::{AllocError, Global};
 use std::marker::Model;
 
-/// The candidate at a place, if there is one.
+/// The candidate at the place `id` of the pool, if there is one.
 pub fn candidate_at<'a>(pool: &Sealed<'a>, id: CandId) -> Option<Candidate<'a>>
     ensures { option_map candidate_value result ≡ candidate_at pool.now id }
 {
@@ -25,7 +25,8 @@ pub fn candidate_at<'a>(pool: &Sealed<'a>, id: CandId) -> Option<Candidate<'a>>
     Some(pool.candidate(id))
 }
 
-/// The names of the selected candidates, each with the place of the first that has it.
+/// The names of the selected candidates, each with the place of the first selected candidate that
+/// has the name.
 #[derive(Drop)]
 pub struct SelectedNames<'a> {
     /// The place of the first selected candidate of each name.
@@ -36,18 +37,21 @@ impl<'a> Model for SelectedNames<'a> {
     ghost use Rattle.std.specs.Prelude.{ℕ, List};
     ghost use Rattle.package_changes.specs.SelectedNames.{names_and_places};
 
+    // Contracts see the table as a list of names, each with a place.
     ghost Value = { List (List ℕ × ℕ) };
 
+    // The entries of the map, in their order.
     ghost view = { λ s. names_and_places s.by_name.entries };
 }
 
 impl<'a> SelectedNames<'a> {
-    /// The names of the candidates at the places of a selection.
+    /// The table of the candidates at the places `trace` of the pool.
     pub fn of(
         alloc: Global,
         pool: &Sealed<'a>,
         trace: &Trace,
     ) -> Result<SelectedNames<'a>, AllocError>
+        // For each name, the table gives the place of the first selected candidate with this name.
         ensures { IfOk result (λ names. (name : List ℕ)
             → place_paired_with_name name names ≡ selected_place pool.now trace.now name) }
     {
@@ -77,7 +81,8 @@ impl<'a> SelectedNames<'a> {
         }
     }
 
-    // Adds the candidate at a place, if there is one and no other has its name.
+    // Adds the candidate at the place `id` to the table, if there is one and the table lacks its
+    // name.
     fn add(&mut self, pool: &Sealed<'a>, id: CandId) -> Result<(), AllocError>
         // The place is stored for the candidate's name, unless the name has a place already.
         ensures { OnOk result ((name : List ℕ) → place_paired_with_name name self.new
@@ -93,7 +98,7 @@ impl<'a> SelectedNames<'a> {
         }
     }
 
-    // Adds a name with a place, unless the name is there.
+    // Adds a name with a place to the table, unless the table has the name already.
     fn add_name(&mut self, name: &'a [u8], place: u32) -> Result<(), AllocError>
         // The place is stored for this name, unless the name has a place already.
         ensures { OnOk result ((other : List ℕ) → place_paired_with_name other self.new

@@ -1,5 +1,6 @@
-//! Packages that were to be removed and are kept, since others need them. The line is defined in
-//! `docs/commands.md`, "`add` and `del`", what is reported: `NAME stays`.
+//! The lines `NAME stays` on packages that were to be removed and are kept, since others need them.
+//! `simulated_report` and `change_report` add them. The line is defined in `docs/commands.md`,
+//! "`add` and `del`", part "What is reported".
 ghost use Rattle.change_files.specs.PlanLists.{sorted_distinct_names};
 ghost use Rattle.change_files.specs.db_core.Seen.{packages_of};
 ghost use Rattle.package_changes.specs.Changes.{is_candidate_named};
@@ -20,9 +21,9 @@ use report_core::Report;
 use solve_core::{CandId, Details, Sealed, Trace};
 use std::alloc::{AllocError, Global};
 
-/// Adds a line for each of these names that a package of the database and a selected candidate
-/// have, in byte order, each once: that it is kept, and which others need it. It walks over the
-/// selection once, and again for each line.
+/// Adds a line for each name of `to_remove` that both an installed package and a selected candidate
+/// have, in byte order, each name once. The line says that the package is kept, and which others
+/// need it. All selected candidates are looked at once, and again for each line.
 pub fn push_stay_lines(
     alloc: Global,
     report: &mut Report,
@@ -37,6 +38,7 @@ pub fn push_stay_lines(
     let names = names_of_words(alloc, to_remove)?;
     let names = sorted_distinct_names(names)?;
     let selected = SelectedNames::of(alloc, pool, trace)?;
+    // The names of `to_remove` that are still selected.
     let staying = selected_among(alloc, &names, &selected)?;
     push_lines_of_names(alloc, report, db, pool, trace, &staying)?;
     Ok(())
@@ -48,6 +50,7 @@ fn selected_among<'n>(
     names: &[&'n [u8]],
     selected: &SelectedNames<'_>,
 ) -> Result<Vec<&'n [u8]>, AllocError>
+    // Exactly the names for which the table `selected` has a place, in their order.
     ensures { IfOk result (λ found. found.items
         ≡ filter (λ name. is_some (place_paired_with_name name.now selected.now)) names.now) }
 {
@@ -58,7 +61,7 @@ fn selected_among<'n>(
         .collect(alloc)
 }
 
-/// Adds the lines of names that are in order: those that were installed before.
+/// Adds the lines of those of these names that were installed before, in the order of the names.
 fn push_lines_of_names(
     alloc: Global,
     report: &mut Report,
@@ -78,7 +81,7 @@ fn push_lines_of_names(
     Ok(())
 }
 
-/// Adds the lines of a name, if a package of it was installed before.
+/// Adds the lines of a name, if a package with this name was installed before.
 fn push_lines_of_name(
     alloc: Global,
     report: &mut Report,
@@ -105,7 +108,7 @@ fn was_installed(db: &Db<'_>, name: &[u8]) -> bool
     db.find(name).is_some()
 }
 
-/// Adds a line for each selected candidate of a name.
+/// Adds a line for each selected candidate with this name; a selection has at most one.
 fn push_selected_lines(
     alloc: Global,
     report: &mut Report,
@@ -122,7 +125,8 @@ fn push_selected_lines(
     Ok(())
 }
 
-/// Adds a line for the candidate at a place, if there is one and it has this name.
+/// Adds a line for the candidate at the place `id` of the pool, if there is one and it has this
+/// name.
 fn push_line_of(
     alloc: Global,
     report: &mut Report,
@@ -146,7 +150,7 @@ fn push_line_of(
     }
 }
 
-/// Adds a line for a candidate, if it has this name.
+/// Adds a line for the candidate with these details, if it has this name.
 fn push_line_if_named(
     alloc: Global,
     report: &mut Report,
@@ -168,7 +172,7 @@ fn push_line_if_named(
     Ok(())
 }
 
-/// The names of the other selected candidates that need one, in byte order.
+/// The names of the other selected candidates that need the candidate `needed`, in byte order.
 fn names_needing_candidate<'a>(
     alloc: Global,
     pool: &Sealed<'a>,
@@ -183,14 +187,14 @@ fn names_needing_candidate<'a>(
     sorted_distinct_names(names)
 }
 
-/// Adds the names of the other selected candidates that need one.
+/// Appends to `names` the names of the other selected candidates that need the candidate `needed`.
 fn push_names_in_need<'a>(
     names: &mut Vec<&'a [u8]>,
     pool: &Sealed<'a>,
     trace: &Trace,
     needed: &Details<'_>,
 ) -> Result<(), AllocError>
-    // The names of the selected candidates that need the other one are appended.
+    // The names of the selected candidates that need `needed` are appended, in the order of choice.
     ensures { OnOk result (map (λ n. n.now) names.new.items ≡ map (λ n. n.now) names.old.items
         ++ map (λ (c : Candidate). c.name)
         (filter (is_other_candidate_needing needed.now) (candidates_at pool.now trace.now))) }
@@ -201,14 +205,15 @@ fn push_names_in_need<'a>(
     Ok(())
 }
 
-/// Adds the name of the candidate at a place, if there is one, and it needs the candidate `needed`.
+/// Appends the name of the candidate at the place `id`, if there is one and it is another candidate
+/// that needs `needed`.
 fn push_name_if_it_needs<'a>(
     names: &mut Vec<&'a [u8]>,
     pool: &Sealed<'a>,
     id: CandId,
     needed: &Details<'_>,
 ) -> Result<(), AllocError>
-    // The name of the candidate at the place is appended, if it needs the other one.
+    // The name of the candidate at the place is appended, if it is another one that needs `needed`.
     ensures { OnOk result (map (λ n. n.now) names.new.items ≡ map (λ n. n.now) names.old.items
         ++ map (λ (c : Candidate). c.name)
         (filter (is_other_candidate_needing needed.now) (option_to_list
@@ -242,7 +247,8 @@ fn push_name_if<'a>(
     Ok(())
 }
 
-/// Whether `details` are of another candidate than `needed`, which needs it.
+/// Whether `details` are those of another candidate than `needed`, and that candidate needs
+/// `needed`.
 fn is_other_candidate_needing(needed: &Details<'_>, details: &Details<'_>) -> bool
     ensures { result ≡ is_other_candidate_needing needed.now details.now }
 {
@@ -252,7 +258,7 @@ fn is_other_candidate_needing(needed: &Details<'_>, details: &Details<'_>) -> bo
     details.needs(needed)
 }
 
-/// Adds the line that says that a package is kept, and the names of those that need it.
+/// Adds the line that says that the package `name` is kept. `names` are the packages that need it.
 fn push_stay_line(report: &mut Report, name: &[u8], names: &[&[u8]]) -> Result<(), AllocError>
     ensures { OnOk result (report.new ≡ report.old
         ++ report_line (still_needed_text name.now (map (λ n. n.now) names.now))) }
@@ -262,7 +268,8 @@ fn push_stay_line(report: &mut Report, name: &[u8], names: &[&[u8]]) -> Result<(
     Ok(())
 }
 
-/// Adds the text of the line that says that a package is kept, without its line end.
+/// Adds the text of this line without its line end: `NAME stays; required by: NAMES`, or `NAME
+/// stays` if no other package needs it.
 fn push_stay_text(report: &mut Report, name: &[u8], names: &[&[u8]]) -> Result<(), AllocError>
     ensures { OnOk result (report.new
         ≡ report.old ++ still_needed_text name.now (map (λ n. n.now) names.now)) }

@@ -25,18 +25,21 @@ use Rattle.apk_front.specs.words_core.Grammar.{command_of}
 
 -- ---- a run
 
--- a call of `apk`, as its caller sees it
+-- a call of `apk`: its arguments, its answer, and the tree and the sinks before and after it
 pub record Run : Type 0 where
   -- the command line, without the program's name
   pub words : List (List ℕ)
-  -- the tree's history before it and after it
+  -- the tree's history before the run, the newest state first
   pub old : List TreeState
+  -- the tree's history after the run
   pub now : List TreeState
-  -- the tree's counts before it and after it
+  -- the tree's counts of failed calls before the run
   pub before : Counts
+  -- the tree's counts after the run
   pub after : Counts
-  -- standard output and standard error, before the run and after it
+  -- standard output, before the run and after it
   pub out : SinkBeforeAndAfter
+  -- standard error, before the run and after it
   pub err : SinkBeforeAndAfter
   -- how the run ended
   pub answer : Answer
@@ -65,11 +68,12 @@ pub record IsRunFrom (v : TreeState) (run : Run) : Type 0 where
   -- if the intent (journal entry) is bad, nothing is written
   pub bad_intent : IsSome (recovery_fault (effect_of_arguments (command_of run.words)) (files_of v))
       → run.now ≡ run.old
-  -- which files are read at each moment of the run (*AreStatesOfRecoveryOrCommittingRun*)
+  -- the files as read at each moment are as *AreStatesOfRecoveryOrCommittingRun* says
   pub reads : AreStatesOfRecoveryOrCommittingRun (IsOutcomeFrom v run)
       (effect_of_arguments (command_of run.words))
       (output run.words) v run.old run.now
-  -- if there was an intent, crashes undo no change of a name from the moment at which no intent is read
+  -- if an intent was found, crashes undo no change of a name from the moment at which no intent is read; names of the
+  -- output and of staged files are left out
   pub last : IsSome (v.names intent_name)
       → Since (NamesAreDurableWithoutIntentExcept (output run.words)) run.old run.now
   -- a run that is refused, runs out of memory or commits nothing leaves the state of a durable tree unchanged
@@ -97,7 +101,7 @@ pub record IsRunFrom (v : TreeState) (run : Run) : Type 0 where
       → IsOkRefusedOrOutputFault run.answer
       → LeavesDurableStateIfCommitted (IsOutcomeFrom v run) (output run.words) ignored run.now
 
--- a moment of a run: the state in which it begins, or one that it made
+-- m is a moment of a run: the state in which the run begins, or a state that the run made
 abbrev pub IsMomentOf : Run → TreeState → Type 0
 IsMomentOf run m =
     HoldsNow run.old (λ v. m ≡ v)
@@ -105,14 +109,15 @@ IsMomentOf run m =
 
 -- ---- events
 
--- An event is a run that ends, a run that is stopped, a crash, or a change of files by others while
--- nothing runs: of any files, which they then sync, or of files under these names, which they do not
--- sync. A run that a crash cuts off is a stop, and then a crash.
+-- An event is a run that ends, a run that is stopped, a crash, or a change of files by others. Others change files only
+-- while no run of `apk` is in progress. They change any files, and sync them (an edit), or change files under given
+-- names, and do not sync them (a touch). A run that a crash cuts off is a stop, and then a crash.
 pub data RootEvent : Type 0 where
   -- a run that ends
   Ends : Run → RootEvent
-  -- a run that is stopped
+  -- a run that is stopped at a moment, or inside a call
   Stops : Run → RootEvent
+  -- a crash, after which the tree has one of the images that it may leave
   Crashes : RootEvent
   -- others change any files, and sync them
   Edits : RootEvent
@@ -126,43 +131,43 @@ pub record IsAllSynced (v : TreeState) : Type 0 where
   -- each file that a name leads to is synced
   pub files : (q : List ℕ) (n : ℕ) → v.names q ≡ Some n → (v.files n).synced ≡ true
 
--- w differs from v only in the bytes of files that are not synced, as inside a call that appends to one
+-- w differs from v only in the bytes of files that are not synced, as inside a call that appends to such a file
 pub record DiffersOnlyInUnsyncedBytes (v w : TreeState) : Type 0 where
-  -- names lead to the same files, now and in the older maps to which a crash may return
+  -- names lead to the same files
   pub names : w.names ≡ v.names
-  -- the older maps of names are the same too
+  -- the older maps of names, to which a crash may return, are equal
   pub older : w.older ≡ v.older
-  -- as many files were made
+  -- equally many files were made so far
   pub made : w.made ≡ v.made
-  -- the same files are synced, and these have the same bytes
+  -- the same files are synced
   pub synced : (n : ℕ) → (w.files n).synced ≡ (v.files n).synced
   -- a synced file has the same bytes
   pub bytes : (n : ℕ) → (v.files n).synced ≡ true → (w.files n).bytes ≡ (v.files n).bytes
 
--- a run may be stopped at one of its moments; or inside a call, and then each file that is not synced
--- may have any bytes
+-- a run may be stopped in the state w: at one of its moments, or inside a call; then each file that is not synced may
+-- have any bytes
 abbrev pub IsPossibleStop : Run → TreeState → Type 0
 IsPossibleStop run w = (m : TreeState) × IsMomentOf run m × DiffersOnlyInUnsyncedBytes m w
 
--- of these names, those that others may touch: neither the intent's, nor one below the staging area
+-- of the names `theirs`, those that others may touch: neither the intent's, nor names below the staging area
 abbrev pub names_of_others_outside_journal : (List ℕ → Bool) → List ℕ → Bool
 names_of_others_outside_journal theirs q = if bytes_eq q intent_name || is_staged q then false else theirs q
 
--- the map `map` of w agrees with the map `was` of v on each name that others may not touch. The file to
--- which such a name leads is the same in v and w
+-- The map of names `map`, of the state w, agrees with the map `was`, of the state v, on each name that others may not
+-- touch. The file to which such a name leads is the same in v and w.
 abbrev pub HaveSameFilesExceptTheirs : (List ℕ → Bool) → TreeState → NameMap → TreeState → NameMap → Type 0
 HaveSameFilesExceptTheirs theirs v was w map =
     (q : List ℕ) → names_of_others_outside_journal theirs q ≡ false
     → (map q ≡ was q) × ((n : ℕ) → was q ≡ Some n → w.files n ≡ v.files n)
 
--- others have changed only files under their names. Each map of names that a crash in w may leave is,
--- apart from those names, one that a crash in v may leave
+-- Others have changed only files under the names `theirs`, from the state v to w. Each map of names that a crash in w
+-- may leave equals, except on these names, a map that a crash in v may leave.
 abbrev pub IsChangeByOthers : (List ℕ → Bool) → TreeState → TreeState → Type 0
 IsChangeByOthers theirs v w =
     (map : NameMap) → IsCrashMap w map → (was : NameMap) × IsCrashMap v was
     × HaveSameFilesExceptTheirs theirs v was w map
 
--- this event may find a tree in the state v, and leave it in the state w
+-- the event may find a tree in the state v, and leave it in the state w
 abbrev pub IsTransition : TreeState → RootEvent → TreeState → Type 0
 IsTransition v (Ends run) w = IsRunFrom v run × HoldsNow run.now (λ u. u ≡ w)
 IsTransition v (Stops run) w = IsRunFrom v run × IsPossibleStop run w
@@ -179,14 +184,14 @@ Reaches first (event ∷ earlier) w =
 
 -- ---- what is committed
 
--- a run commits nothing: it is refused, runs out of memory, or has an outcome that commits nothing; or
--- it has no output, and no outcome that commits
+-- A run that begins in the state v commits nothing: it is refused, runs out of memory, or has an outcome that commits
+-- nothing; or the run has no output, and no outcome that commits.
 abbrev pub IsRunWithoutCommit : TreeState → Run → Type 0
 IsRunWithoutCommit v run =
     IsRefusedOrCommitsNothing (IsOutcomeFrom v run) run.answer
     ⊎ ((output run.words ≡ None) × (HasOutcomeThatCommits v run → ⊥))
 
--- an event is a crash, a run that commits nothing, or a touch by others
+-- the event, which finds the state v, is a crash, a run that commits nothing, or a touch by others
 abbrev pub IsEventWithoutCommit : TreeState → RootEvent → Type 0
 IsEventWithoutCommit v (Ends run) = IsRunWithoutCommit v run
 IsEventWithoutCommit v (Stops run) = IsRunWithoutCommit v run
@@ -194,7 +199,8 @@ IsEventWithoutCommit v Crashes = Unit {0}
 IsEventWithoutCommit v Edits = ⊥
 IsEventWithoutCommit v (Touches theirs) = Unit {0}
 
--- a root has seen events, and none committed anything
+-- a root that was in the state `first` has seen these events, the newest first, and is in state w; each event is a
+-- crash, a touch by others, or a run that commits nothing
 abbrev pub ReachesWithoutCommit : TreeState → List RootEvent → TreeState → Type 0
 ReachesWithoutCommit first [] w = w ≡ first
 ReachesWithoutCommit first (event ∷ earlier) w =
@@ -203,8 +209,8 @@ ReachesWithoutCommit first (event ∷ earlier) w =
 
 -- ---- when a crash leaves one state
 
--- After the event each crash leaves one state: it is no run; or a run that answers its outcome, and
--- this commits, or the run has no output and found an intent.
+-- After the event each crash leaves one state, whatever was before it. The event is a crash or an edit; or a run that
+-- answers its outcome, if this outcome commits, or if the run has no output and found a valid intent.
 abbrev pub EnsuresOneCrashState : TreeState → RootEvent → Type 0
 EnsuresOneCrashState v (Ends run) =
     IsOkRefusedOrOutputFault run.answer
@@ -215,8 +221,8 @@ EnsuresOneCrashState v Crashes = Unit {0}
 EnsuresOneCrashState v Edits = Unit {0}
 EnsuresOneCrashState v (Touches theirs) = ⊥
 
--- after the event each crash leaves one state if it did before: it is no run; or a run that commits
--- nothing, or that ends without an I/O error of the tree
+-- After the event each crash leaves one state, if each crash did before it. The event is no run; or a run that commits
+-- nothing, or that ends without an I/O error of the tree.
 abbrev pub PreservesOneCrashState : TreeState → RootEvent → Type 0
 PreservesOneCrashState v (Ends run) = (run.answer ≢ TreeFault) ⊎ IsRunWithoutCommit v run
 PreservesOneCrashState v (Stops run) = IsRunWithoutCommit v run
@@ -224,8 +230,8 @@ PreservesOneCrashState v Crashes = Unit {0}
 PreservesOneCrashState v Edits = Unit {0}
 PreservesOneCrashState v (Touches theirs) = Unit {0}
 
--- a root has seen events, and each crash leaves one state: an event made it so, or it was so at first,
--- and the events after that kept it
+-- A root that was in the state `first` has seen these events, the newest first, and is in state w. Each crash leaves
+-- one state: an event ensured this, or this was so at first, and all later events preserved it.
 abbrev pub ReachesOneCrashState : TreeState → List RootEvent → TreeState → Type 0
 ReachesOneCrashState first [] w = w ≡ first
 ReachesOneCrashState first (event ∷ earlier) w =
@@ -234,7 +240,8 @@ ReachesOneCrashState first (event ∷ earlier) w =
     × ((Reaches first earlier v × EnsuresOneCrashState v event)
     ⊎ (ReachesOneCrashState first earlier v × PreservesOneCrashState v event))
 
--- since the last crash, or change by others, no run was stopped, and none ended by a fault of the tree
+-- in a list of events, the newest first: since the last crash or edit by others, no run was stopped, and none ended by
+-- an I/O error of the tree
 abbrev pub HasNoUnfinishedRunSinceCrash : List RootEvent → Type 0
 HasNoUnfinishedRunSinceCrash [] = Unit {0}
 HasNoUnfinishedRunSinceCrash (Ends run ∷ earlier) =
@@ -250,16 +257,17 @@ HasNoUnfinishedRunSinceCrash (Touches theirs ∷ earlier) = HasNoUnfinishedRunSi
 abbrev pub nothing_ignored : List ℕ → Bool
 nothing_ignored q = false
 
--- ignored names and the scratch name of an output
+-- the names `ignored`, and the scratch name of an output, if there is an output
 abbrev pub ignored_with_scratch : Option (List ℕ) → (List ℕ → Bool) → List ℕ → Bool
 ignored_with_scratch None ignored q = ignored q
 ignored_with_scratch (Some name) ignored q = bytes_eq q (scratch_name_of name) || ignored q
 
--- the names that are ignored during a run, by those that are ignored when it begins
+-- the names that are ignored during a run: those that are ignored when it begins, and the scratch name of its output
 abbrev pub ignored_during_run : Run → (List ℕ → Bool) → List ℕ → Bool
 ignored_during_run run ignored = ignored_with_scratch (output run.words) ignored
 
--- the names that are ignored after a run that ends with this answer
+-- the names that are ignored after a run that ends with this answer: after Ok no longer its output and the scratch
+-- name, after an I/O error of the tree also the scratch name
 abbrev pub ignored_after_answer : Answer → Run → (List ℕ → Bool) → List ℕ → Bool
 ignored_after_answer Ok run ignored = ignored_except_output (output run.words) ignored
 ignored_after_answer TreeFault run ignored = ignored_during_run run ignored
@@ -269,11 +277,11 @@ ignored_after_answer other run ignored = ignored
 abbrev pub AreNamesAmong : (List ℕ → Bool) → (List ℕ → Bool) → Type 0
 AreNamesAmong few many = (q : List ℕ) → few q ≡ true → many q ≡ true
 
--- ignored names, and those of the names `theirs` that others may touch
+-- the names `ignored`, and those of the names `theirs` that others may touch
 abbrev pub ignored_with_touched : (List ℕ → Bool) → (List ℕ → Bool) → List ℕ → Bool
 ignored_with_touched theirs ignored q = names_of_others_outside_journal theirs q || ignored q
 
--- ignored names, and all names that others touched along a list
+-- the names `ignored`, and all names that others touched along a list of events
 abbrev pub ignored_with_all_touched : List RootEvent → (List ℕ → Bool) → List ℕ → Bool
 ignored_with_all_touched [] ignored = ignored
 ignored_with_all_touched (Ends run ∷ earlier) ignored = ignored_with_all_touched earlier ignored
@@ -283,9 +291,9 @@ ignored_with_all_touched (Edits ∷ earlier) ignored = ignored_with_all_touched 
 ignored_with_all_touched (Touches theirs ∷ earlier) ignored =
     ignored_with_touched theirs (ignored_with_all_touched earlier ignored)
 
--- The names that are ignored after a list. A run with an output adds its scratch name if it is stopped
--- or the tree fails. The name is no longer ignored once the output is written, or all was synced. Names
--- that others touched are ignored until all was synced.
+-- The names that are ignored after a list of events, the newest first. A run with an output adds its scratch name if it
+-- is stopped or the tree fails. This name is no longer ignored once the output is written, or after a crash or an edit,
+-- after which all files are synced. Names that others touched are ignored until then too.
 abbrev pub ignored_after : (List ℕ → Bool) → List RootEvent → List ℕ → Bool
 ignored_after ignored [] = ignored
 ignored_after ignored (Ends run ∷ earlier) =
@@ -296,8 +304,8 @@ ignored_after ignored (Edits ∷ earlier) = nothing_ignored
 ignored_after ignored (Touches theirs ∷ earlier) =
     ignored_with_touched theirs (ignored_after ignored earlier)
 
--- since all was synced no run with an output was stopped, or ended by a fault of the tree, and others
--- touched nothing
+-- In a list of events, the newest first: since the last crash or edit, no run with an output was stopped or ended by an
+-- I/O error of the tree. Since then, others touched nothing. (After a crash or an edit all files are synced.)
 abbrev pub HasNoUnfinishedOutputSinceSync : List RootEvent → Type 0
 HasNoUnfinishedOutputSinceSync [] = Unit {0}
 HasNoUnfinishedOutputSinceSync (Ends run ∷ earlier) =

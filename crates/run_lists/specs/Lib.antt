@@ -1,7 +1,7 @@
--- passed on: a crate above that names this one need not name these
+-- re-exported crates: a crate that depends on this one can use their definitions without depending on them too
 pub use Rattle.apk_front.specs as apk_front
 pub use Rattle.apk_front.specs.journal_core as journal_core
--- cited by the laws, in the order in which it is best read
+-- modules that the laws of this crate cite, in the order in which they are best read
 pub mod Events
 pub mod Safety
 pub mod Reading

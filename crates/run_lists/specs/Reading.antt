@@ -1,5 +1,5 @@
--- What is read at each moment of a run, and the files after runs that follow each other without a
--- crash. The rules are in `docs/crash-safety.md`, "Recovery", its last two paragraphs.
+-- The files as read at each moment of a run, and after runs that follow each other without a crash. Serves laws in
+-- `src/laws.rt`. The rules are in `docs/crash-safety.md`, "Recovery", its last two paragraphs.
 use Rattle.std.specs.Prelude.{◌≡◌, ◌⊎◌, ℕ, Bool, true, false, List, [], ◌∷◌, Option}
 use Rattle.apk_front.specs.Moments.{is_temporary_name, output_names}
 use Rattle.base_core.specs.Undone.{IsCrashImage}
@@ -16,15 +16,14 @@ use Rattle.run_lists.specs.Events.{Crashes, Edits, Ends, RootEvent, IsMomentOf, 
 
 -- ---- at each moment of a run
 
--- a name is neither the intent's, nor that of a staged file, nor one under which the run makes a new
--- file
+-- the name q is neither that of the intent, nor of a staged file, nor a temporary name of the run
 pub record IsNoJournalOrDraftName (run : Run) (q : List ℕ) : Type 0 where
   -- the name is not that of the intent or of a staged file
   pub waits : IsJournalName q → ⊥
-  -- the run makes no new file under the name
+  -- the name is no temporary name, under which the run makes a new file
   pub drafts : is_temporary_name (effect_of_arguments (command_of run.words)) (output run.words) q ≡ false
 
--- at a moment of a run a name has the bytes of an outcome of the run that commits
+-- at the moment m of a run that began in v, the name q has the bytes of an outcome of the run that commits
 abbrev pub HasOutcomeBytes : TreeState → Run → TreeState → List ℕ → Type 0
 HasOutcomeBytes v run m q =
     (outcome : Outcome)
@@ -32,8 +31,8 @@ HasOutcomeBytes v run m q =
     × (outcome.commits ≡ true)
     × (files_of m q ≡ outcome.files q)
 
--- at a moment of a run a name has the bytes that it had when the run began; the recovered ones, if the
--- command recovers; or the outcome's
+-- at the moment m of a run that began in v, the name q has the bytes that it had in v; or its recovered bytes, if the
+-- command recovers; or those of an outcome that commits
 abbrev pub HasOldRecoveredOrOutcomeBytes : TreeState → Run → TreeState → List ℕ → Type 0
 HasOldRecoveredOrOutcomeBytes v run m q =
     (files_of m q ≡ files_of v q)
@@ -43,7 +42,8 @@ HasOldRecoveredOrOutcomeBytes v run m q =
 
 -- ---- runs that follow each other without a crash
 
--- an event is a run with this property that ends, or that is stopped between two calls, in the state w
+-- the event is a run from the state v with the property `Holds`, which ends, or is stopped between two calls in the
+-- state w
 abbrev pub IsRunWith : (TreeState → Run → Type 0) → TreeState → RootEvent → TreeState → Type 0
 IsRunWith Holds v (Ends run) w = Holds v run
 IsRunWith Holds v (Stops run) w = Holds v run × IsMomentOf run w
@@ -51,7 +51,8 @@ IsRunWith Holds v Crashes w = ⊥
 IsRunWith Holds v Edits w = ⊥
 IsRunWith Holds v (Touches theirs) w = ⊥
 
--- a root has seen only runs, ended or stopped, each with this property
+-- a root that was in the state `first` has seen these events, the newest first, and is in state w; all events are runs
+-- with the property `Holds`, ended, or stopped between two calls
 abbrev pub ReachesByRuns :
     (TreeState → Run → Type 0) → TreeState → List RootEvent → TreeState → Type 0
 ReachesByRuns Holds first [] w = w ≡ first
@@ -61,12 +62,11 @@ ReachesByRuns Holds first (event ∷ earlier) w =
     × IsRunWith Holds v event w
     × IsTransition v event w
 
--- no further property of a run is required
+-- true of every run: the property of *ReachesByRuns*, if nothing more is required of the runs
 abbrev pub IsUnrestrictedRun : TreeState → Run → Type 0
 IsUnrestrictedRun v run = Unit {0}
 
--- a test holds of the file of a name, or its absence, in the files as they are read and as they are
--- recovered
+-- the test holds of the file under the name q, or of its absence (None), both in the files as read and after recovery
 pub record HoldsAsReadAndAsRecovered (test : Option (List ℕ) → Bool) (q : List ℕ)
     (files : Files) : Type 0 where
   -- the test holds of the file as read
@@ -74,11 +74,11 @@ pub record HoldsAsReadAndAsRecovered (test : Option (List ℕ) → Bool) (q : Li
   -- the test holds of the file as recovery leaves it
   pub recovered : test (unstaged_files files q) ≡ true
 
--- A name is none of the journal or of a new file of the run. The test holds of what each outcome that
--- commits leaves there.
+-- The name q is no name of the journal, and no temporary name of the run. The test holds of the file, or None, that
+-- each outcome of the run which commits leaves under q.
 pub record EachCommitPassesTestAtName (test : Option (List ℕ) → Bool) (q : List ℕ) (v : TreeState)
     (run : Run) : Type 0 where
-  -- the name is not of the journal or of a new file of the run
+  -- q is no name of the journal, and no temporary name of the run
   pub no_draft : IsNoJournalOrDraftName run q
   -- the test holds of the file in each outcome of the run that commits
   pub outcomes : (outcome : Outcome) → IsOutcomeFrom v run outcome → outcome.commits ≡ true
@@ -86,14 +86,14 @@ pub record EachCommitPassesTestAtName (test : Option (List ℕ) → Bool) (q : L
 
 -- ---- a bad intent
 
--- the file under the intent's name is no intent container
+-- there is a file under the intent's name, and it is no sound intent container
 abbrev pub HasBadIntent : Files → Type 0
 HasBadIntent files = (cause : Cause) × IsIntentFault files cause
 
 -- ---- an intent's change
 
--- a name is neither the intent's, nor that of a staged file, nor one that the run may write as or for
--- its output, nor one of those ignored
+-- the name q is none of these: the intent's name, the name of a staged file, the name of the run's output or its
+-- scratch name, an ignored name
 pub record IsNoJournalOutputOrIgnoredName (ignored : List ℕ → Bool) (run : Run) (q : List ℕ) : Type 0 where
   -- the name is not that of the intent or of a staged file
   pub waits : IsJournalName q → ⊥
@@ -102,8 +102,8 @@ pub record IsNoJournalOutputOrIgnoredName (ignored : List ℕ → Bool) (run : R
   -- the name is not ignored
   pub counts : ignored q ≡ false
 
--- the intent's change is durable under a name: the name has its recovered bytes, or those of an outcome
--- of the run, and each crash leaves exactly these
+-- At the moment m of a run that began in v, the change of the intent found in v is durable under the name q: the name
+-- has its recovered bytes, or those of an outcome of the run that commits, and each crash leaves exactly these.
 pub record HasDurableRecoveredOrOutcomeBytes (v : TreeState) (run : Run) (m : TreeState)
     (q : List ℕ) : Type 0 where
   -- the file is the recovered one, or that of an outcome of the run

@@ -24,7 +24,7 @@ use Rattle.run_lists.specs.Reading.{HasBadIntent}
 abbrev pub LeavesNoBadIntent : TreeState → Type 0
 LeavesNoBadIntent v = (image : Files) → IsCrashImage v image → HasBadIntent image → ⊥
 
--- if the event is an edit of files by others, no bad intent is in the files after it
+-- if the event is an edit of files by others, there is no bad intent in the files of w, the state after it
 abbrev pub PutsNoBadIntent : RootEvent → TreeState → Type 0
 PutsNoBadIntent (Ends run) w = Unit {0}
 PutsNoBadIntent (Stops run) w = Unit {0}
@@ -32,7 +32,8 @@ PutsNoBadIntent Crashes w = Unit {0}
 PutsNoBadIntent Edits w = HasBadIntent (files_of w) → ⊥
 PutsNoBadIntent (Touches theirs) w = Unit {0}
 
--- a root has seen events, and others put no bad intent there
+-- a root that was in the state `first` has seen these events, the newest first, and is in state w; after no edit by
+-- others was there a bad intent
 abbrev pub ReachesWithoutBadIntent : TreeState → List RootEvent → TreeState → Type 0
 ReachesWithoutBadIntent first [] w = w ≡ first
 ReachesWithoutBadIntent first (event ∷ earlier) w =
@@ -41,22 +42,22 @@ ReachesWithoutBadIntent first (event ∷ earlier) w =
     × IsTransition v event w
     × PutsNoBadIntent event w
 
--- a run is not refused for its intent
+-- the run does not answer that the intent is bad
 abbrev pub IsNotRefusedForIntent : Run → Type 0
 IsNotRefusedForIntent run = (cause : Cause) → run.answer ≢ Refused (IntentBad cause)
 
 -- ---- after a run that was stopped
 
--- files have the state of others, apart from the ignored names
+-- the files `files` have the same state as the files `others`, apart from the ignored names
 abbrev pub HasSameState : (List ℕ → Bool) → Files → Files → Type 0
 HasSameState ignored others files = state_of ignored files ≡ state_of ignored others
 
--- files have a state that a crash might have left when the run began
+-- files have the state of some files that a crash in the state v might have left; the run begins in v
 abbrev pub HasStateOfSomeCrashBefore : (List ℕ → Bool) → TreeState → Files → Type 0
 HasStateOfSomeCrashBefore ignored v files =
     (was : Files) × IsCrashImage v was × HasSameState ignored was files
 
--- files have a state from before the run, or that of an outcome of the run, which commits
+-- files have a state that a crash before the run might have left, or that of an outcome of the run, which commits
 abbrev pub HasStateOfCrashBeforeOrOutcome : (List ℕ → Bool) → TreeState → Run → Files → Type 0
 HasStateOfCrashBeforeOrOutcome ignored v run files =
     HasStateOfSomeCrashBefore ignored v files
@@ -74,16 +75,16 @@ pub record AreRecoveredWithState (HasState : Files → Type 0) (files : Files) :
   -- the files have the state
   pub state : HasState files
 
--- The next run, which finds the root in the state w, is not refused for an intent. It works on the
--- recovered files, and these are as *AreRecoveredWithState* says. If its outcome commits nothing, they are what
--- is read once this is answered.
+-- The run `next`, which finds the root in the state w, is not refused for an intent. It works on the recovered files,
+-- and these are as *AreRecoveredWithState* says. If its outcome commits nothing, the files as read once this is
+-- answered are the recovered ones.
 pub record IsRecoveredBy (HasState : Files → Type 0) (w : TreeState) (next : Run) :
     Type 0 where
   -- the next run does not answer that the intent is bad
   pub unrefused : IsNotRefusedForIntent next
   -- the intent, if there is one, is not bad
   pub works : recovery_fault (effect_of_arguments (command_of next.words)) (files_of w) ≡ None
-  -- recovery leaves files of this state, with nothing left to do
+  -- recovery leaves files of this state, without an intent and staged files
   pub files : AreRecoveredWithState HasState (unstaged_files (files_of w))
   -- after an answer whose outcome commits nothing, the files as read are the recovered ones
   pub read : IsOkRefusedOrOutputFault next.answer → HasOutcomeWithoutCommit (IsOutcomeFrom w next)

@@ -17,8 +17,8 @@ use Rattle.run_lists.specs.Events.{RootEvent, Reaches, ReachesOneCrashState, IsR
 
 -- ---- from any states that a crash might have left before the run
 
--- at a moment of a run a crash leaves a state from before; or the run has an outcome that commits, and
--- a crash leaves a state from before or that of its files
+-- at the moment m of a run that began in v, each crash leaves a state from before the run; or the run has an outcome
+-- that commits, and each crash leaves a state from before the run or that of the outcome's files
 abbrev pub LeavesOldOrOutcome : (List ℕ → Bool) → TreeState → Run → TreeState → Type 0
 LeavesOldOrOutcome ignored v run m =
     EachCrashLeavesOld ignored v m
@@ -35,32 +35,34 @@ pub record KeepsStateFromBefore (ignored : List ℕ → Bool) (v m : TreeState) 
   -- the files as read have the same state as in v
   pub reads : state_of ignored (files_of m) ≡ state_of ignored (files_of v)
 
--- the run's outcome was answered, or a sink's fault in its place, and its files are read
+-- the run's outcome was answered, or a fault of a sink in its place, and the files as read in w are those of the
+-- outcome
 pub record LeavesFilesOfAnsweredOutcome (ignored : List ℕ → Bool) (v : TreeState) (run : Run)
     (w : TreeState) : Type 0 where
   -- an outcome of the run
   pub outcome : Outcome
+  -- this is an outcome of the run's command line over the files as read in v
   pub is_outcome : IsOutcomeFrom v run outcome
   -- the answer is that of the outcome, or a fault of a sink
   pub answered : (run.answer ≡ answer_of outcome) ⊎ (run.answer ≡ OutFault)
   -- the files as read are those of the outcome
   pub reads : files_of w ≡ outcome.files
-  -- each crash leaves them, if it commits, if each left the old ones before, or if an intent was found
-  -- and completed
+  -- each crash leaves the state of these files in three cases: the outcome commits; each crash left the files as read
+  -- before the run; or an intent was found and its change completed
   pub settled : MustOutcomeBeDurable (effect_of_arguments (command_of run.words))
       (ignored_during_run run ignored) v outcome
       → EachCrashLeavesStateOf (ignored_during_run run ignored) outcome.files w
-  -- if it commits, under its output and the scratch name too
+  -- if the outcome commits, each crash leaves its files, also under the output's name and its scratch name
   pub durable_state : outcome.commits ≡ true
       → IsDurableAndLeavesFiles (ignored_except_output (output run.words) ignored) outcome.files w
 
--- A run is safe: at each moment a crash leaves a state from before or that of the outcome. Once the
--- outcome is answered its files are read, and are durable. A run that commits nothing keeps the state.
+-- A run is safe: at each moment a crash leaves a state from before the run or that of the outcome. Once the outcome is
+-- answered, the files as read are the outcome's, and durable. A run that commits nothing keeps the state.
 pub record IsSafeRun (ignored : List ℕ → Bool) (v : TreeState) (run : Run) : Type 0 where
   -- at each moment of the run a crash leaves an old state or that of an outcome
   pub moments : (m : TreeState) → IsMomentOf run m
       → LeavesOldOrOutcome (ignored_during_run run ignored) v run m
-  -- after the answer of an outcome its files are read, or after a fault of a sink in its place
+  -- after Ok, a refusal, or a fault of a sink, the files as read are those of the outcome
   pub answered : IsOkRefusedOrOutputFault run.answer
       → HoldsNow run.now (LeavesFilesOfAnsweredOutcome ignored v run)
   -- a run without a commit keeps the state at each moment
@@ -69,7 +71,8 @@ pub record IsSafeRun (ignored : List ℕ → Bool) (v : TreeState) (run : Run) :
 
 -- ---- from one state
 
--- what a crash leaves has the old state; or that of an outcome of the run, which commits
+-- the files `image`, which a crash leaves, have the state of the files as read in v, where the run began; or that of an
+-- outcome of the run, which commits
 abbrev pub HasStateAsReadOrOutcome : (List ℕ → Bool) → TreeState → Run → Files → Type 0
 HasStateAsReadOrOutcome ignored v run image =
     (state_of ignored image ≡ state_of ignored (files_of v))
@@ -78,8 +81,9 @@ HasStateAsReadOrOutcome ignored v run image =
     × (outcome.commits ≡ true)
     × (state_of ignored image ≡ state_of ignored outcome.files))
 
--- All or nothing: at each moment a crash leaves the old state or that of the outcome. Once it is
--- answered a crash leaves that of the outcome, and the old one if the run commits nothing.
+-- The run is all or nothing: at each moment a crash leaves the state before the run, or that of the outcome. Once the
+-- outcome is answered, a crash leaves the outcome's state. If the run commits nothing, a crash leaves the state before
+-- it.
 pub record IsAtomic (ignored : List ℕ → Bool) (v : TreeState) (run : Run) : Type 0 where
   -- at each moment of the run a crash leaves the old state or that of an outcome
   pub moments : (m : TreeState) → IsMomentOf run m → (image : Files) → IsCrashImage m image
@@ -93,15 +97,15 @@ pub record IsAtomic (ignored : List ℕ → Bool) (v : TreeState) (run : Run) : 
 
 -- ---- after every list
 
--- whatever list a root has seen, from a durable tree on, a run that begins in the state v is safe
+-- a run that begins in the state v is safe, after any list of events by which a root has reached v from a durable tree
 abbrev pub IsSafeAfterAnyEvents : TreeState → Run → Type 0
 IsSafeAfterAnyEvents v run =
     (ignored : List ℕ → Bool) (first : TreeState) (events : List RootEvent)
     → ignored intent_name ≡ false → IsDurable (StateDependsOn ignored) first → Reaches first events v
     → IsSafeRun (ignored_after ignored events) v run
 
--- a run that begins in the state v is all or nothing, whatever list a root has seen after which each
--- crash leaves one state
+-- Suppose that a root has reached the state v by any list of events, after which each crash leaves one state. Then a
+-- run that begins in v is all or nothing.
 abbrev pub IsAtomicAfterAnyEvents : TreeState → Run → Type 0
 IsAtomicAfterAnyEvents v run =
     (ignored : List ℕ → Bool) (first : TreeState) (events : List RootEvent)

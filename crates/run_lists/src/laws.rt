@@ -1,5 +1,6 @@
-//! Laws on lists of runs, stops and crashes. The rules are in `docs/crash-safety.md`, "Recovery",
-//! its last two paragraphs; the sentence is in the README of this crate.
+//! Laws on lists of runs, stops, crashes and changes by others, which `headline` calls. `v` is the
+//! state in which a run begins, and `ignored` are the names ignored at the start of the list. The
+//! rules are in `docs/crash-safety.md`, "Recovery", its last two paragraphs.
 ghost use Rattle.std.specs.Prelude.{◌≡◌, ℕ, Bool, false, true, List, None, Option, IsSome, IsTrue};
 ghost use Rattle.apk_front.specs.Moments.{IsOkRefusedOrOutputFault, HasOutcomeWithoutCommit, IgnoresScratchNameOfOutput, IsDurableAndLeavesFiles};
 ghost use Rattle.base_core.specs.Calls.{HoldsNow};
@@ -28,10 +29,10 @@ use apk_front::{
     only_a_bad_intent_is_refused_as_one,
 };
 
-/// Safety, after whatever list of runs, stops, crashes and changes by others that a root has seen
-/// from a durable tree on. A run, ended or stopped at any moment, recovers to a state from before
-/// it or to that of its outcome's files. Once the outcome was answered, it is the latter. If the
-/// root had one state, these are two.
+/// Safety of a run, after any list of runs, stops, crashes and changes by others that a root has
+/// seen from a durable tree on. Whether the run ended or was stopped, recovery yields a state from
+/// before it, or that of its outcome's files. Once the outcome was answered, recovery yields the
+/// latter. If the root had one state before the run, there are just these two.
 ///
 /// `ignored` are names that are ignored from the start, such as scratch names of outputs; on an
 /// ordinary root there are none.
@@ -42,9 +43,8 @@ pub fn a_run_is_safe_after_any_events()
         → Reaches first events v
         → IsDurable (StateDependsOn (ignored_after ignored events)) v }
 
-    // So the clauses of `apk` on crashes hold of the next run, whatever its command line is: the
-    // set of ignored names, with the scratch name of the output of this run, meets their
-    // conditions.
+    // So the next run meets the conditions of the clauses of `apk` on crashes, whatever its command
+    // line is: the tree is durable, and the scratch name of the run's output is ignored too.
     ensures begins { (ignored : List ℕ → Bool) (first v : TreeState) (events : List RootEvent)
         (words : List (List ℕ)) → ignored intent_name ≡ false
         → IsDurable (StateDependsOn ignored) first
@@ -52,32 +52,33 @@ pub fn a_run_is_safe_after_any_events()
         → let names = ignored_with_scratch (output words) (ignored_after ignored events) in
         IsDurable (StateDependsOn names) v × IgnoresScratchNameOfOutput (output words) names }
 
-    // On an ordinary root no name is ignored, and none is until a run with an output is stopped, or
-    // ends by an I/O error of the tree.
+    // On an ordinary root no name is ignored at first. None becomes ignored until a run with an
+    // output is stopped, or ends by an I/O error of the tree.
     ensures ordinary { (events : List RootEvent) (q : List ℕ)
         → HasNoUnfinishedOutputSinceSync events
         → ignored_after nothing_ignored events q ≡ false }
 
-    // The next run is safe.
+    // The next run is safe after any such list (*IsSafeRun*).
     ensures safe { (v : TreeState) (run : Run) → IsRunFrom v run → IsSafeAfterAnyEvents v run }
 
-    // Each crash leaves one state, that of the files as read, if it did so at the start. This lasts
-    // until a run that commits is stopped, or ends by an I/O error of the tree. It holds again
-    // after a crash, after a synced change by others, after a commit that was answered, and after a
-    // change that was found and completed.
+    // Each crash leaves one state, that of the files as read, if each crash did so at the start.
+    // Names that are ignored at the start, or become so along the list (`ignored_after`), are left
+    // out. This lasts until a run that commits is stopped, or ends by an I/O error of the tree. It
+    // holds again after a crash, after a synced change by others, after a commit that was answered,
+    // and after an intent was found and its change completed.
     ensures one_state { (ignored : List ℕ → Bool) (first v : TreeState) (events : List RootEvent)
         → ignored intent_name ≡ false → IsDurableAndLeavesFiles ignored (files_of first) first
         → ReachesOneCrashState first events v
         → IsDurableAndLeavesFiles (ignored_after ignored events) (files_of v) v }
 
-    // After a list of events each crash leaves one state, if since the last crash or change by
-    // others no run was stopped, and none ended by an I/O error of the tree. A power cut during a
-    // run is a crash.
+    // Suppose that since the last crash or synced change by others no run was stopped, and none
+    // ended by an I/O error of the tree. Then each crash leaves one state after the list
+    // (*ReachesOneCrashState*). A power cut during a run counts as a stop and then a crash.
     ensures without_pending_run { (first v : TreeState) (events : List RootEvent)
         → Reaches first events v → HasNoUnfinishedRunSinceCrash events
         → ReachesOneCrashState first events v }
 
-    // If each crash leaves one state before the next run, this run is all or nothing.
+    // If each crash leaves one state before the next run, this run is all or nothing (*IsAtomic*).
     ensures atomic { (v : TreeState) (run : Run) → IsRunFrom v run → IsAtomicAfterAnyEvents v run }
 {
     // Laws that the proof needs; they have no effect at run time.
@@ -88,8 +89,8 @@ pub fn a_run_is_safe_after_any_events()
     a_crash_leaves_the_old_files_or_those_of_the_outcome();
 }
 
-/// A root keeps one and the same state, however often it is recovered, stopped in its recovery and
-/// recovered again.
+/// A root keeps one state along events that commit nothing, however often it is recovered, stopped
+/// in its recovery, and recovered again.
 pub fn a_root_that_commits_nothing_keeps_its_state()
     // Crashes, and runs that commit nothing, ended or stopped, leave the state unchanged, apart
     // from names that others touched.
@@ -97,8 +98,9 @@ pub fn a_root_that_commits_nothing_keeps_its_state()
         → IsDurableAndLeavesFiles ignored (files_of v) v → ReachesWithoutCommit v events w
         → IsDurableAndLeavesFiles (ignored_with_all_touched events ignored) (files_of v) w }
 
-    // So two roots that come from one root by events without a commit have the same state, except
-    // under ignored names.
+    // Suppose that two trees come from the same tree by events without a commit. They have the same
+    // state, except under the names `names`, which include all names that are ignored along both
+    // lists.
     ensures agree { (ignored names : List ℕ → Bool) (v w u : TreeState)
         (events others : List RootEvent) → IsDurableAndLeavesFiles ignored (files_of v) v
         → ReachesWithoutCommit v events w → ReachesWithoutCommit v others u
@@ -110,12 +112,12 @@ pub fn a_root_that_commits_nothing_keeps_its_state()
     ensures readers { (v : TreeState) (run : Run) → IsTrue (reads_only (command_of run.words))
         → IsRunWithoutCommit v run }
 
-    // The state has the recovered files under each name except those ignored.
+    // A state of files has, under each name that is not ignored, the recovered file.
     ensures read { (ignored : List ℕ → Bool) (files : Files) (q : List ℕ)
         → ignored q ≡ false → state_of ignored files q ≡ unstaged_files files q }
 
-    // So a run that recovers, and has an outcome that commits nothing, leaves exactly those files
-    // once the outcome is answered, unless a bad intent was refused.
+    // A run that recovers, with an outcome that commits nothing, leaves exactly the recovered files
+    // once the outcome is answered, if the intent is not bad.
     ensures recovers { (v : TreeState) (run : Run) → IsRunFrom v run
         → does_recover (effect_of_arguments (command_of run.words)) ≡ true
         → recovery_fault (effect_of_arguments (command_of run.words)) (files_of v) ≡ None
@@ -133,7 +135,8 @@ pub fn a_root_that_commits_nothing_keeps_its_state()
 /// recovered ones or the outcome's. The same holds along runs that follow each other without a
 /// crash. This excludes the intent's name and temporary names, and needs no file to be synced.
 pub fn each_name_keeps_old_recovered_or_new_bytes()
-    // At each moment of a run each name, except those of the journal and of drafts, has such bytes.
+    // At each moment of a run each name has its old bytes, its recovered ones, or those of an
+    // outcome that commits. Names of the journal and temporary names are left out.
     ensures moments { (v m : TreeState) (run : Run) (q : List ℕ) → IsRunFrom v run
         → IsMomentOf run m → IsNoJournalOrDraftName run q
         → HasOldRecoveredOrOutcomeBytes v run m q }
@@ -142,9 +145,10 @@ pub fn each_name_keeps_old_recovered_or_new_bytes()
     ensures commits { (words : List (List ℕ)) (files : Files) (o : Outcome)
         → IsOutcome (command_of words) files o → o.commits ≡ true → o.files intent_name ≡ None }
 
-    // Suppose that a test of a name's file (say, that it exists) holds at first, both as read and
-    // as recovered, and in each outcome that commits. Then it holds after each run, and wherever
-    // one is stopped.
+    // Suppose that a test of the file under a name holds at first, of the file as read and as
+    // recovered, and in each outcome that commits. (An example of a test is that the file exists.)
+    // Then the test holds after each run, and at each moment at which a run is stopped between two
+    // calls.
     ensures along { (test : Option (List ℕ) → Bool) (q : List ℕ) (first w : TreeState)
         (events : List RootEvent) → (IsJournalName q → ⊥)
         → HoldsAsReadAndAsRecovered test q (files_of first)
@@ -160,6 +164,7 @@ pub fn each_name_keeps_old_recovered_or_new_bytes()
 
 /// If the intent is bad, no run writes anything, whatever its arguments and its answer.
 pub fn a_bad_intent_and_all_files_are_kept()
+    // A run that finds a bad intent makes no new state of the tree.
     ensures run { (v : TreeState) (run : Run) → IsRunFrom v run → HasBadIntent (files_of v)
         → run.now ≡ run.old }
 
@@ -168,10 +173,12 @@ pub fn a_bad_intent_and_all_files_are_kept()
         → ReachesByRuns IsUnrestrictedRun first events w → w ≡ first }
 {}
 
-/// An intent's change is durable at each moment of the next run at which no intent is read, also if
-/// the run is stopped. Each name has its recovered bytes, or those of an outcome of the run, and
-/// each crash leaves exactly these.
+/// The change of an intent that a run finds is durable at each moment of this run at which no
+/// intent is read, also if the run is stopped. At such a moment each name has its recovered bytes,
+/// or those of an outcome of the run, and each crash leaves exactly these bytes. Names of the
+/// journal, of the output and ignored names are left out.
 pub fn the_actions_of_an_intent_are_durably_done()
+    // v is the state in which the run begins, m a moment of this run, and q a name.
     ensures { (ignored : List ℕ
         → Bool) (first v m : TreeState) (events : List RootEvent) (run : Run)
         → ignored intent_name ≡ false → IsDurable (StateDependsOn ignored) first
@@ -188,11 +195,10 @@ pub fn the_actions_of_an_intent_are_durably_done()
     a_crash_leaves_the_old_files_or_those_of_the_outcome();
 }
 
-/// A crash never leaves a corrupt intent on a root that has none. This holds after whatever list of
-/// runs, stops and crashes, and of changes by others that put none there. So the next run can
-/// recover, and is not refused for an intent.
+/// On a root without a bad intent, no list of events leaves one, if others put none there by an
+/// edit. So the next run can recover, and is not refused for an intent.
 pub fn no_events_leave_a_bad_intent()
-    // A run that is stopped at a moment is an event too.
+    // If no crash could leave a bad intent at first, none can after the events.
     ensures along { (ignored : List ℕ → Bool) (first v : TreeState) (events : List RootEvent)
         → ignored intent_name ≡ false → IsDurable (StateDependsOn ignored) first
         → LeavesNoBadIntent first → ReachesWithoutBadIntent first events v → LeavesNoBadIntent v }
@@ -200,7 +206,7 @@ pub fn no_events_leave_a_bad_intent()
     // So recovery finds no fault in the intent, whatever the command line is.
     ensures recovers { (v : TreeState) (words : List (List ℕ)) → LeavesNoBadIntent v
         → recovery_fault (effect_of_arguments (command_of words)) (files_of v) ≡ None }
-    // Nor does a run that recovers answer that an intent is bad.
+    // A run that recovers does not answer that an intent is bad.
     ensures unrefused { (v : TreeState) (run : Run) → IsRunFrom v run
         → does_recover (effect_of_arguments (command_of run.words)) ≡ true → LeavesNoBadIntent v
         → IsNotRefusedForIntent run }
@@ -216,10 +222,10 @@ pub fn no_events_leave_a_bad_intent()
     only_a_bad_intent_is_refused_as_one();
 }
 
-/// A run that is stopped at any moment is recovered, whatever list of runs, stops and crashes the
-/// root had seen, and however often crashes and stopped recoveries followed. The next run that
-/// recovers is not refused for an intent. It works on files in which nothing is left to do, and
-/// which have a state from before the stopped run, or that of its outcome.
+/// A run that is stopped at any moment is recovered. This holds after any list of events, and
+/// however often crashes and stopped recoveries followed the stop. The next run that recovers is
+/// not refused for an intent. It works on files without an intent and staged files. These have a
+/// state from before the stopped run, or that of the stopped run's outcome.
 pub fn a_stopped_run_is_recovered()
     // The next run that recovers works on recovered files.
     ensures recovered { (ignored : List ℕ → Bool) (first v m w : TreeState)
@@ -244,8 +250,8 @@ pub fn a_stopped_run_is_recovered()
         (image : Files) × IsCrashImage m image
         × IsRecoveredBy (HasSameState (ignored_with_all_touched later names) image) w next }
 
-    // If each crash left one state when the stopped run began, the next run finds the old state or
-    // that of the outcome.
+    // Suppose that each crash left one state when the stopped run began. Then files with a state
+    // from before the run, or that of its outcome, have this one state or that of the outcome.
     ensures two { (ignored : List ℕ → Bool) (v : TreeState) (run : Run) (files : Files)
         → EachCrashLeavesStateOf ignored (files_of v) v
         → HasStateOfCrashBeforeOrOutcome ignored v run files

@@ -1,5 +1,5 @@
-//! A run of `apk` on a root that has seen any list of runs, stops and crashes. The contract is that
-//! of `apk`, as the README of this crate says in "The sentence".
+//! A run of `apk` on a root that has seen any list of events. The contract follows from that of
+//! `apk`, as the README of this crate says in "The sentence".
 ghost use Rattle.base_core.specs.Calls.{IfObservable};
 ghost use Rattle.base_core.specs.Sink.{sink_before_and_after};
 ghost use Rattle.run_lists.specs.Events.{IsRunFrom, Run};
@@ -10,8 +10,8 @@ use apk_front::{Answer, apk};
 use base_core::{Sink, Tree, Words};
 use std::alloc::Global;
 
-/// Runs a command line on a root, by `apk`. The contract says what this very run leaves of a root
-/// whose history is observable, and that has seen whatever list of runs, stops and crashes.
+/// Runs a command line on a root, by `apk`. The contract says what this run leaves of a root whose
+/// tree is observable, after any list of events that the root has seen.
 pub fn run_on_a_root<T: Tree, O: Sink, E: Sink>(
     alloc: Global,
     words: &Words,
@@ -19,7 +19,8 @@ pub fn run_on_a_root<T: Tree, O: Sink, E: Sink>(
     out: &mut O,
     err: &mut E,
 ) -> Answer
-    // The call of `apk` is a run; so after any list it is safe, and from one state all or nothing.
+    // The call of `apk` is a run from the state v. So after any list of events the run is safe, and
+    // all or nothing if each crash left one state before it.
     ensures { IfObservable (T.history tree.old) (λ v. let run : Run = record {
       words = words.now;
       old = T.history tree.old;
