@@ -28,6 +28,7 @@ pub trait Sink {
     /// `SinkFault` if the sink failed; then it took nothing.
     fn write(&mut self, piece: &[u8]) -> Result<usize, SinkFault>
         ensures taken { IfOk result (λ n. IsWriteCount n piece.now) }
+        // A write of no bytes succeeds.
         ensures empty { piece.now ≡ [] → IsOk result }
         // On Ok, exactly the first n bytes of the piece are added, where n is the result.
         ensures added { IfOk result (λ n.
@@ -53,6 +54,7 @@ pub fn write_all<S: Sink>(sink: &mut S, bytes: &[u8]) -> Result<(), SinkFault>
 {
     let mut rest = bytes;
     while !rest.is_empty() {
+        // How many bytes the sink took: at least one, so that the loop ends.
         let taken = sink.write(rest)?;
         rest = &rest[taken..];
     }
