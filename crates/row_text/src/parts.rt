@@ -1,6 +1,6 @@
 //! Reads the lines of a row about files before and after a command line, and about planned
-//! failures. The lines are in `tests/rows.md`, "Lines" (`in memory`, `file`, `then`, `\`) and "What
-//! goes wrong"; the faults of lines are in "A text that is none".
+//! failures; `reader` calls these functions. The forms of lines are in `tests/rows.md`, "Lines" and
+//! "What goes wrong"; what is wrong with a line is in "A text that is none".
 use crate::reader::{Form, Reader, Target, first_word};
 use crate::row::{Content, NamedFile, SinkPlan, Sweeps, TreePlan, Trouble};
 use crate::words::{add_hex, number};
@@ -8,8 +8,8 @@ use base_core::Name;
 use row_lines::value_named;
 use std::alloc::Global;
 
-// How the bytes of a file or of an output are written in the lines `|`, by the last word of the
-// line that begins it.
+// For each word that ends a line `file`, `then` or `out`: how the bytes of the file or of the
+// output are written in the lines `|` that follow.
 #[rattlefmt::skip]
 const FORMS: [(&[u8], Form); 3] = [
     (b"text", Form::Text),
@@ -19,8 +19,8 @@ const FORMS: [(&[u8], Form); 3] = [
 
 /// Files.
 impl Reader {
-    /// Takes `in memory`: the row runs only over a tree in memory, not in a folder of the host. All
-    /// rows that are read here run in memory, so that the line has no effect.
+    /// Reads the rest of a line `in memory`: the row runs only on a tree in memory, not in a folder
+    /// of the host. All rows that are read here run in memory, so that the line has no effect.
     pub(crate) fn keep_in_memory(&mut self, rest: &[u8]) -> Result<(), Trouble> {
         if rest != b"memory".as_slice() {
             return Err(Trouble::BadShape);
@@ -31,11 +31,12 @@ impl Reader {
         }
     }
 
-    /// Takes `file PATH ..`: a file that is there before the first command line.
+    /// Reads the rest of a line `file PATH FORM`: before the first command line, a file is at PATH.
     pub(crate) fn add_given(&mut self, rest: &[u8]) -> Result<(), Trouble> {
         if self.step.is_some() {
             return Err(Trouble::OutOfPlace);
         }
+        // The path, and the word after it, such as `text`.
         let (path, kind) = first_word(rest);
         let form = form_of(kind)?;
         let file = NamedFile {
@@ -50,8 +51,10 @@ impl Reader {
         Ok(())
     }
 
-    /// Takes `then PATH ..`: what is expected at a path after the command line.
+    /// Reads the rest of a line `then PATH FORM` or `then PATH absent`: what is expected at PATH
+    /// after the command line.
     pub(crate) fn add_wanted(&mut self, rest: &[u8]) -> Result<(), Trouble> {
+        // The path, and the word after it, such as `text` or `absent`.
         let (path, kind) = first_word(rest);
         let name = name_of(self.alloc, path)?;
         if kind == b"absent".as_slice() {
@@ -76,7 +79,8 @@ impl Reader {
         Ok(())
     }
 
-    /// Takes `| LINE`: a line of the file or of the output that was named last.
+    /// Reads the rest of a line `| LINE`: `piece` is the next line of the file or of the output
+    /// that was named last.
     pub(crate) fn add_piece(&mut self, piece: &[u8]) -> Result<(), Trouble> {
         match self.target {
             Target::Given(form) => {
@@ -101,11 +105,13 @@ impl Reader {
         }
     }
 
-    /// Takes `\`: the last line of the file or of the stream before has no line end.
+    /// Reads the rest of a line `\`: the file or the stream that was written last has no line end
+    /// after its last line.
     pub(crate) fn cut_line_end(&mut self, rest: &[u8]) -> Result<(), Trouble> {
         if !rest.is_empty() {
             return Err(Trouble::BadShape);
         }
+        // After this line, no line may add to the same text.
         let target = self.target;
         self.target = Target::Nothing;
         match target {
@@ -130,7 +136,7 @@ impl Reader {
     }
 }
 
-/// The name of a path. A text that is no path of a file is a fault.
+/// The path as a name. A text that is no valid path of a file is a fault.
 pub(crate) fn name_of(alloc: Global, path: &[u8]) -> Result<Name, Trouble> {
     match Name::read(alloc, path)? {
         Some(name) => Ok(name),
@@ -138,7 +144,7 @@ pub(crate) fn name_of(alloc: Global, path: &[u8]) -> Result<Name, Trouble> {
     }
 }
 
-/// How the lines of a file are read, by the word after its path.
+/// The form in which the bytes of a file are written, by the word after its path.
 fn form_of(word: &[u8]) -> Result<Form, Trouble> {
     match value_named(&FORMS, word) {
         Some(form) => Ok(form),
@@ -146,8 +152,8 @@ fn form_of(word: &[u8]) -> Result<Form, Trouble> {
     }
 }
 
-/// An empty content, to which lines in this form can be added. A dump text keeps `line`, the number
-/// of the line at which it begins, for reports.
+/// An empty content, to which lines in this form can be added. With a dump text, the content keeps
+/// `line`, the number of the line of the text of rows at which the dump text begins, for reports.
 fn empty_content(alloc: Global, form: Form, line: u64) -> Content {
     match form {
         Form::Text | Form::Hex => Content::Bytes(Vec::new(alloc)),
@@ -170,7 +176,8 @@ fn add_to_last(files: &mut Vec<NamedFile>, form: Form, piece: &[u8]) -> Result<(
     }
 }
 
-/// Adds a line to a content: the bytes of hexadecimal digits, or the line itself with a line end.
+/// Adds the line `piece` to a content: the bytes that hexadecimal digits denote, or the line itself
+/// with a line end.
 fn add_to(content: &mut Content, form: Form, piece: &[u8]) -> Result<(), Trouble> {
     match (content, form) {
         (Content::Bytes(bytes), Form::Hex) => add_hex(bytes, piece),
@@ -179,7 +186,7 @@ fn add_to(content: &mut Content, form: Form, piece: &[u8]) -> Result<(), Trouble
     }
 }
 
-/// Adds a line to a text, followed by a line end.
+/// Adds the line `piece` and a line end to a text.
 pub(crate) fn add_line(text: &mut Vec<u8>, piece: &[u8]) -> Result<(), Trouble> {
     text.extend_from_slice(piece)?;
     text.push(b'\n')?;
@@ -215,8 +222,9 @@ fn cut(text: &mut Vec<u8>) -> Result<(), Trouble> {
 
 /// Standard output.
 impl Reader {
-    /// Takes `out ..`: in which form the expected output of the last command line follows, or how
-    /// many bytes standard output takes of the next command line.
+    /// Reads the rest of a line `out ..`. With `hex` or `dump`, the expected output of the last
+    /// command line follows in this form. Otherwise the line plans how many bytes standard output
+    /// takes of the next command line.
     pub(crate) fn read_out(&mut self, rest: &[u8]) -> Result<(), Trouble> {
         match value_named(&FORMS, rest) {
             Some(Form::Hex) => self.print_hex(),
@@ -225,7 +233,8 @@ impl Reader {
         }
     }
 
-    /// Takes `out hex`: bytes of the expected output follow, in lines `|` with hexadecimal digits.
+    /// Reads a line `out hex`: bytes of the expected output follow in lines `|`, as hexadecimal
+    /// digits.
     fn print_hex(&mut self) -> Result<(), Trouble> {
         let Some(step) = &self.step else {
             return Err(Trouble::NoCommand);
@@ -239,7 +248,8 @@ impl Reader {
         }
     }
 
-    /// Takes `out dump`: the expected output is a container, whose dump text follows in lines `|`.
+    /// Reads a line `out dump`: the expected output is a container, whose dump text follows in
+    /// lines `|`.
     fn print_dump(&mut self) -> Result<(), Trouble> {
         let Some(step) = &mut self.step else {
             return Err(Trouble::NoCommand);
@@ -256,7 +266,8 @@ impl Reader {
 
 /// Planned failures of the next command line.
 impl Reader {
-    /// Takes `fail N ..` or `fail each`: the calls of the tree that fail.
+    /// Reads the rest of a line `fail N N ..` (the calls of the tree with these numbers fail) or
+    /// `fail each` (each call fails in a further run of its own).
     pub(crate) fn plan_failures(&mut self, rest: &[u8]) -> Result<(), Trouble> {
         if rest == b"each".as_slice() {
             let (fail, stop) = (true, false);
@@ -269,8 +280,8 @@ impl Reader {
         self.plan_tree(TreePlan::Fail(calls))
     }
 
-    /// Takes `stop each`: in further runs, all calls of the tree fail after each number of calls in
-    /// turn.
+    /// Reads the rest of a line `stop each`: there are further runs, in each of which all calls of
+    /// the tree after some number of calls fail.
     pub(crate) fn plan_stops(&mut self, rest: &[u8]) -> Result<(), Trouble> {
         if rest != b"each".as_slice() {
             return Err(Trouble::BadShape);
@@ -279,7 +290,8 @@ impl Reader {
         self.plan_sweeps(Sweeps { fail, stop })
     }
 
-    /// Plans further runs of the next command line, in addition to those that are already planned.
+    /// Plans the further runs `more` of the next command line, besides those that are planned
+    /// already.
     fn plan_sweeps(&mut self, more: Sweeps) -> Result<(), Trouble> {
         if let TreePlan::Each(sweeps) = &mut self.plan.tree {
             if (sweeps.fail && more.fail) || (sweeps.stop && more.stop) {
@@ -306,23 +318,24 @@ impl Reader {
         }
     }
 
-    /// Takes `out ends after ..` or `out takes ..`: how many bytes standard output takes of the
-    /// next command line.
+    /// Reads the rest of a line `out ends after ..` or `out takes ..`: how many bytes standard
+    /// output takes of the next command line.
     fn plan_out(&mut self, rest: &[u8]) -> Result<(), Trouble> {
         self.plan.out = sink_plan(self.plan.out, rest)?;
         Ok(())
     }
 
-    /// Takes `err ends after ..` or `err takes ..`: how many bytes standard error takes of the next
-    /// command line.
+    /// Reads the rest of a line `err ends after ..` or `err takes ..`: how many bytes standard
+    /// error takes of the next command line.
     pub(crate) fn plan_err(&mut self, rest: &[u8]) -> Result<(), Trouble> {
         self.plan.err = sink_plan(self.plan.err, rest)?;
         Ok(())
     }
 }
 
-/// The plan of a stream with one more line: `ends after N` (bytes), `ends after each` (number of
-/// bytes in turn), or `takes N at most` (bytes of one write).
+/// The plan of a stream after one more line, given the plan before and what follows `out` or `err`:
+/// `ends after N` (bytes), `ends after each` (number of bytes, in further runs), or `takes N at
+/// most` (bytes of one write).
 fn sink_plan(before: SinkPlan, rest: &[u8]) -> Result<SinkPlan, Trouble> {
     let mut plan = before;
     if let Some(count) = rest.strip_prefix(b"ends after ") {
@@ -349,7 +362,7 @@ pub(crate) fn number_at_most(text: &[u8]) -> Result<u64, Trouble> {
     }
 }
 
-/// The decimal number that a text is, as a number of bytes.
+/// The decimal number in a text, as a number of bytes.
 fn size(text: &[u8]) -> Result<usize, Trouble> {
     Ok(number(text)? as usize)
 }
