@@ -4,8 +4,8 @@ use Rattle.std.specs.Prelude.{◌≡◌, ◌⊎◌, List, [], ◌∷◌, Result,
 use Rattle.base_core.specs.Tree.{TreeState}
 use Rattle.base_core.specs.Faults.{Counts, CountsOnlyRise, IsFaultCountedWithCause, CountsNoNewFault, saturating_increment}
 
--- A tree's history is the list of its states so far, the newest first. It is observable if it is not
--- empty. A tree whose states nobody can know, such as one over the host's files, has an empty one.
+-- The history of a tree is the list of its states so far, the newest first. It is observable if it is not empty. A tree
+-- whose states contracts cannot know, such as the host's tree, has an empty history.
 
 -- P holds of the newest state, if the history is observable
 abbrev pub IfObservable : List TreeState → (TreeState → Type 0) → Type 0

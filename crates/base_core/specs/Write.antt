@@ -1,4 +1,4 @@
--- What a call that writes to a sink ensures. It serves the contracts of calls that write all of their
+-- What a call that writes to a sink ensures. Serves the contracts of calls that write all of their
 -- bytes, as `write_all` does (its row in the README of this crate).
 use Rattle.std.specs.Prelude.{ℕ, List, Result, OnOk, OnErr}
 use Rattle.base_core.specs.Faults.{FailsWithCause}

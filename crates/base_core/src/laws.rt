@@ -14,11 +14,12 @@ ghost use Rattle.base_core.specs.Undone.{IsAfterCrash, IsDurable, IsCrashImage, 
 
 // ---- crashes
 
-/// The files by each map of names, and so the files as read, are among what a crash may leave.
+/// A crash that undoes only the newest changes of names may leave the files under each map of names
+/// of a tree, the current one and the older ones.
 pub fn a_crash_may_leave_the_files_as_read()
-    // The files as read are among those that a crash may leave.
+    // Such a crash may leave the files as read.
     ensures read { (v : TreeState) → IsCrashImageIfUndoneNewestFirst v (files_of v) }
-    // The files under the current map, or an older one, are among those that a crash may leave.
+    // Such a crash may leave the files under the current map of names, or under an older one.
     ensures by_map { (v : TreeState) (map : NameMap) → IsCurrentOrOlderMap v map
         → IsCrashImageIfUndoneNewestFirst v (files_under_map v map) }
 {}
@@ -70,15 +71,15 @@ pub fn a_tree_stays_durable_in_order_if_fewer_files_must_be<D: Durability>()
 /// A crash may leave the files as read, and the files under each map of names that it may leave. It
 /// may undo or keep each change of names, whatever it does with the earlier changes.
 pub fn a_crash_may_undo_any_changes()
-    // The files as read are among those that a crash may leave.
+    // A crash may leave the files as read.
     ensures read { (v : TreeState) → IsCrashImage v (files_of v) }
-    // The files under each map that a crash may leave are among those that it may leave.
+    // A crash may leave the files under each map of names that it may leave.
     ensures by_map { (v : TreeState) (map : NameMap) → IsCrashMap v map
         → IsCrashImage v (files_under_map v map) }
-    // A crash may also undo the newest change of names.
+    // After one more change of names, a crash may leave any map that it could leave before.
     ensures undone { (v : TreeState) (names map : NameMap) → IsCrashMap v map
         → IsCrashMap (with_names v names) map }
-    // A crash may also keep the newest change of names.
+    // After one more change of names, a crash may leave such a map with this change replayed.
     ensures kept { (v : TreeState) (names map : NameMap) → IsCrashMap v map
         → IsCrashMap (with_names v names) (with_change_replayed v.names names map) }
 {}

@@ -11,7 +11,7 @@ use std::marker::Model;
 use std::str;
 
 /// A path as its bytes: UTF-8, 1 to 1,024 bytes, parts separated by `/`, no part empty, `.` or
-/// `..`, no zero byte. It is relative to the tree's root.
+/// `..`, no zero byte. The path is relative to the tree's root.
 #[derive(Drop)]
 pub struct Name {
     /// The bytes of the name, UTF-8 text.
@@ -179,7 +179,7 @@ impl Names {
         self.names.is_empty()
     }
 
-    /// A law of the list: each of its elements is a name. It does nothing when it runs.
+    /// A law of the list: each of its elements is a valid name. The call does nothing at run time.
     pub fn are_names(&self)
         ensures { All IsName self.now }
     {

@@ -31,6 +31,7 @@ pub enum TreeFault {
 }
 
 impl From<Disk> for TreeFault {
+    // Contracts know of this conversion that its result is `TreeFault::Disk`.
     ghost from_gives = { λ _ fault. fault ≡ DiskFault };
 
     // An I/O error as the error of a call that reads the tree into memory.
@@ -40,6 +41,7 @@ impl From<Disk> for TreeFault {
 }
 
 impl From<AllocError> for TreeFault {
+    // Contracts know of this conversion that its result is `TreeFault::Memory`.
     ghost from_gives = { λ _ fault. fault ≡ Memory };
 
     // Out of memory as the error of a call that reads the tree into memory.
