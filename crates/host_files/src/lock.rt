@@ -10,8 +10,8 @@ use std::os::unix::fs::{DirBuilderExt, MetadataExt, PermissionsExt, lchown};
 use std::time::{Duration, Instant};
 use std::{fs, io, thread};
 
-/// The folder below the root on which the lock is taken. It is made by the first run that needs it,
-/// and removed by the last.
+/// The folder below the root on which the lock is taken. The first of several simultaneous runs
+/// makes this folder, and the last one removes it.
 pub const LOCK_FOLDER: &str = ".apk-lock";
 
 /// Which lock a run takes: who else may work in the root at the same time.

@@ -49,8 +49,8 @@ impl Opened {
     /// path already is a fault.
     pub fn make<R: Host>(rt: &R, alloc: Global, path: &[u8]) -> Result<Opened, HostFault> {
         let copy = Vec::from_slice(alloc, path)?;
-        let mut how = OpenOptions::new();
-        let file = how
+        let mut options = OpenOptions::new();
+        let file = options
             .append(true)
             .create_new(true)
             .mode(FILE_MODE)

@@ -78,7 +78,7 @@ impl Rights {
         // Whether the file has the wanted owner now, and which bits of the mode are then set.
         let is_given = self.has_owner_of(wanted) || give_away(rt, path, wanted);
         let kept = if is_given { ALL_BITS } else { RIGHTS_BITS };
-        // A file system without modes refuses this. It then has no mode to set, so the error is
+        // A file system without modes refuses this. Its files have no mode to set, so the error is
         // ignored.
         let _ = fs::set_permissions(rt, path, Permissions::from_mode(wanted.mode & kept));
         Ok(file.sync_all()?)
