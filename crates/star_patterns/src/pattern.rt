@@ -11,8 +11,8 @@ ghost use Rattle.star_patterns.specs.Patterns.{is_whole_text_matched, matches_so
 
 use memchr::memmem;
 
-/// Whether a pattern matches the whole of a text. It takes time in proportion to the lengths of
-/// both.
+/// Whether a pattern matches the whole of a text. The call takes time in proportion to the lengths
+/// of pattern and text.
 pub fn matches(pattern: &[u8], text: &[u8]) -> bool
     ensures { result ≡ is_whole_text_matched pattern.now text.now }
 {
@@ -27,8 +27,8 @@ pub fn matches(pattern: &[u8], text: &[u8]) -> bool
     }
 }
 
-/// Whether a pattern matches some substring of a text. It takes time in proportion to the lengths
-/// of both.
+/// Whether a pattern matches some substring of a text. The call takes time in proportion to the
+/// lengths of pattern and text.
 pub fn matches_within(pattern: &[u8], text: &[u8]) -> bool
     ensures { result ≡ matches_some_part pattern.now text.now }
 {
