@@ -1,5 +1,5 @@
 -- The grammar of a version, after apk-package(5):
--- `number{.number}{letter}{_suffix{number}}{~hash}{-r#}`. It is defined here by the parts of a version:
+-- `number{.number}{letter}{_suffix{number}}{~hash}{-r#}`. The grammar is defined here by the parts of a version:
 -- how they are spelled, and which tokens they have. The rules are in `docs/formats.md`, "Versions": of
 -- the grammar the paragraph "A version is a number", of the tokens "A version is compared by its
 -- tokens". Byte values: 46 `.`, 95 `_`, 126 `~`, 45 `-`, 114 `r`.

@@ -69,8 +69,8 @@ MOST_DIGITS = 18
 abbrev pub has_number_length : List ℕ → Bool
 has_number_length digits = nat_lt 0 (length digits) && nat_le (length digits) MOST_DIGITS
 
--- the lexeme of a number of this class, given its digits; `mark` is how many bytes of its mark precede them. It is
--- stray if there are no digits or too many
+-- the lexeme of a number of this class, given its digits; `mark` is how many bytes of its mark precede them. The lexeme
+-- is stray if there are no digits or too many
 unfoldable pub number_lexeme : Class → ℕ → List ℕ → Lexeme
 number_lexeme class mark digits =
     if has_number_length digits
@@ -82,8 +82,8 @@ abbrev pub begins_with_zero : List ℕ → Bool
 begins_with_zero [] = false
 begins_with_zero (b ∷ rest) = b == 48
 
--- the lexeme of a component after the first, given the digits after its mark `.`. It is compared as text if it begins
--- with 0, else as a number
+-- the lexeme of a component after the first, given the digits after its mark `.`. The component is compared as text if
+-- the first digit is 0, else as a number
 unfoldable pub later_component_lexeme : List ℕ → Lexeme
 later_component_lexeme digits =
     if has_number_length digits && begins_with_zero digits
@@ -154,7 +154,8 @@ abbrev pub is_before_revision : Class → Bool
 is_before_revision Hash = true
 is_before_revision class = is_before_hash class
 
--- the first lexeme of a text, given the class `last` of the token before it
+-- the first lexeme of a text, given the class `last` of the token before the text. The first byte of the text and this
+-- class decide (46 is `.`, 95 `_`, 126 `~`, 45 `-`)
 unfoldable pub next_lexeme : Class → List ℕ → Lexeme
 next_lexeme last [] = lexeme (token_without_value End) 0
 next_lexeme last (b ∷ rest) =

@@ -32,6 +32,7 @@ pub fn is_fuzzy_match(found: &[u8], wanted: &[u8]) -> bool
 fn fits_within_hash(wanted: &[u8], found: &[u8]) -> bool
     ensures { result ≡ hash_fits wanted.now found.now }
 {
+    // The remaining digits of both hashes have to be equal.
     if compare_hex_digits(found, wanted).is_ne() {
         return false;
     }
@@ -48,6 +49,7 @@ fn all_fit(wanted: Tokens<'_>, found: Tokens<'_>) -> bool
     let mut wanted_tokens = wanted;
     loop {
         let token = wanted_tokens.next();
+        // All tokens of the wanted version fit.
         if token.class.is_last_token_class() {
             return true;
         }

@@ -85,8 +85,8 @@ fn parting_without_mark(left: &[u8], right: &[u8], len: usize) -> Parting
     Parting::InHash(len)
 }
 
-/// The tokens of a version from the mark at the index `at` on. They do not depend on the token
-/// before the mark, so that a component is assumed there.
+/// The tokens of a version from the mark at the index `at` on. These tokens do not depend on the
+/// token before the mark, so the code assumes a component before it.
 pub fn tokens_from_mark(text: &[u8], at: usize) -> Tokens<'_>
     // The offset is within the text.
     requires { at ≤ length text.now }
