@@ -42,7 +42,7 @@ pub record HaveWrongKind (last : Option BlockKind) (at : ℕ) (bytes : List ℕ)
   pub head : HeadFields
   -- the bytes begin with this header
   pub is : block_head_fields bytes ≡ Some head
-  -- its kind is not allowed here
+  -- the kind of the header is not allowed here
   pub wrong : CannotFollow last (kind_of_number head.kind)
   -- the cause is `BlockOrder`, with the offset of the block
   pub cause : c ≡ BlockOrder at
@@ -61,7 +61,7 @@ pub record HaveWrongSize (last : Option BlockKind) (at : ℕ) (bytes : List ℕ)
   pub is : block_head_fields bytes ≡ Some head
   -- the kind of the block
   pub kind : BlockKind
-  -- its number is in the header
+  -- the header has the number of this kind
   pub is_kind : kind_of_number head.kind ≡ Some kind
   -- this kind is allowed here
   pub order : may_be_next_kind last kind ≡ true

@@ -9,7 +9,7 @@ use Rattle.adb_block.specs.declared.block.BlockKind.TheVariants.{Adb, Signature,
 pub record Piece : Type 0 where
   -- what the block contains
   pub kind : BlockKind
-  -- its bytes, without header and padding
+  -- the bytes of the block, without header and padding
   pub payload : List ℕ
 
 -- the number of a kind of block in a header

@@ -79,8 +79,8 @@ ContinuesReading r (Ok None) q = r ≡ done
 ContinuesReading r (Ok (Some b)) q = r ≡ more (piece_of b) b.at q
 ContinuesReading r (Err c) q = r ≡ fault c
 
--- `r` are all blocks from the old position on, or the first failed test, given the result of a call and the same of the
--- new position (`q`)
+-- `r` are all blocks from the old position on, or the first failed test, given the result of a call, and all blocks or
+-- the first failed test from the new position on (`q`)
 abbrev pub AreBlocksFromCall : Result (List Piece) Cause → Result (Option Block) Cause
     → Result (List Piece) Cause → Type 0
 AreBlocksFromCall r (Ok None) q = r ≡ Ok []

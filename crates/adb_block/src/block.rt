@@ -327,7 +327,7 @@ pub fn block_head(kind: BlockKind, payload_len: u64) -> Head
     requires { payload_len < 2 ^ 64 - 16 }
     // The header has the bytes of the specification.
     ensures bytes { result ≡ head_bytes kind payload_len }
-    // They are a header by the grammar of containers.
+    // These bytes are a header by the grammar of containers.
     ensures head { IsHead kind payload_len result }
 {
     let number = kind_number(kind);
@@ -340,6 +340,7 @@ pub fn block_head(kind: BlockKind, payload_len: u64) -> Head
     }
     // A header of 16 bytes: 3 and the kind, four zeros, and the raw size.
     bytes[..4].copy_from_slice(&((3 << 30) + number).to_le_bytes());
+    // Bytes 4 to 7 are zeros.
     bytes[8..].copy_from_slice(&(16 + payload_len).to_le_bytes());
     Head { bytes, len: 16 }
 }

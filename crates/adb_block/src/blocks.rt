@@ -1,6 +1,6 @@
-//! The reader of a file's header and of its blocks in sequence. Its laws prove that its tests and
-//! the grammar of a container agree on every file. The rules are in `docs/formats.md`, "Container":
-//! the tests in the order of its table.
+//! The reader of a file's header and of the file's blocks in sequence. Laws prove that the tests of
+//! the reader and the grammar of a container agree on every file. The rules are in
+//! `docs/formats.md`, "Container": the tests in the order of its table.
 
 ghost use Rattle.std.specs.Prelude.{◌≡◌, ◌↔◌, [], drop, IfOk, IfErr, IfSome, IfNone, IsNone, OnErr, ◌<◌, ◌^◌, ℕ, List};
 ghost use Rattle.adb_block.specs.Header.{schema_of_header};
@@ -86,9 +86,9 @@ impl<'a> Blocks<'a> {
     /// first failed test, with the block's offset:
     ///
     /// - truncated: the file has no block, or the block's header is not complete;
-    /// - block order: its kind is unknown or not allowed here;
-    /// - truncated: its raw size is below its header's or past the file's end, or an ADB payload
-    ///   has fewer than 8 bytes.
+    /// - block order: the block's kind is unknown or not allowed here;
+    /// - truncated: the block's raw size is less than its header, or goes past the file's end, or
+    ///   the payload of an ADB block has fewer than 8 bytes.
     ///
     /// After an error the reader has not moved, so the next call returns the same error.
     pub fn next(&mut self) -> Result<Option<Block<'a>>, Cause>
@@ -103,15 +103,16 @@ impl<'a> Blocks<'a> {
         // The result is None exactly if no bytes were left.
         ensures end { IfOk result (λ found. IsNone found ↔ (self.old.left ≡ [])) }
 
-        // If it is None, at least one block was read before, and the reader has not moved.
+        // If the result is None, at least one block was read before, and the reader has not moved.
         ensures none { IfOk result (λ found. IfNone found (FindsEndOfBlocks self.old self.new)) }
         // After an error the reader has not moved.
         ensures err { OnErr result (self.new ≡ self.old) }
 
-        // For a caller's loop over all blocks: the blocks from the old position on are the returned
-        // block, if any, and those from the new position on.
+        // For a caller's loop over all blocks: what the reader finds from the old position on is
+        // the returned block, if any, and then what it finds from the new position on.
         ensures reading { ContinuesReading (block_stream_from self.old) result
             (block_stream_from self.new) }
+        // The same as a list: the blocks, or the first failed test, from the old position on.
         ensures rest { AreBlocksFromCall (blocks_from_position self.old) result
             (blocks_from_position self.new) }
     {
