@@ -71,7 +71,7 @@ pub record IsPickedImageMap (pick : ℕ) (v : TreeState) (map : NameMap) : Type 
   -- otherwise the map is the current one of the state
   pub as_read : (HasNoFileAsFolder (picked_crash_map pick v) → ⊥) → map ≡ v.names
 
--- `image` are the files after the crash that the number `choice` picks. It is divided by the count of the numbers that
+-- `image` are the files after the crash that the number `choice` picks. The number is divided by how many numbers
 -- pick a map of names: the remainder picks the map, and the quotient modulo 3 the bytes of unsynced files
 abbrev pub IsImageOf : ℕ → TreeState → Files → Type 0
 IsImageOf choice v image = (map : NameMap) × IsPickedImageMap (choice % crash_image_count_of v) v map

@@ -197,8 +197,8 @@ impl Calls {
         }
     }
 
-    /// Counts a call, at its start. It fails if it is a misuse (`can` is false), or if its failure
-    /// is planned.
+    /// Counts a call of the tree, at its start. The call fails if it is a misuse (`can` is false),
+    /// or if its failure is planned.
     pub fn begin(&mut self, can: bool) -> Result<(), Disk>
         // The plan of failures is then counted from the call after this one.
         ensures plan { self.new.plan ≡ plan_after_one_call self.old.plan }
@@ -224,8 +224,8 @@ impl Calls {
         Ok(())
     }
 
-    /// Counts a call that writes, at its start. It fails if it is a misuse (`can` is false), or if
-    /// its failure is planned.
+    /// Counts a call of the tree that writes, at its start. The call fails if it is a misuse (`can`
+    /// is false), or if its failure is planned.
     pub fn begin_write(&mut self, can: bool) -> Result<(), Disk>
         // The plan of failures is then counted from the call after this one.
         ensures plan { self.new.plan ≡ plan_after_one_call self.old.plan }

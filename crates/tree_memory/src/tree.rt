@@ -65,8 +65,8 @@ impl MemoryTree {
         self.store.can_put(name)
     }
 
-    /// Puts a synced file, and syncs the names. It is no call of `Tree` and is not counted. A
-    /// refused put changes nothing.
+    /// Puts a synced file, and syncs the names. A put is no call of `Tree` and is not counted. If
+    /// out of memory, nothing changes.
     pub fn put(&mut self, name: &Name, bytes: &[u8]) -> Result<(), AllocError>
         // No name may become a folder of another.
         requires { CanPut name.now (tree_state self.old) }
