@@ -172,7 +172,7 @@ impl Folders {
     }
 
     /// Removes the empty folders above a path whose file was removed, the deepest first, and never
-    /// the root. It ends at the first folder that is not empty.
+    /// the root. The removal ends at the first folder that is not empty.
     pub fn prune<R: Files>(&mut self, rt: &R, path: &[u8]) -> Result<(), HostFault> {
         for i in (0..path.len()).rev() {
             if path[i] == b'/' && !self.remove_if_empty(rt, &path[..i])? {
