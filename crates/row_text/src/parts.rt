@@ -26,6 +26,7 @@ impl Reader {
             return Err(Trouble::BadShape);
         }
         match &self.row {
+            // The line is within a row.
             Some(_) => Ok(()),
             None => Err(Trouble::NoRow),
         }
@@ -33,12 +34,13 @@ impl Reader {
 
     /// Reads the rest of a line `file PATH FORM`: before the first command line, a file is at PATH.
     pub(crate) fn add_given(&mut self, rest: &[u8]) -> Result<(), Trouble> {
+        // Such a line may not follow a command line of its row.
         if self.step.is_some() {
             return Err(Trouble::OutOfPlace);
         }
         // The path, and the word after it, such as `text`.
-        let (path, kind) = first_word(rest);
-        let form = form_of(kind)?;
+        let (path, word) = first_word(rest);
+        let form = form_of(word)?;
         let file = NamedFile {
             name: name_of(self.alloc, path)?,
             content: Some(empty_content(self.alloc, form, self.line)),
@@ -55,15 +57,15 @@ impl Reader {
     /// after the command line.
     pub(crate) fn add_wanted(&mut self, rest: &[u8]) -> Result<(), Trouble> {
         // The path, and the word after it, such as `text` or `absent`.
-        let (path, kind) = first_word(rest);
+        let (path, word) = first_word(rest);
         let name = name_of(self.alloc, path)?;
-        if kind == b"absent".as_slice() {
+        if word == b"absent".as_slice() {
             return self.push_wanted(NamedFile {
                 name,
                 content: None,
             });
         }
-        let form = form_of(kind)?;
+        let form = form_of(word)?;
         let content = Some(empty_content(self.alloc, form, self.line));
         self.push_wanted(NamedFile { name, content })?;
         self.target = Target::Wanted(form);
@@ -101,6 +103,7 @@ impl Reader {
                 };
                 add_to(&mut step.out, form, piece)
             }
+            // No text was named last to which a line `|` may add.
             _ => Err(Trouble::OutOfPlace),
         }
     }
@@ -108,12 +111,14 @@ impl Reader {
     /// Reads the rest of a line `\`: the file or the stream that was written last has no line end
     /// after its last line.
     pub(crate) fn cut_line_end(&mut self, rest: &[u8]) -> Result<(), Trouble> {
+        // Nothing may follow the `\` in its line.
         if !rest.is_empty() {
             return Err(Trouble::BadShape);
         }
         // After this line, no line may add to the same text.
         let target = self.target;
         self.target = Target::Nothing;
+        // The text is that of the last file of the row or of the command line, or of a stream.
         match target {
             Target::Given(Form::Text) => match &mut self.row {
                 Some(row) => cut_last(&mut row.files),
@@ -131,6 +136,7 @@ impl Reader {
                 Some(step) => cut(&mut step.err),
                 None => Err(Trouble::OutOfPlace),
             },
+            // Hexadecimal digits and dump texts have no line end to remove.
             _ => Err(Trouble::OutOfPlace),
         }
     }
@@ -148,6 +154,7 @@ pub(crate) fn name_of(alloc: Global, path: &[u8]) -> Result<Name, Trouble> {
 fn form_of(word: &[u8]) -> Result<Form, Trouble> {
     match value_named(&FORMS, word) {
         Some(form) => Ok(form),
+        // The word is none of `text`, `hex` and `dump`.
         None => Err(Trouble::UnknownWord),
     }
 }
@@ -216,6 +223,7 @@ fn cut_content(content: &mut Content) -> Result<(), Trouble> {
 fn cut(text: &mut Vec<u8>) -> Result<(), Trouble> {
     match text.pop() {
         Some(_) => Ok(()),
+        // Without a line before the line `\`, there is no line end to remove.
         None => Err(Trouble::OutOfPlace),
     }
 }
@@ -229,6 +237,7 @@ impl Reader {
         match value_named(&FORMS, rest) {
             Some(Form::Hex) => self.print_hex(),
             Some(Form::Dump) => self.print_dump(),
+            // There is no line `out text`: the expected text is in lines that begin with `>`.
             Some(Form::Text) | None => self.plan_out(rest),
         }
     }
@@ -255,6 +264,7 @@ impl Reader {
             return Err(Trouble::NoCommand);
         };
         match &step.out {
+            // No output is expected so far.
             Content::Bytes(bytes) if bytes.is_empty() => {}
             _ => return Err(Trouble::SaidTwice),
         }
@@ -294,6 +304,7 @@ impl Reader {
     /// already.
     fn plan_sweeps(&mut self, more: Sweeps) -> Result<(), Trouble> {
         if let TreePlan::Each(sweeps) = &mut self.plan.tree {
+            // The row has the same line twice for this command line.
             if (sweeps.fail && more.fail) || (sweeps.stop && more.stop) {
                 return Err(Trouble::SaidTwice);
             }
@@ -310,6 +321,7 @@ impl Reader {
             return Err(Trouble::NoRow);
         }
         match self.plan.tree {
+            // No failures of the tree are planned yet.
             TreePlan::Whole => {
                 self.plan.tree = plan;
                 Ok(())
@@ -339,6 +351,7 @@ impl Reader {
 fn sink_plan(before: SinkPlan, rest: &[u8]) -> Result<SinkPlan, Trouble> {
     let mut plan = before;
     if let Some(count) = rest.strip_prefix(b"ends after ") {
+        // `each` means a further run for each number of bytes; otherwise there is one number.
         plan.each = count == b"each".as_slice();
         plan.end = if plan.each { None } else { Some(size(count)?) };
         return Ok(plan);
@@ -346,6 +359,7 @@ fn sink_plan(before: SinkPlan, rest: &[u8]) -> Result<SinkPlan, Trouble> {
     let Some(count) = rest.strip_prefix(b"takes ") else {
         return Err(Trouble::BadShape);
     };
+    // The most bytes that the stream takes in one write.
     let most = number_at_most(count)? as usize;
     if most == 0 {
         return Err(Trouble::BadNumber);

@@ -210,6 +210,7 @@ impl Reader {
             Word::Stop => self.plan_stops(rest),
             Word::Out => self.read_out(rest),
             Word::Err => self.plan_err(rest),
+            // The rest of the line is `N at most`, and of the next three kinds of lines `N`.
             Word::Reads => self.add_count(word, number_at_most(rest)),
             Word::Status | Word::Calls | Word::Writes => self.add_count(word, number(rest)),
         }
@@ -221,6 +222,7 @@ fn text_after_blank(rest: &[u8]) -> Result<&[u8], Trouble> {
     match rest.split_first() {
         None => Ok(rest),
         Some((b' ', text)) => Ok(text),
+        // Another byte than a blank follows the first byte of the line.
         Some(_) => Err(Trouble::UnknownWord),
     }
 }
@@ -273,6 +275,7 @@ impl Reader {
     fn end_row(&mut self) -> Result<(), Trouble> {
         self.end_step()?;
         if let Some(row) = self.row.take() {
+            // The row has no command line.
             if row.steps.is_empty() {
                 return Err(Trouble::NothingRun);
             }
@@ -288,6 +291,7 @@ impl Reader {
         let Some(number) = self.number_of(rest) else {
             return Err(Trouble::NoSuchRow);
         };
+        // The line may follow neither a command line of its row, nor a line `from` or `file`.
         if self.step.is_some() {
             return Err(Trouble::OutOfPlace);
         }
@@ -351,6 +355,7 @@ impl Reader {
         self.target = Target::Out;
         match &mut step.out {
             Content::Bytes(bytes) => add_line(bytes, piece),
+            // After a line `out dump`, no other output may be expected.
             Content::Dump { .. } => Err(Trouble::OutOfPlace),
         }
     }
@@ -393,6 +398,7 @@ impl Reader {
         let Some(step) = &mut self.step else {
             return Err(Trouble::NoCommand);
         };
+        // The command line has such a line already.
         if step.names.is_some() {
             return Err(Trouble::SaidTwice);
         }

@@ -37,6 +37,7 @@ pub(crate) fn words_of(alloc: Global, text: &[u8]) -> Result<Words, Trouble> {
     let Some(rest) = text.strip_prefix(b"apk") else {
         return Err(Trouble::UnknownWord);
     };
+    // The name of the program only begins with `apk`.
     if !rest.is_empty() && !rest.starts_with(b" ") {
         return Err(Trouble::UnknownWord);
     }
