@@ -100,8 +100,8 @@ pub fn compare(
 /// the other, it is the length of the shorter text.
 fn first_difference(found: &[u8], wanted: &[u8]) -> usize {
     let mut at = 0usize;
-    for (one, other) in found.iter().zip(wanted.iter()) {
-        if *one != *other {
+    for (found_byte, wanted_byte) in found.iter().zip(wanted.iter()) {
+        if *found_byte != *wanted_byte {
             return at;
         }
         at = at.saturating_add(1);
