@@ -110,8 +110,8 @@ fn add_field(
     word: &[u8],
 ) -> Result<(), AllocError> {
     // The prefix of the word, such as `d:`, and what follows it; then the number of the field.
-    let (front, rest) = word.split_at(word.len().min(2));
-    let Some((place, form)) = value_named(&FIELDS, front) else {
+    let (prefix, rest) = word.split_at(word.len().min(2));
+    let Some((place, form)) = value_named(&FIELDS, prefix) else {
         return add_name(writer, fields, word);
     };
     let value = value_of(alloc, writer, form, rest)?;
