@@ -72,9 +72,9 @@ impl<'a, P: Program> Swept<'a, P> {
         Ok(())
     }
 
-    /// Lets each call fail in turn (`fail each`). After a recovery, the tree that is left and each
-    /// of its crash images has the files that the command line finds or those that it leaves if
-    /// nothing fails. A second run from there is checked too.
+    /// Lets each call fail in turn (`fail each`). After a recovery, the tree that is left, and each
+    /// of its crash images, must have the old files (which the command line finds) or the new files
+    /// (which it leaves if nothing fails). A second run over each of these trees is checked too.
     fn fail_each(&self, alloc: Global) -> Result<(), RowFault> {
         // Whether a run without calls that write was checked already.
         let mut run_without_writes_seen = false;
@@ -106,9 +106,9 @@ impl<'a, P: Program> Swept<'a, P> {
     }
 
     /// Lets all calls fail after each number of calls in turn (`stop each`). After a recovery, each
-    /// crash image has the files that the command line finds or those that it leaves if nothing
-    /// fails. If these differ, some image has to have the latter. A second run from there is
-    /// checked too.
+    /// crash image must have the old files (which the command line finds) or the new files (which
+    /// it leaves if nothing fails). If these differ, some image must have the new files. A second
+    /// run over each image is checked too.
     fn stop_each(&self, alloc: Global) -> Result<(), RowFault> {
         // Whether some crash image so far had the files that the command line leaves, and whether a
         // run without calls that write was checked already.
