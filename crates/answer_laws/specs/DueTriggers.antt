@@ -60,9 +60,9 @@ pub record HasTriggerLines (paths : List (List ℕ)) (members : List Member) (te
     : Type 0 where
   -- the folders for which the trigger of a package is due
   pub folders : Member → List (List ℕ)
-  -- they are in byte order, each once
+  -- these folders are in byte order, each once
   pub order : (m : Member) → AreSortedDistinctNames (folders m)
-  -- they are exactly those for which its trigger is due
+  -- a folder is in the list of a member exactly if the member's trigger is due for this folder
   pub each : (m : Member) (folder : List ℕ) → IsIn folder (folders m) ↔ IsTriggerDueFor paths m folder
   -- the text has a line for each package and each of its folders
   pub text_is : text

@@ -36,10 +36,12 @@ pub record GiveSameSizeDigestAndTarget (a b : Plain) : Type 0 where
 abbrev pub IsTargetOfLinkBytes : List ℕ → List ℕ → Type 0
 IsTargetOfLinkBytes target bytes = bytes ≡ codes "!<symlink>" ++ drop 2 target
 
--- The bytes have this digest. The length of the digest selects the function (FIPS 180-4). A digest of
--- another length is not compared.
+-- The bytes have this digest. The length of the digest selects the hash function (FIPS 180-4). A digest of another
+-- length than these three is not compared with the bytes.
 pub record HasDigest (digest bytes : List ℕ) : Type 0 where
-  -- a digest of 20 bytes is SHA-1, one of 32 is SHA-256, and one of 64 is SHA-512
+  -- a digest of 20 bytes is the SHA-1 of the bytes
   pub of_20_bytes : length digest ≡ 20 → digest ≡ sha1 bytes
+  -- a digest of 32 bytes is the SHA-256 of the bytes
   pub of_32_bytes : length digest ≡ 32 → digest ≡ sha256 bytes
+  -- a digest of 64 bytes is the SHA-512 of the bytes
   pub of_64_bytes : length digest ≡ 64 → digest ≡ sha512 bytes

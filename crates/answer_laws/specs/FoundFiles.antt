@@ -19,9 +19,9 @@ pub record IsCandidateOfIndexAtPath (repositories : List Repository) (c : Candid
   pub numbered : c.repository ≡ Some (place + 1)
   -- the repository of the candidate
   pub repository : Repository
-  -- it is at this place of the list
+  -- this repository is at this place of the list
   pub listed : slice_get repositories place ≡ Some repository
-  -- its index has this path
+  -- the index of this repository has this path
   pub path_is : repository.path ≡ path
 
 -- a text has no `/`

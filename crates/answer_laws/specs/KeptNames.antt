@@ -18,8 +18,9 @@ use Rattle.report_core.specs.Reports.{report_lines, still_needed_text}
 
 -- the candidate `c` provides a name, by an entry that is no conflict, which meets the dependency `d`
 pub record IsProvidedBy (d : Dependency) (c : Candidate) : Type 0 where
-  -- an entry of the candidate's provides
+  -- an entry of the names that the candidate provides
   pub entry : Dependency
+  -- the candidate has this entry
   pub listed : IsIn entry c.provides
   -- the entry is no conflict
   pub positive : entry.conflict ≡ false
@@ -31,10 +32,11 @@ pub record IsProvidedBy (d : Dependency) (c : Candidate) : Type 0 where
 pub record NeedsOther (c other : Candidate) : Type 0 where
   -- a dependency of the candidate
   pub dependency : Dependency
+  -- the candidate has this dependency
   pub listed : IsIn dependency c.depends
   -- the dependency is no conflict
   pub positive : dependency.conflict ≡ false
-  -- the other candidate meets it, by its own name and version or by what it provides
+  -- the other candidate meets the dependency, by its own name and version or by a name that it provides
   pub met : (meets dependency other.name other.version ≡ true) ⊎ IsProvidedBy dependency other
 
 -- a selected candidate with this name needs the candidate `needed`, which has another name
@@ -42,9 +44,9 @@ pub record IsNeededBySelectedName (selected : List Candidate) (needed : Candidat
     (name : List ℕ) : Type 0 where
   -- the candidate that needs the other
   pub user : Candidate
-  -- it is selected
+  -- this candidate is selected
   pub listed : IsIn user selected
-  -- it has this name
+  -- this candidate has this name
   pub named : name ≡ user.name
   -- the name is not that of the needed candidate
   pub another : name ≡ needed.name → ⊥
@@ -59,7 +61,7 @@ IsEachNameSelectedAtMostOnce selected =
     (name : List ℕ) → length (filter (is_candidate_named name) selected) ≤ 1
 
 -- the line for a name that was to be removed and stays: the name, and the names of the selected candidates that need
--- its candidate. It is empty if no candidate of the name is selected
+-- its candidate. The line is empty if no candidate of the name is selected
 abbrev pub still_needed_text_of_name : List Candidate → List ℕ → List ℕ
 still_needed_text_of_name selected name =
     option_map_or (λ (c : Candidate). still_needed_text name (names_needing_candidate selected c))
@@ -71,9 +73,9 @@ pub record HasStillNeededLines (before : List Plain) (selected : List Candidate)
     (text : List ℕ) : Type 0 where
   -- the names that were to be removed and are kept
   pub names : List (List ℕ)
-  -- they are in byte order, each once
+  -- these names are in byte order, each once
   pub order : AreSortedDistinctNames names
-  -- they are the names that were to be removed, were installed and are selected
+  -- a name is in the list exactly if it was to be removed, was installed and is selected
   pub each : (name : List ℕ) → IsIn name names
       ↔ (IsIn name to_remove × IsIn name (map package_name before)
       × IsIn name (map (λ (c : Candidate). c.name) selected))

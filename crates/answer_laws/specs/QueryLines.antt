@@ -58,23 +58,25 @@ pub record HasNameAndVersion (name : List ℕ) (version : Option (List ℕ)) (c 
 -- the package of this name is installed in this version: an installed candidate of the list has both
 pub record IsVersionInstalled (candidates : List Candidate) (name : List ℕ)
     (version : Option (List ℕ)) : Type 0 where
-  -- a candidate of the list
+  -- the installed candidate
   pub candidate : Candidate
+  -- the candidate is in the list
   pub listed : IsIn candidate candidates
-  -- it has this name and version
+  -- the candidate has this name and version
   pub same : HasNameAndVersion name version candidate
-  -- it is installed
+  -- the candidate is installed
   pub installed : candidate.installed ≡ true
 
 -- a candidate of the repository with this number, counted from 1, has this name and version
 pub record IsVersionInRepository (candidates : List Candidate) (name : List ℕ)
     (version : Option (List ℕ)) (number : ℕ) : Type 0 where
-  -- a candidate of the list
+  -- the candidate from this repository
   pub candidate : Candidate
+  -- the candidate is in the list
   pub listed : IsIn candidate candidates
-  -- it has this name and version
+  -- the candidate has this name and version
   pub same : HasNameAndVersion name version candidate
-  -- it is from the repository with this number
+  -- the candidate is from the repository with this number
   pub numbered : candidate.repository ≡ Some number
 
 -- the line of the repository at a place of the list, counted from 0; no bytes if the list has no such place
@@ -86,8 +88,9 @@ repository_line_at repositories place =
 -- database if this version is installed, and a line for each repository that has it, in the order of the list
 pub record HasPolicyLinesOfVersion (candidates : List Candidate) (repositories : List Repository)
     (name : List ℕ) (version : Option (List ℕ)) (text : List ℕ) : Type 0 where
-  -- the line of the database, or no line if the version is not installed
+  -- the line of the database, or no bytes
   pub database : List ℕ
+  -- there is this line exactly if the version is installed
   pub database_is : ((database ≡ policy_database_line) × IsVersionInstalled candidates name version)
       ⊎ ((database ≡ []) × (IsVersionInstalled candidates name version → ⊥))
   -- the places of the repositories that have the version, counted from 0
@@ -96,7 +99,7 @@ pub record HasPolicyLinesOfVersion (candidates : List Candidate) (repositories :
   pub each : (place : ℕ) → IsIn place places
       ↔ ((is_some (slice_get repositories place) ≡ true)
       × IsVersionInRepository candidates name version (suc place))
-  -- they are in rising order
+  -- the places are in rising order
   pub order : AreStrictlyInOrderBy nat_cmp places
   -- the text is the heading, the line of the database, and the lines of these repositories
   pub text_is : text

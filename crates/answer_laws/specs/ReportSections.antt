@@ -39,7 +39,7 @@ IsSumOf (n ∷ numbers) sum = (rest : ℕ) × IsSumOf numbers rest × (sum ≡ n
 pub record IsBytesAndPackageCountLine (sizes : List ℕ) (text : List ℕ) : Type 0 where
   -- the sum in the line
   pub sum : ℕ
-  -- it is the sum of the sizes
+  -- this number is the sum of the sizes
   pub sum_is : IsSumOf sizes sum
   -- the text is the line with the sum and the number of sizes
   pub text_is : text

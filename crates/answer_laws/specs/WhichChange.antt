@@ -33,7 +33,7 @@ pub record HasBothVersions (r : Replacement) (name : List ℕ) (pkg : Plain) (c 
 pub record IsInstalledPackageSelected (r : Replacement) (name : List ℕ) (c : Candidate) : Type 0 where
   -- the package of this name before the change
   pub installed : Plain
-  -- it is the first package of this name before the change
+  -- this package is the first one of this name before the change
   pub before : find (is_package_named name) r.before ≡ Some installed
   -- the selected candidate of this name
   pub selected : find (is_candidate_named name) r.selected ≡ Some c

@@ -26,9 +26,9 @@ pub fn a_package_is_found_in_the_folder_of_its_index()
         → package_file_path_of_candidate repositories c ≡ Some (candidate_file_name c) }
 {}
 
-/// `root_database` has three arguments: whether a new database may be begun (`--initdb`), the
-/// container, and the text database. If there is a container, the text database is not used. If
-/// there is only a text database, it is used. A new database is begun only if there is neither.
+/// `root_database` has three arguments: whether a new database may be created (`--initdb`), the
+/// bytes of the container, and those of the text database. If there is a container, it is the
+/// database. Otherwise the text database is. A new database is created only if there is neither.
 pub fn the_container_decides_before_the_text()
     // If there is a container, neither the text database nor `--initdb` matters.
     ensures container { (begins other : Bool) (file : List ℕ) (text another : Option (List ℕ))
@@ -37,7 +37,7 @@ pub fn the_container_decides_before_the_text()
     ensures by_container { (begins : Bool) (file : List ℕ) (text : Option (List ℕ)) (d : Database)
         → root_database begins (Some file) text ≡ Ok d
         → (d.from_text ≡ false) × (d.file ≡ Some file) }
-    // If there is only a text database, it does not matter whether a database may be begun.
+    // If there is only a text database, it does not matter whether a database may be created.
     ensures text { (begins other : Bool) (text : List ℕ)
         → root_database begins None (Some text) ≡ root_database other None (Some text) }
     // A database that is read from a text has no container file.

@@ -29,19 +29,25 @@ pub fn a_script_is_run_only_if_it_has_text()
     // For any number: the package has the script exactly if its text is not empty.
     ensures each { (pkg : Plain) (number : ℕ)
         → (has_script_of pkg number ≡ true) ↔ (script_text_by_number pkg number ≢ []) }
-    // The seven clauses from here on say this of the field with each script's name.
+    // A package has a trigger script exactly if the text under the name `trigger` is not empty.
     ensures trigger { (pkg : Plain) → (has_script_of pkg TRIGGER_SCRIPT ≡ true)
         ↔ (script_text_by_name pkg (codes "trigger") ≢ []) }
+    // The same of the script `pre-install`.
     ensures pre_install { (pkg : Plain) → (has_script_of pkg PRE_INSTALL_SCRIPT ≡ true)
         ↔ (script_text_by_name pkg (codes "pre-install") ≢ []) }
+    // The same of the script `post-install`.
     ensures post_install { (pkg : Plain) → (has_script_of pkg POST_INSTALL_SCRIPT ≡ true)
         ↔ (script_text_by_name pkg (codes "post-install") ≢ []) }
+    // The same of the script `pre-deinstall`.
     ensures pre_deinstall { (pkg : Plain) → (has_script_of pkg PRE_DEINSTALL_SCRIPT ≡ true)
         ↔ (script_text_by_name pkg (codes "pre-deinstall") ≢ []) }
+    // The same of the script `post-deinstall`.
     ensures post_deinstall { (pkg : Plain) → (has_script_of pkg POST_DEINSTALL_SCRIPT ≡ true)
         ↔ (script_text_by_name pkg (codes "post-deinstall") ≢ []) }
+    // The same of the script `pre-upgrade`.
     ensures pre_upgrade { (pkg : Plain) → (has_script_of pkg PRE_UPGRADE_SCRIPT ≡ true)
         ↔ (script_text_by_name pkg (codes "pre-upgrade") ≢ []) }
+    // The same of the script `post-upgrade`.
     ensures post_upgrade { (pkg : Plain) → (has_script_of pkg POST_UPGRADE_SCRIPT ≡ true)
         ↔ (script_text_by_name pkg (codes "post-upgrade") ≢ []) }
 {}
