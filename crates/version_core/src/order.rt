@@ -128,6 +128,7 @@ fn compare_tokens(left: Tokens<'_>, right: Tokens<'_>) -> Ordering
 fn equal_len(left: &[u8], right: &[u8]) -> usize
     ensures { AreEqualUpTo left.now right.now result }
 {
+    // The most bytes that the common prefix can have, and how many are known to be equal.
     let most = left.len().min(right.len());
     let mut len = equal_blocks(left, right);
     while len < most && left[len] == right[len] {
@@ -141,6 +142,7 @@ fn equal_len(left: &[u8], right: &[u8]) -> usize
 fn equal_blocks(left: &[u8], right: &[u8]) -> usize
     ensures { AreEqualUpTo left.now right.now result }
 {
+    // The most bytes that the common prefix can have, and how many are known to be equal.
     let most = left.len().min(right.len());
     let mut len = 0;
     while most - len >= BYTES_PER_COMPARISON
