@@ -333,6 +333,7 @@ fn lead(
         lookup picked.old.entries.items q else file)
         else lookup picked.old.entries.items q)) }
 {
+    // The change does not move this name: it leads to the same file, or to none, in `names`.
     if names.find(name.as_bytes()) == file {
         return Ok(());
     }
