@@ -251,7 +251,8 @@ impl Folders {
             Err(e) if keeps_folder(e.kind()) => false,
             Err(e) => return Err(e.into()),
         };
-        // No name in the parent changed, so that it is noted only if it was noted before.
+        // No name in the parent (`around`) changed, so the parent stays noted only if it was
+        // before.
         if !was_noted {
             self.changed.remove(around);
         }

@@ -55,6 +55,7 @@ impl Targets {
         if folder == parent_of(path) {
             check_place(rt, self.alloc, path)?;
         } else {
+            // The rest of the path, whose folders do not exist.
             let absent = path.strip_prefix(folder).unwrap_or(path);
             check_parts(rt, self.alloc, folder, absent)?;
         }
