@@ -46,6 +46,7 @@ fn read_intent<R: Host>(
     root.fill(name.as_bytes(), 0, &mut file)?;
     match PreparedIntent::of_file(alloc, file) {
         Ok(intent) => Ok(Some(intent)),
+        // The file is no valid journal entry.
         Err(ReadFault::Bad(_)) => Ok(None),
         Err(ReadFault::Memory) => Err(HostFault::Memory),
     }
