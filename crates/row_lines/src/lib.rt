@@ -81,6 +81,7 @@ fn run_line<S: Subject>(
         add_failure(report, line, b"no row")?;
         return Ok(false);
     };
+    // The words of the question, and the expected answer, both without escapes.
     let words = words_of(alloc, question)?;
     let wanted = bytes_of(alloc, wanted)?;
     let mut answer = Vec::new(alloc);
