@@ -97,10 +97,12 @@ fn check_file<P: Program>(
 ) -> Result<(), RowFault> {
     // The bytes that the file has to have; None if the file has to be absent.
     let wanted = match wanted_file(step, name) {
+        // The row has a line `then` for this name.
         Some(file) => match &file.content {
             Some(content) => Some(bytes_of(alloc, program, content)?),
             None => None,
         },
+        // Otherwise the file has to be as before the command line.
         None => match before.file(name) {
             Some(bytes) => Some(Vec::from_slice(alloc, bytes)?),
             None => None,
