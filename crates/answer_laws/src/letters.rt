@@ -25,7 +25,8 @@ pub fn each_letter_gives_its_field()
     spelled_texts_are_read();
 }
 
-/// A line is dropped exactly if its letter is not listed.
+/// A line is skipped (`other_line`) exactly if it begins with one byte and a colon, and this byte
+/// is no letter of the table in `docs/formats.md`.
 pub fn a_line_is_dropped_if_its_letter_is_not_listed()
     ensures { (line : List ℕ) → (record_line_of line ≡ Some other_line)
         ↔ BeginsWithUnknownFieldLetter line }
