@@ -92,14 +92,17 @@ fn try_lock_root<R: Host>(rt: &R, lock: Lock) -> Result<Try, HostFault> {
     match fs::open(rt, LOCK_FOLDER) {
         Ok(folder) => try_lock_folder(rt, folder, lock),
         Err(e) if e.kind() == ErrorKind::NotFound => match make_lock_folder(rt) {
+            // The lock's folder was made here, and the next try locks it.
             Ok(()) => Ok(Try::Changed),
+            // Another run has made it meanwhile.
             Err(e) if e.kind() == ErrorKind::AlreadyExists => see_lock_folder(rt),
             // The lock's folder cannot be made, so the root itself is locked. This run may write
             // only if the reason for this lasts.
             Err(e) => try_lock(fs::open(rt, ".")?, lock, is_lasting(e.kind())),
         },
+        // The user has no right to open the lock's folder, so the root itself is locked.
         Err(e) if e.kind() == ErrorKind::PermissionDenied => {
-            // `true`: with the lock on the root itself, this run may write.
+            // `true`: with this lock, the run may write.
             try_lock(fs::open(rt, ".")?, lock, true)
         }
         Err(e) => Err(HostFault::host_at(rt.alloc(), e, LOCK_FOLDER.as_bytes())),
