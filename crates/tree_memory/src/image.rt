@@ -30,7 +30,8 @@ impl Store {
         // The count is not 0.
         ensures some { 0 < result }
     {
-        // An empty tree has one map of names; each recorded change adds a map, or leaves only one.
+        // An empty tree has one map of names. Each recorded change adds a map, keeps the maps, or
+        // leaves only one.
         let mut maps = 1;
         for change in &self.changes {
             maps = maps_after(maps, change);
@@ -136,7 +137,8 @@ fn crash_image_count(changes: u64) -> u64
     if changes <= FEW_CHANGES {
         return 1 << changes;
     }
-    // The newest changes up to any one of them, or one change alone.
+    // Of more changes: a number for each count of newest changes that are undone, from 0 to all,
+    // and a number for each change that is undone alone.
     changes.saturating_mul(2).saturating_add(1)
 }
 
