@@ -121,8 +121,8 @@ impl Folders {
     }
 
     /// Notes the root and each existing folder above a path for the next sync of the names, since
-    /// an earlier run may have changed names in them without syncing them. It does this once per
-    /// folder.
+    /// an earlier run may have changed names in them without syncing them. For paths in the same
+    /// folder this is done once.
     pub fn note_way<R: Files>(&mut self, rt: &R, path: &[u8]) -> Result<(), HostFault> {
         // The folder that contains the path.
         let around = parent_of(path);

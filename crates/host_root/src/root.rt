@@ -276,6 +276,7 @@ impl<'a, R: Host> Root<'a, R> {
         // Names change in both folders, so both are noted for the next sync.
         self.folders.note(parent_of(from))?;
         self.folders.note(parent_of(to))?;
+        // The new name is copied before the rename, so that nothing fails after it.
         let target = Vec::from_slice(self.alloc, to)?;
         rename_path(self.rt, from, to)?;
         self.maybe_renamed_name = Some(target);
@@ -305,6 +306,7 @@ impl<'a, R: Host> Root<'a, R> {
         if moved.rights == model.rights && !self.recovers {
             return Ok(());
         }
+        // If the mode and the owner were not synced, no later sync is trusted.
         let kept = moved.rights.change_to(self.rt, from, model.rights);
         self.has_lost |= kept.is_err();
         kept
