@@ -103,6 +103,7 @@ impl Walk {
             return Err(HostFault::at(self.alloc, Reason::NoName, path));
         }
         match root.find(path)? {
+            // The folder is visited later.
             Found::Folder => Ok(keep(&mut self.folders, name)?),
             Found::File(file) => {
                 if file.rights.may_execute() {
