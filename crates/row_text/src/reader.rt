@@ -315,6 +315,7 @@ impl Reader {
         }
         self.end_step()?;
         let command = words_of(self.alloc, text)?;
+        // No line may add to a text of the command line before.
         self.target = Target::Nothing;
         // The planned failures of this command line; for the next one, none are planned yet.
         let plan = std::mem::replace(&mut self.plan, Plans::none());
