@@ -264,6 +264,7 @@ impl<'a, P: Program> Swept<'a, P> {
             // The second run began with the files that the command line leaves.
             self.check_again(alloc, call, second)?;
         }
+        // In both cases, each crash image after the second run must have the new files.
         self.sides
             .check_images(alloc, self.program, self.step, &second.tree)
     }
