@@ -19,6 +19,7 @@ use tree_memory::MemoryTree;
 /// The front (header and first block) of the package with the bytes `file`, or None if the package
 /// is bad. The bytes are put into a tree in memory as a file, from which the front is read.
 pub fn front_of(alloc: Global, file: &[u8]) -> Result<Option<Front>, AllocError> {
+    // The name of the file in the tree; any name would do.
     let Some(name) = Name::read(alloc, b"p")? else {
         return Ok(None);
     };
