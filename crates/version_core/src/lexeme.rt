@@ -215,6 +215,7 @@ fn hash(text: &[u8]) -> Lexeme<'_>
     ensures { lexeme_view text.now result ≡ hash_lexeme (leading_hex_digits (drop 1 text.now)) }
 {
     let digits = behind(text, 1);
+    // A hash without a digit is no token of the grammar.
     if hex_digit_at(digits, 0).is_none() {
         return stray_lexeme();
     }
