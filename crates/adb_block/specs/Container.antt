@@ -48,8 +48,8 @@ pub record IsBlock (b : Piece) (bytes rest : List ℕ) : Type 0 where
   -- the padding fills up the size of header and payload to a multiple of 8, or is shorter at the end of the file
   pub is_pad : IsPadding (length head + length b.payload) pad rest
 
--- the block `b` may follow a block of the kind `last` (None: `b` is the first), and its payload is as long as its kind
--- needs
+-- the block `b` may follow a block of the kind `last` (None: `b` is the first), and its payload has at least the bytes
+-- that its kind needs
 pub record MayFollow (last : Option BlockKind) (b : Piece) : Type 0 where
   -- the kind of `b` is allowed here
   pub order : may_be_next_kind last b.kind ≡ true
