@@ -7,7 +7,7 @@ use Rattle.adb_block.specs.Header.{schema_of_header}
 use Rattle.adb_block.specs.ReaderPosition.{ReaderPosition, first_block_position}
 use Rattle.adb_block.specs.Reading.{Reading, done, fault, more, block_stream_from}
 
--- a block and the blocks after it; or the failed test, if the reading after the block ended with one
+-- the block `b` followed by the blocks after it, or the failed test with which the reading after it ended
 abbrev pub with_block : Piece → Result (List Piece) Cause → Result (List Piece) Cause
 with_block b (Ok bs) = Ok (b ∷ bs)
 with_block b (Err c) = Err c

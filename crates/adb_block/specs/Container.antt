@@ -8,7 +8,7 @@ use Rattle.adb_block.specs.Piece.{Piece, may_be_next_kind, kind_number, least_pa
 -- a header of four bytes: the kind in the top two bits, below it the raw size, which counts the
 -- header's 4 bytes and the `len` of the payload
 pub record IsShortHead (kind : BlockKind) (len : ℕ) (head : List ℕ) : Type 0 where
-  -- it has 4 bytes
+  -- the header has 4 bytes
   pub size : length head ≡ 4
   -- the kind and the raw size, in one number
   pub word : from_le_bytes w32 head ≡ kind_number kind * 2 ^ 30 + (4 + len)
@@ -18,7 +18,7 @@ pub record IsShortHead (kind : BlockKind) (len : ℕ) (head : List ℕ) : Type 0
 -- a header of sixteen bytes: the number 3 with the kind below it, four bytes that are ignored, and the
 -- raw size, which counts the header's 16 bytes and the `len` of the payload
 pub record IsLongHead (kind : BlockKind) (len : ℕ) (head : List ℕ) : Type 0 where
-  -- it has 16 bytes
+  -- the header has 16 bytes
   pub size : length head ≡ 16
   -- 3 in the top two bits, and the kind below
   pub word : from_le_bytes w32 (take 4 head) ≡ 3 * 2 ^ 30 + kind_number kind
@@ -29,14 +29,13 @@ pub record IsLongHead (kind : BlockKind) (len : ℕ) (head : List ℕ) : Type 0 
 abbrev pub IsHead : BlockKind → ℕ → List ℕ → Type 0
 IsHead kind len head = IsShortHead kind len head ⊎ IsLongHead kind len head
 
--- the padding after a header and a payload of this size, before the rest of the file; at the end of the
--- file it may be cut or absent
+-- `pad` is the padding after a header and a payload that have `size` bytes together, and `rest` is what follows in the
+-- file. At the end of the file the padding may be shorter or absent
 abbrev pub IsPadding : ℕ → List ℕ → List ℕ → Type 0
 IsPadding size pad rest =
     (length pad ≡ padding_of size) ⊎ ((length pad < padding_of size) × (rest ≡ []))
 
--- the bytes begin with this block, which is its header, payload and padding in sequence, and end with
--- the rest
+-- `bytes` are the header, the payload and the padding of the block `b`, followed by `rest`
 pub record IsBlock (b : Piece) (bytes rest : List ℕ) : Type 0 where
   -- the bytes of the header
   pub head : List ℕ
@@ -46,23 +45,24 @@ pub record IsBlock (b : Piece) (bytes rest : List ℕ) : Type 0 where
   pub is_head : IsHead b.kind (length b.payload) head
   -- header, payload, padding and rest follow each other
   pub parts : bytes ≡ head ++ (b.payload ++ (pad ++ rest))
-  -- it fills up the size of header and payload
+  -- the padding fills up the size of header and payload to a multiple of 8, or is shorter at the end of the file
   pub is_pad : IsPadding (length head + length b.payload) pad rest
 
--- a block may follow one of the kind `last` (None: it is the first), and its payload is at least as
--- long as its kind needs
+-- the block `b` may follow a block of the kind `last` (None: `b` is the first), and its payload has at least the bytes
+-- that its kind needs
 pub record MayFollow (last : Option BlockKind) (b : Piece) : Type 0 where
-  -- its kind is allowed here
+  -- the kind of `b` is allowed here
   pub order : may_be_next_kind last b.kind ≡ true
-  -- its payload has the bytes that its kind needs
+  -- the payload of `b` has at least the bytes that its kind needs
   pub long : least_payload_len b.kind ≤ length b.payload
 
--- the file may end here, since at least one block precedes
+-- the file may end here: at least one block precedes. The argument is the kind of the last block, None if there is none
 abbrev pub HasBlockBefore : Option BlockKind → Type 0
 HasBlockBefore None = ⊥
 HasBlockBefore (Some kind) = Unit {0}
 
--- the bytes from here to the end of a file, after a block of the kind `last`, are these blocks
+-- `bytes`, which are the rest of a file after a block of the kind `last` (None: before the first), are exactly these
+-- blocks
 abbrev pub SpellsBlocks : Option BlockKind → List ℕ → List Piece → Type 0
 SpellsBlocks last bytes [] = (bytes ≡ []) × HasBlockBefore last
 SpellsBlocks last bytes (b ∷ bs) =
@@ -79,13 +79,13 @@ pub record IsContainerWithBlocks (file : List ℕ) (schema : ℕ) (pieces : List
   pub parts : file ≡ codes "ADB." ++ (word ++ body)
   -- the schema has four bytes
   pub four : length word ≡ 4
-  -- these are the little-endian number of the schema
+  -- they are the schema as a little-endian number
   pub is_schema : from_le_bytes w32 word ≡ schema
   -- the bytes after the schema are these blocks
   pub blocks : SpellsBlocks None body pieces
 
--- these blocks may be written in this order after a block of the kind `last`, and each payload's size,
--- with the 16 bytes of the longest header, fits in 64 bits
+-- these blocks, which are all further blocks of a file, may be written in this order after a block of the kind `last`
+-- (None: before the first). The size of each payload, with the 16 bytes of the longest header, fits in 64 bits
 abbrev pub CanBlocksBeWrittenAfter : Option BlockKind → List Piece → Type 0
 CanBlocksBeWrittenAfter last [] = HasBlockBefore last
 CanBlocksBeWrittenAfter last (b ∷ bs) =

@@ -9,7 +9,7 @@ use Rattle.adb_block.specs.Container.{IsBlock, MayFollow}
 use Rattle.adb_block.specs.Framing.{HeadFields, block_head_fields, kind_of_number}
 use Rattle.adb_block.specs.declared.block.BlockKind.{BlockKind}
 
--- after a block of the kind `last`, the bytes begin with these blocks and end with the rest
+-- `bytes`, after a block of the kind `last` (None: before the first), are these blocks followed by `rest`
 abbrev pub BeginWithBlocks : Option BlockKind → List ℕ → List Piece → List ℕ → Type 0
 BeginWithBlocks last bytes [] rest = bytes ≡ rest
 BeginWithBlocks last bytes (b ∷ bs) rest =
@@ -23,26 +23,26 @@ last_kind last (b ∷ bs) = last_kind (Some b.kind) bs
 
 -- ---- the tests of one block, after a block of the kind `last`, in their order
 
--- first: the bytes have no complete header
+-- the first test fails: the bytes, from the offset `at` on, begin with no complete header
 pub record LackHeader (at : ℕ) (bytes : List ℕ) (c : Cause) : Type 0 where
-  -- they have no complete header
+  -- the bytes begin with no complete header
   pub head : block_head_fields bytes ≡ None
   -- the cause is `Truncated`, with the offset of the block
   pub cause : c ≡ Truncated at
 
--- a kind is not allowed after `last`, or is unknown
+-- a kind (the second argument) is not allowed after the kind `last`, or is unknown (None)
 abbrev pub CannotFollow : Option BlockKind → Option BlockKind → Type 0
 CannotFollow last None = Unit {0}
 CannotFollow last (Some kind) = may_be_next_kind last kind ≡ false
 
--- second: the bytes begin with a complete header, whose kind is not allowed here
+-- the second test fails: the bytes begin with a complete header, whose kind is not allowed after the kind `last`
 pub record HaveWrongKind (last : Option BlockKind) (at : ℕ) (bytes : List ℕ)
     (c : Cause) : Type 0 where
   -- the fields of the header
   pub head : HeadFields
   -- the bytes begin with this header
   pub is : block_head_fields bytes ≡ Some head
-  -- its kind is not allowed here
+  -- the kind of the header is not allowed here
   pub wrong : CannotFollow last (kind_of_number head.kind)
   -- the cause is `BlockOrder`, with the offset of the block
   pub cause : c ≡ BlockOrder at
@@ -52,7 +52,7 @@ abbrev pub IsWrongSize : HeadFields → BlockKind → List ℕ → Type 0
 IsWrongSize head kind bytes =
     (head.raw < head.len + least_payload_len kind) ⊎ (length bytes < head.raw)
 
--- third: the bytes begin with a header whose kind is allowed here, but whose size is wrong
+-- the third test fails: the bytes begin with a header whose kind is allowed here, but whose size is wrong
 pub record HaveWrongSize (last : Option BlockKind) (at : ℕ) (bytes : List ℕ)
     (c : Cause) : Type 0 where
   -- the fields of the header
@@ -61,7 +61,7 @@ pub record HaveWrongSize (last : Option BlockKind) (at : ℕ) (bytes : List ℕ)
   pub is : block_head_fields bytes ≡ Some head
   -- the kind of the block
   pub kind : BlockKind
-  -- its number is in the header
+  -- the header has the number of this kind
   pub is_kind : kind_of_number head.kind ≡ Some kind
   -- this kind is allowed here
   pub order : may_be_next_kind last kind ≡ true
@@ -70,15 +70,14 @@ pub record HaveWrongSize (last : Option BlockKind) (at : ℕ) (bytes : List ℕ)
   -- the cause is `Truncated`, with the offset of the block
   pub cause : c ≡ Truncated at
 
--- the next block has this fault: one of its three tests fails, and those before it do not
+-- the block at the offset `at` has the fault `c`: one of its three tests fails, and those before this test do not
 abbrev pub HaveBlockFault : Option BlockKind → ℕ → List ℕ → Cause → Type 0
 HaveBlockFault last at bytes c =
     LackHeader at bytes c ⊎ (HaveWrongKind last at bytes c ⊎ HaveWrongSize last at bytes c)
 
 -- ---- the whole file
 
--- this is the first fault of a file's framing: some blocks pass their tests, and the block after them
--- has the fault, at the offset of the rest
+-- `c` is the first fault in the blocks of a file: some blocks pass their tests, and the block after them has this fault
 pub record IsFirstFramingFault (file : List ℕ) (c : Cause) : Type 0 where
   -- the blocks that pass their tests
   pub blocks : List Piece
@@ -88,7 +87,7 @@ pub record IsFirstFramingFault (file : List ℕ) (c : Cause) : Type 0 where
   pub before : BeginWithBlocks None (drop 8 file) blocks rest
   -- the offset of the rest
   pub at : ℕ
-  -- the rest ends with the file
+  -- the rest, from this offset on, goes to the end of the file
   pub located : at + length rest ≡ length file
-  -- the next block has this fault
+  -- the block at this offset has the fault
   pub fault : HaveBlockFault (last_kind None blocks) at rest c

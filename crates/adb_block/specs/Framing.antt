@@ -9,8 +9,7 @@ use Rattle.adb_block.specs.Header.{word_at, eight_byte_number_at}
 use Rattle.adb_block.specs.declared.block.BlockKind.{BlockKind}
 use Rattle.adb_block.specs.declared.block.BlockKind.TheVariants.{Adb, Signature, Contents}
 
--- the fields of a block's header: the number of its kind, its length in bytes, and the raw size, which
--- counts the header and the payload
+-- the fields of a block's header
 pub record HeadFields : Type 0 where
   -- the number of the kind
   pub kind : ℕ
@@ -19,17 +18,18 @@ pub record HeadFields : Type 0 where
   -- the length of the header and the payload in bytes
   pub raw : ℕ
 
--- the fields of a header of four bytes: two bits of kind, 30 of size
+-- the fields of a header of four bytes, read as the number `word`: the kind in the top two bits, and the raw size in
+-- the other 30
 abbrev pub fields_of_short_head : ℕ → HeadFields
 fields_of_short_head word = record { kind = word / 2 ^ 30; len = 4; raw = word % 2 ^ 30 }
 
--- the fields of a header of 16 bytes: the kind in the low 30 bits of its first number, and a size of 64
--- bits
+-- the fields of a header of 16 bytes: the kind is in the low 30 bits of its first four bytes (`word`), and the raw size
+-- is in its last eight bytes
 abbrev pub fields_of_long_head : ℕ → ℕ → HeadFields
 fields_of_long_head word raw = record { kind = word % 2 ^ 30; len = 16; raw = raw }
 
--- the header at the front of the bytes, or None if it is not complete. The number 3 in the top two
--- bits of its first four bytes marks a header of 16 bytes
+-- the fields of the header at the front of the bytes, or None if the header is not complete. The number 3 in the top
+-- two bits of its first four bytes marks a header of 16 bytes
 unfoldable pub block_head_fields : List ℕ → Option HeadFields
 block_head_fields bytes =
     if nat_lt (length bytes) 4 then None
@@ -38,22 +38,22 @@ block_head_fields bytes =
     else Some (fields_of_long_head (word_at 0 bytes) (eight_byte_number_at 8 bytes)))
     else Some (fields_of_short_head (word_at 0 bytes))
 
--- the kind with this number, or None; the numbers are 0, 1 and 2
+-- the kind of block with this number in a header, or None if no kind has it; the numbers are 0, 1 and 2
 abbrev pub kind_of_number : ℕ → Option BlockKind
 kind_of_number zero = Some Adb
 kind_of_number (suc zero) = Some Signature
 kind_of_number (suc (suc zero)) = Some Contents
 kind_of_number (suc (suc (suc n))) = None
 
--- the result at one offset: the file's end, the first failed test, or a block with its size, padding
--- included
+-- what a reader finds at one offset of a file: the end of the file (`ended`), the first failed test (`failed`), or a
+-- block and the distance to the next block, padding included (`block`)
 pub data Step : Type 0 where
   ended : Step
   failed : Cause → Step
   block : Piece → ℕ → Step
 
--- the result for a header whose kind is allowed: the test of its raw size, then that of its payload's
--- length
+-- the result for a block at the offset `at` whose header has an allowed kind: first the raw size is tested, then the
+-- length of the payload. `bytes` are the bytes of the file from the offset on
 abbrev pub step_by_size : ℕ → List ℕ → HeadFields → BlockKind → Step
 step_by_size at bytes head kind =
     if nat_lt head.raw head.len || nat_lt (length bytes) head.raw then failed (Truncated at)
@@ -61,25 +61,26 @@ step_by_size at bytes head kind =
     else block (record { kind = kind; payload = take (head.raw - head.len) (drop head.len bytes) })
     (head.raw + padding_of head.raw)
 
--- the result for a complete header: first the test of its kind, then those of its size
+-- the result for a block with a complete header: first its kind is tested, then its size. The last argument is the kind
+-- with the number in the header, or None if no kind has it
 abbrev pub step_by_order : Option BlockKind → ℕ → List ℕ → HeadFields → Option BlockKind → Step
 step_by_order last at bytes head None = failed (BlockOrder at)
 step_by_order last at bytes head (Some kind) =
     if may_be_next_kind last kind then step_by_size at bytes head kind else failed (BlockOrder at)
 
--- the result if bytes are left: a fault if they have no complete header, else the result of the tests
--- of the kind and the sizes
+-- the result if bytes are left: a fault if they begin with no complete header, else the result of the tests of the
+-- header's kind and size. The last argument is the header, or None if it is not complete
 abbrev pub step_by_head : Option BlockKind → ℕ → List ℕ → Option HeadFields → Step
 step_by_head last at bytes None = failed (Truncated at)
 step_by_head last at bytes (Some head) = step_by_order last at bytes head (kind_of_number head.kind)
 
--- the result if no bytes are left: the end, or a fault if there was no block
+-- the result at the end of the file, whose offset is `at`: the end, or a fault if the file has no block
 abbrev pub step_at_end : Option BlockKind → ℕ → Step
 step_at_end None at = failed (Truncated at)
 step_at_end (Some kind) at = ended
 
--- the result after a block of the kind `last` (None: before the first), at the offset `at` at which
--- these bytes begin
+-- what a reader finds at the offset `at` after a block of the kind `last` (None: before the first); `bytes` are the
+-- bytes of the file from this offset on
 unfoldable pub next_step : Option BlockKind → ℕ → List ℕ → Step
 next_step last at bytes =
     if length bytes == 0 then step_at_end last at else step_by_head last at bytes (block_head_fields bytes)

@@ -6,15 +6,15 @@ use Rattle.std.specs.Int.{w32, w64, from_le_bytes}
 use Rattle.base_core.specs.declared.Cause.{Cause}
 use Rattle.base_core.specs.declared.Cause.TheVariants.{NotAdb, Compressed, Truncated}
 
--- the number in the four bytes at an offset, the least significant first
+-- the number in the four bytes at the offset `at`, the least significant byte first
 abbrev pub word_at : ℕ → List ℕ → ℕ
 word_at at bytes = from_le_bytes w32 (take 4 (drop at bytes))
 
--- the number in the eight bytes at an offset, the least significant first
+-- the number in the eight bytes at the offset `at`, the least significant byte first
 abbrev pub eight_byte_number_at : ℕ → List ℕ → ℕ
 eight_byte_number_at at bytes = from_le_bytes w64 (take 8 (drop at bytes))
 
--- whether the first four bytes are those of a compressed container
+-- whether `front`, the first four bytes of a file, are those of a compressed container
 abbrev pub is_compressed_file_mark : List ℕ → Bool
 is_compressed_file_mark front = bytes_eq front (codes "ADBd") || bytes_eq front (codes "ADBc")
 

@@ -9,7 +9,7 @@ use Rattle.adb_block.specs.declared.block.BlockKind.TheVariants.{Adb, Signature,
 pub record Piece : Type 0 where
   -- what the block contains
   pub kind : BlockKind
-  -- its bytes, without header and padding
+  -- the bytes of the block, without header and padding
   pub payload : List ℕ
 
 -- the number of a kind of block in a header
@@ -18,12 +18,12 @@ kind_number Adb = 0
 kind_number Signature = 1
 kind_number Contents = 2
 
--- how many bytes of padding follow a header and a payload of this size: up to the next multiple of 8
+-- how many bytes of padding follow a header and a payload that have this size together: up to the next multiple of 8
 abbrev pub padding_of : ℕ → ℕ
 padding_of size = (8 - size % 8) % 8
 
--- whether a block of this kind may follow another, or be the first: one ADB block, then signatures,
--- then contents
+-- whether a block of the second kind may follow a block of the first kind, or be the first block (None). The order is:
+-- one ADB block, then signatures, then contents
 abbrev pub may_be_next_kind : Option BlockKind → BlockKind → Bool
 may_be_next_kind None Adb = true
 may_be_next_kind None Signature = false

@@ -17,7 +17,7 @@ abbrev pub reader_after_block : ReaderPosition → BlockKind → ℕ → ReaderP
 reader_after_block s kind size =
     record { schema = s.schema; last = Some kind; at = s.at + size; left = drop size s.left }
 
--- the offset of the next block, or None if it is at or past the file's end
+-- the offset of the next block, or None if the position is at or past the file's end
 abbrev pub next_offset : ReaderPosition → Option ℕ
 next_offset s = if length s.left == 0 then None else Some s.at
 
@@ -25,7 +25,7 @@ next_offset s = if length s.left == 0 then None else Some s.at
 abbrev pub piece_of : Block → Piece
 piece_of b = record { kind = b.kind; payload = b.payload.now }
 
--- the file spells these blocks from the reader's position on
+-- the bytes of the file from the reader's position on are these blocks, by the grammar
 abbrev pub SpelledFrom : ReaderPosition → List Piece → Type 0
 SpelledFrom s bs = SpellsBlocks s.last s.left bs
 
@@ -34,29 +34,29 @@ abbrev pub BeginsWith : Piece → (List Piece → Type 0) → List Piece → Typ
 BeginsWith b Goes [] = ⊥
 BeginsWith b Goes (c ∷ bs) = (c ≡ b) × Goes bs
 
--- a call of the reader returns the blocks of the grammar and no others. If it returns a block, the
--- spelled blocks begin with it and go on with those from the new position. If it returns None, no block
--- is left; and if it returns an error, the file spells nothing at all
+-- a call of the reader, at the position `s` before and `t` after it, returns the next block of the grammar. If it
+-- returns a block, the rest of the file is, by the grammar, this block and the blocks from `t` on. If it returns None,
+-- no block is left. If it returns an error, the rest of the file is no list of blocks
 abbrev pub ReturnsNextSpelledBlock : ReaderPosition → Result (Option Block) Cause → ReaderPosition → Type 0
 ReturnsNextSpelledBlock s (Ok None) t = (bs : List Piece) → SpelledFrom s bs ↔ (bs ≡ [])
 ReturnsNextSpelledBlock s (Ok (Some b)) t =
     (bs : List Piece) → SpelledFrom s bs ↔ BeginsWith (piece_of b) (SpelledFrom t) bs
 ReturnsNextSpelledBlock s (Err c) t = (bs : List Piece) → ¬ SpelledFrom s bs
 
--- the result of a call is that of the tests at the old position: nothing after the last block, a block
--- and the distance to the next one, or the first failed test
+-- the result of a call is that of the tests at the old position `s`: the end, a block and its distance to the next
+-- block, or the first failed test. `t` is the new position
 abbrev pub IsNextStepResult : ReaderPosition → Result (Option Block) Cause → ReaderPosition → Type 0
 IsNextStepResult s (Ok None) t = next_step s.last s.at s.left ≡ ended
 IsNextStepResult s (Ok (Some b)) t = next_step s.last s.at s.left ≡ block (piece_of b) (t.at - s.at)
 IsNextStepResult s (Err c) t = next_step s.last s.at s.left ≡ failed c
 
--- a call of the reader has read a block, and moved to the position after it
+-- a call of the reader has read the block `b` and moved from the position `s` to `t`
 pub record Advances (s : ReaderPosition) (b : Block) (t : ReaderPosition) : Type 0 where
   -- the block's offset is the old position
   pub at : b.at ≡ s.at
-  -- the block is allowed there
+  -- the block may follow the block before it
   pub follows : MayFollow s.last (piece_of b)
-  -- its header, payload and padding are there
+  -- the bytes between the positions are its header, payload and padding
   pub is_block : IsBlock (piece_of b) s.left t.left
   -- the new position is after its padding
   pub located : t ≡ reader_after_block s b.kind (t.at - s.at)
@@ -73,20 +73,22 @@ pub record FindsEndOfBlocks (s t : ReaderPosition) : Type 0 where
   -- the reader has not moved
   pub stays : t ≡ s
 
--- the reading from the old position, by the result of a call and the reading from the new position
+-- `r` is the reading from the old position on, given the result of a call and the reading `q` from the new position on
 abbrev pub ContinuesReading : Reading → Result (Option Block) Cause → Reading → Type 0
 ContinuesReading r (Ok None) q = r ≡ done
 ContinuesReading r (Ok (Some b)) q = r ≡ more (piece_of b) b.at q
 ContinuesReading r (Err c) q = r ≡ fault c
 
--- all blocks from the old position, by the result of a call and all blocks from the new position
+-- `r` are all blocks from the old position on, or the first failed test, given the result of a call, and all blocks or
+-- the first failed test from the new position on (`q`)
 abbrev pub AreBlocksFromCall : Result (List Piece) Cause → Result (Option Block) Cause
     → Result (List Piece) Cause → Type 0
 AreBlocksFromCall r (Ok None) q = r ≡ Ok []
 AreBlocksFromCall r (Ok (Some b)) q = r ≡ with_block (piece_of b) q
 AreBlocksFromCall r (Err c) q = r ≡ Err c
 
--- all blocks of a file, by the result for its header: those from the first position, or the fault
+-- `r` are all blocks of a file, or the first failed test, given the result for its header: the reader's first position,
+-- or the fault of the header
 abbrev pub AreBlocksOrHeaderFault : Result (List Piece) Cause → Result ReaderPosition Cause → Type 0
 AreBlocksOrHeaderFault r (Ok s) = r ≡ blocks_from_position s
 AreBlocksOrHeaderFault r (Err c) = r ≡ Err c

@@ -8,22 +8,22 @@ use Rattle.adb_block.specs.Framing.{Step, ended, failed, block, next_step}
 use Rattle.adb_block.specs.ReaderPosition.{ReaderPosition}
 use Rattle.adb_block.specs.declared.block.BlockKind.{BlockKind}
 
--- a reading of a file: its end (`done`), the first failed test (`fault`), or a block, its offset, and
--- the reading after it (`more`)
+-- what a reader finds in a file from some offset on: the end (`done`), the first failed test (`fault`), or a block, its
+-- offset, and what the reader finds after this block (`more`)
 pub data Reading : Type 0 where
   done : Reading
   fault : Cause → Reading
   more : Piece → ℕ → Reading → Reading
 
--- the reading that begins with the result of the tests at the offset `at`. The end or a fault ends it;
--- after a block `further` continues it
+-- the reading that begins with the given result of the tests at the offset `at`. The end or a fault ends the reading;
+-- after a block `further` gives the rest of the reading, from the block and its distance to the next block
 abbrev pub block_stream_after_step : ℕ → (Piece → ℕ → Reading) → Step → Reading
 block_stream_after_step at further ended = done
 block_stream_after_step at further (failed c) = fault c
 block_stream_after_step at further (block b size) = more b at (further b size)
 
--- the reading from an offset on, after a block of the kind `last`. The number bounds the blocks; the
--- number of bytes plus one is always enough
+-- the reading from the offset `at` on, after a block of the kind `last` (None: before the first); `bytes` are the bytes
+-- from there on. The first argument bounds the number of blocks; the number of bytes plus one is always enough
 unfoldable pub block_stream_from_offset : ℕ → Option BlockKind → ℕ → List ℕ → Reading
 block_stream_from_offset zero last at bytes = fault (Truncated at)
 block_stream_from_offset (suc n) last at bytes =

@@ -7,13 +7,13 @@ use Rattle.std.specs.Int.{w32, w64, to_le_bytes}
 use Rattle.adb_block.specs.Piece.{Piece, kind_number, padding_of}
 use Rattle.adb_block.specs.declared.block.BlockKind.{BlockKind}
 
--- a header of four bytes for a payload of `len`: the kind in the top two bits, and below it the raw
--- size
+-- a header of four bytes for a payload of `len` bytes: the kind in the top two bits, and below it the raw size, which
+-- counts the header too
 abbrev pub short_head_bytes : BlockKind → ℕ → List ℕ
 short_head_bytes kind len = to_le_bytes w32 (kind_number kind * 2 ^ 30 + (4 + len))
 
--- a header of sixteen bytes for a payload of `len`: the number 3 with the kind below it, four
--- zeros, and the raw size
+-- a header of sixteen bytes for a payload of `len` bytes: the number 3 in the top two bits with the kind below it, four
+-- zeros, and the raw size, which counts the header too
 abbrev pub long_head_bytes : BlockKind → ℕ → List ℕ
 long_head_bytes kind len =
     to_le_bytes w32 (3 * 2 ^ 30 + kind_number kind)

@@ -75,8 +75,8 @@ pub(crate) struct ReadBlock<'a> {
     pub size: usize,
 }
 
-/// The block at the offset at which these bytes begin, after a block of the kind `last`; None at
-/// the end.
+/// The block at the front of `bytes`, which are the bytes of the file from the offset `at` on,
+/// after a block of the kind `last` (None: before the first). The result is None at the file's end.
 #[tactic(auto, using(crate::proofs::Heads::begins_whole))]
 pub(crate) fn block_at(
     last: Option<BlockKind>,
@@ -86,12 +86,14 @@ pub(crate) fn block_at(
     // The block ends within the bytes, except that its padding may be cut.
     ensures fits { IfOk result (λ found. IfSome found (λ block.
         (0 < length bytes.now) × (block.size ≤ length bytes.now + 7))) }
+    // The result is that of the tests at this offset, in their order.
     ensures exact { IsReadBlock result (next_step last at bytes.now) }
 {
     match frame_of(last, at, bytes, bytes.len() as u64) {
         Err(cause) => Err(cause),
         Ok(None) => Ok(None),
         Ok(Some(frame)) => {
+            // Where the payload begins in `bytes`, and where it ends.
             let start = frame.head_len as usize;
             let raw = start + frame.payload_len as usize;
             Ok(Some(ReadBlock {
@@ -103,10 +105,12 @@ pub(crate) fn block_at(
     }
 }
 
-/// The length in bytes of a block's header that begins with these bytes: 16 if the top two bits of
-/// the first four bytes are 3, else 4 (apk-v3(5)). For fewer than four bytes it is 4.
+/// The length in bytes of a block's header that begins with these bytes (apk-v3(5)): 16 if the top
+/// two bits of its first four bytes, read as a number, are 3, else 4. For fewer than four bytes the
+/// result is 4.
 pub fn head_len(bytes: &[u8]) -> u64
     ensures value { result ≡ head_len bytes.now }
+    // A header has 4 or 16 bytes.
     ensures either { (result ≡ 4) ⊎ (result ≡ 16) }
 {
     if bytes.len() < 4 {
@@ -115,9 +119,10 @@ pub fn head_len(bytes: &[u8]) -> u64
     if word_at(bytes, 0) >> 30 == 3 { 16 } else { 4 }
 }
 
-/// Frames the block at an offset, after a block of the kind `last`, by its header. `left` is the
-/// number of bytes from the offset to the end of the file. `head` is the first of these bytes: as
-/// many as the header has (`head_len`), if the file has them all. The result is None at the end.
+/// Reads the header of the block at the offset `at`, after a block of the kind `last` (None: before
+/// the first), and tests it. `left` is the number of bytes from the offset to the end of the file.
+/// `head` has the first of these bytes: as many as the header has (`head_len`), if the file has
+/// them all. The result is None at the end of the file.
 ///
 /// # Errors
 ///
@@ -129,11 +134,13 @@ pub fn frame_of(
     head: &[u8],
     left: u64,
 ) -> Result<Option<Frame>, Cause>
+    // `head` has all bytes of the header that the file has.
     requires { IsHeadPrefix head.now left }
-    // It holds for any rest of the file that begins with these bytes.
+    // The result is that of the tests on any rest of a file that begins with `head` and has `left`
+    // bytes.
     ensures exact { (bytes : List ℕ) → length bytes ≡ left → take (length head.now) bytes ≡ head.now
         → IsFrameOrEndOfStep result bytes (next_step last at bytes) }
-    // A file has at least one block, else it is an error.
+    // Before the first block the result is never None: a file without blocks is an error.
     ensures first { last ≡ None → IfOk result (λ found. IsSome found) }
     // The kind is allowed after `last`.
     ensures order { IfOk result (λ found. IfSome found (λ frame.
@@ -141,7 +148,7 @@ pub fn frame_of(
     // The length of the header is that of its first bytes (`head_len`).
     ensures len { IfOk result (λ found. IfSome found (λ frame.
         frame.head_len ≡ head_len head.now)) }
-    // The block ends within the bytes.
+    // Header and payload end within the file.
     ensures fits { IfOk result (λ found. IfSome found (λ frame.
         (0 < left) × (raw_size frame ≤ left))) }
 {
@@ -158,10 +165,11 @@ pub fn frame_of(
     Ok(Some(frame))
 }
 
-/// The header at the front of the bytes, or None if it is not complete. The number 3 in the top two
-/// bits marks a header of 16 bytes.
+/// The fields of the header at the front of the bytes, or None if the header is not complete. The
+/// number 3 in the top two bits of its first four bytes marks a header of 16 bytes.
 #[tactic(auto, unfolding(crate::specs::Framing::block_head_fields))]
 fn read_head(bytes: &[u8]) -> Option<BlockHead>
+    // The result has the fields that the specification reads.
     ensures exact { option_map fields_of result ≡ block_head_fields bytes.now }
     // The length of the header is that of its first bytes (`head_len`).
     ensures len { IfSome result (λ head. head.len ≡ head_len bytes.now) }
@@ -189,21 +197,23 @@ fn read_head(bytes: &[u8]) -> Option<BlockHead>
     })
 }
 
-/// Frames the block that begins with this header, if it passes the tests of its kind and of its
-/// size.
+/// The frame of the block at the offset `at` with this header, or the first failed test of its kind
+/// and its size. `last` is the kind of the block before it, and `left` the number of bytes from
+/// `at` to the end of the file.
 fn frame_by_head(
     last: Option<BlockKind>,
     at: u64,
     left: u64,
     head: BlockHead,
 ) -> Result<Frame, Cause>
+    // The result is that of the tests on any rest of a file with `left` bytes and this header.
     ensures exact { (bytes : List ℕ) → length bytes ≡ left → IsFrameOfStep result bytes
         (step_by_order last at bytes (fields_of head) (kind_of_number head.kind)) }
     // The kind is allowed after `last`.
     ensures order { IfOk result (λ frame. may_be_next_kind last frame.kind ≡ true) }
     // The length of the header is the one that was read.
     ensures len { IfOk result (λ frame. frame.head_len ≡ head.len) }
-    // The block ends within the bytes.
+    // Header and payload end within the file.
     ensures fits { IfOk result (λ frame. raw_size frame ≤ left) }
 {
     let Some(kind) = kind_of_number(head.kind) else {
@@ -216,6 +226,7 @@ fn frame_by_head(
     if head.raw < head.len || head.raw > left {
         return Err(Cause::Truncated { at });
     }
+    // The payload is shorter than its kind needs.
     if head.raw - head.len < least_payload_len(kind) {
         return Err(Cause::Truncated { at });
     }
@@ -226,7 +237,7 @@ fn frame_by_head(
     })
 }
 
-/// The kind of a block by the number of its kind.
+/// The kind of block with this number in a header, or None if no kind has the number.
 fn kind_of_number(number: u32) -> Option<BlockKind>
     ensures { result ≡ kind_of_number number }
 {
@@ -238,7 +249,8 @@ fn kind_of_number(number: u32) -> Option<BlockKind>
     }
 }
 
-/// Whether a block of this kind may follow one of the kind `last`, or be the first.
+/// Whether a block of this kind may follow a block of the kind `last`, or, if `last` is None, be
+/// the first.
 fn may_be_next_kind(last: Option<BlockKind>, kind: BlockKind) -> bool
     ensures { result ≡ may_be_next_kind last kind }
 {
@@ -265,6 +277,7 @@ fn least_payload_len(kind: BlockKind) -> u64
 /// eight.
 pub fn padding_of(size: usize) -> usize
     ensures value { result ≡ padding_of size }
+    // Fewer than eight bytes are needed.
     ensures few { result < 8 }
 {
     (8 - size % 8) % 8
@@ -285,10 +298,12 @@ pub struct Head {
 impl Model for Head {
     ghost use Rattle.std.specs.Prelude.{ℕ, ◌≤◌, List, take};
 
+    // Contracts see a header as the list of its bytes.
     ghost Value = { List ℕ };
 
     ghost view = { λ head. take head.len head.bytes };
 
+    // The header is not longer than its buffer.
     ghost invariant = { λ head. head.len ≤ 16 };
 }
 
@@ -296,6 +311,7 @@ impl Head {
     /// The bytes of the header: 4 or 16 of them.
     pub fn bytes(&self) -> &[u8]
         ensures bytes { result.now ≡ self.now }
+        // There are at most 16 bytes.
         ensures short { length result.now ≤ 16 }
     {
         &self.bytes[..self.len]
@@ -307,18 +323,24 @@ impl Head {
 /// else 16, of which four are reserved and 0.
 #[tactic(auto, unfolding(crate::specs::Written::head_bytes))]
 pub fn block_head(kind: BlockKind, payload_len: u64) -> Head
+    // The raw size, with a header of 16 bytes, fits in 64 bits.
     requires { payload_len < 2 ^ 64 - 16 }
+    // The header has the bytes of the specification.
     ensures bytes { result ≡ head_bytes kind payload_len }
+    // These bytes are a header by the grammar of containers.
     ensures head { IsHead kind payload_len result }
 {
     let number = kind_number(kind);
+    // The raw size with a header of 4 bytes.
     let raw = 4 + payload_len;
     let mut bytes = [0; 16];
     if raw <= MOST_SHORT {
         bytes[..4].copy_from_slice(&(number << 30 | raw as u32).to_le_bytes());
         return Head { bytes, len: 4 };
     }
+    // A header of 16 bytes: 3 and the kind, four zeros, and the raw size.
     bytes[..4].copy_from_slice(&((3 << 30) + number).to_le_bytes());
+    // Bytes 4 to 7 are zeros.
     bytes[8..].copy_from_slice(&(16 + payload_len).to_le_bytes());
     Head { bytes, len: 16 }
 }
@@ -326,6 +348,7 @@ pub fn block_head(kind: BlockKind, payload_len: u64) -> Head
 /// The number of a kind of block in a header.
 fn kind_number(kind: BlockKind) -> u32
     ensures value { result ≡ kind_number kind }
+    // The number 3 is no kind: it marks a header of 16 bytes.
     ensures few { result < 3 }
 {
     match kind {
@@ -337,6 +360,7 @@ fn kind_number(kind: BlockKind) -> u32
 
 /// The number in the four bytes at an offset, the least significant first.
 pub(crate) fn word_at(bytes: &[u8], at: usize) -> u32
+    // The four bytes are within the bytes.
     requires { at + 4 ≤ length bytes.now }
     ensures { result ≡ word_at at bytes.now }
 {
@@ -346,6 +370,7 @@ pub(crate) fn word_at(bytes: &[u8], at: usize) -> u32
 
 /// The number in the eight bytes at an offset, the least significant first.
 pub(crate) fn eight_byte_number_at(bytes: &[u8], at: usize) -> u64
+    // The eight bytes are within the bytes.
     requires { at + 8 ≤ length bytes.now }
     ensures { result ≡ eight_byte_number_at at bytes.now }
 {

@@ -1,6 +1,6 @@
-//! The reader of a file's header and of its blocks in sequence. Its laws prove that its tests and
-//! the grammar of a container agree on every file. The rules are in `docs/formats.md`, "Container":
-//! the tests in the order of its table.
+//! The reader of a file's header and of the file's blocks in sequence. Laws prove that the tests of
+//! the reader and the grammar of a container agree on every file. The rules are in
+//! `docs/formats.md`, "Container": the tests in the order of its table.
 
 ghost use Rattle.std.specs.Prelude.{◌≡◌, ◌↔◌, [], drop, IfOk, IfErr, IfSome, IfNone, IsNone, OnErr, ◌<◌, ◌^◌, ℕ, List};
 ghost use Rattle.adb_block.specs.Header.{schema_of_header};
@@ -36,11 +36,13 @@ impl<'a> Model for Blocks<'a> {
     ghost use Rattle.std.specs.Prelude.{◌≤◌, ◌+◌, length, drop};
     ghost use Rattle.adb_block.specs.ReaderPosition.{ReaderPosition};
 
+    // Contracts see a reader as its position in the file.
     ghost Value = { ReaderPosition };
 
     ghost view = { λ b.
         record { schema = b.schema; last = b.last; at = b.at; left = drop b.at b.bytes.now } };
 
+    // The offset may be past the file's end by the last padding, which may be absent.
     ghost invariant = { λ b. b.at ≤ length b.bytes.now + 8 };
 }
 
@@ -53,11 +55,15 @@ impl<'a> Blocks<'a> {
     /// are truncated at 0.
     #[tactic(auto, unfolding(crate::specs::AllBlocks::blocks_of))]
     pub fn new(bytes: &'a [u8]) -> Result<Blocks<'a>, Cause>
+        // On Ok, the reader has the schema of the file's header.
         ensures ok { IfOk result (λ blocks. schema_of_header bytes.entry.now ≡ Ok blocks.schema) }
+        // On Ok, the reader is before the first block.
         ensures start { IfOk result (λ blocks. blocks
             ≡ first_block_position blocks.schema bytes.entry.now) }
+        // An error is the first failed test of the header.
         ensures cause { IfErr result (λ cause. schema_of_header bytes.entry.now ≡ Err cause) }
-        // For a caller's loop over all blocks: its start.
+        // For a caller's loop over all blocks: all blocks of the file are those from this position
+        // on, or the fault of the header.
         ensures rest { AreBlocksOrHeaderFault (blocks_of bytes.entry.now) result }
     {
         let schema = read_header(bytes)?;
@@ -76,36 +82,42 @@ impl<'a> Blocks<'a> {
         self.schema
     }
 
-    /// The next block, or None if and only if the file ends here. Else the error is that of the
+    /// Reads the next block. The result is None if and only if the file ends here. An error is the
     /// first failed test, with the block's offset:
     ///
     /// - truncated: the file has no block, or the block's header is not complete;
-    /// - block order: its kind is unknown or not allowed here;
-    /// - truncated: its raw size is below its header's or past the file's end, or an ADB payload
-    ///   has fewer than 8 bytes.
+    /// - block order: the block's kind is unknown or not allowed here;
+    /// - truncated: the block's raw size is less than its header, or goes past the file's end, or
+    ///   the payload of an ADB block has fewer than 8 bytes.
     ///
     /// After an error the reader has not moved, so the next call returns the same error.
     pub fn next(&mut self) -> Result<Option<Block<'a>>, Cause>
-        // It returns the blocks of the grammar and no others.
+        // The call returns the next block by the grammar of containers, and no other block.
         ensures blocks { ReturnsNextSpelledBlock self.old result self.new }
-        // The result is the first failed test, or the block that passed them all.
+        // The result is the first failed test, or the block that passed all tests, or the end.
         ensures exact { IsNextStepResult self.old result self.new }
 
-        // The block is a range of the file; None if and only if nothing is left.
+        // A returned block begins at the old position, and the new position is after the block.
         ensures found { IfOk result
             (λ found. IfSome found (λ block. Advances self.old block self.new)) }
+        // The result is None exactly if no bytes were left.
         ensures end { IfOk result (λ found. IsNone found ↔ (self.old.left ≡ [])) }
 
+        // If the result is None, at least one block was read before, and the reader has not moved.
         ensures none { IfOk result (λ found. IfNone found (FindsEndOfBlocks self.old self.new)) }
+        // After an error the reader has not moved.
         ensures err { OnErr result (self.new ≡ self.old) }
 
-        // For a caller's loop over all blocks: its step.
+        // For a caller's loop over all blocks: what the reader finds from the old position on is
+        // the returned block, if any, and then what it finds from the new position on.
         ensures reading { ContinuesReading (block_stream_from self.old) result
             (block_stream_from self.new) }
+        // The same as a list: the blocks, or the first failed test, from the old position on.
         ensures rest { AreBlocksFromCall (blocks_from_position self.old) result
             (blocks_from_position self.new) }
     {
         let at = self.at as u64;
+        // The bytes of the file from the reader's offset on.
         let left = left_from(self.bytes, self.at);
         match block_at(self.last, at, left) {
             Err(cause) => Err(cause),
@@ -134,8 +146,8 @@ impl<'a> Blocks<'a> {
     }
 }
 
-/// The bytes of a file from an offset on. There are none at or past its end, as after a last
-/// padding that is cut.
+/// The bytes of a file from an offset on; none if the offset is at or past the file's end, as after
+/// a last padding that is absent.
 fn left_from(bytes: &[u8], at: usize) -> &[u8]
     ensures { result.now ≡ drop at bytes.now }
 {
@@ -164,38 +176,39 @@ pub(crate) fn read_header(file: &[u8]) -> Result<u32, Cause>
     Ok(word_at(file, 4))
 }
 
-/// A file that is read to its end is spelled by its schema and its blocks. The padding after the
-/// last block may be absent.
+/// A law: if the reader finds no fault in a file, the file is a container, by the grammar, of the
+/// schema and the blocks that are read. The padding after the last block may be absent.
 pub fn what_is_read_is_spelled()
     ensures { (file : List ℕ) (schema : ℕ) (pieces : List Piece)
         → schema_of_header file ≡ Ok schema → blocks_of file ≡ Ok pieces
         → IsContainerWithBlocks file schema pieces }
 {}
 
-/// A file that is spelled by a schema and blocks is read to its end, as this schema and these
-/// blocks.
+/// A law: if a file is a container, by the grammar, of a schema and blocks, the reader finds
+/// exactly this schema and these blocks, and no fault.
 pub fn what_is_spelled_is_read()
     ensures { (file : List ℕ) (schema : ℕ) (pieces : List Piece)
         → IsContainerWithBlocks file schema pieces → (schema_of_header file ≡ Ok schema)
         × (blocks_of file ≡ Ok pieces) }
 {}
 
-/// The fault of the framing that is reported is the first. The blocks before it pass all tests. The
-/// next one has an incomplete header; or a complete header, but a kind that is not allowed; or both
-/// are good, but its size is too small or exceeds the file.
+/// A law: the reader reports the first fault of the blocks. All blocks before it pass their tests.
+/// The next block has an incomplete header, or a kind that is not allowed, or a size that is too
+/// small or exceeds the file.
 pub fn the_first_fault_of_framing_is_reported()
     ensures { (file : List ℕ) (schema : ℕ) (c : Cause)
         → schema_of_header file ≡ Ok schema → blocks_of file ≡ Err c → IsFirstFramingFault file c }
 {}
 
-/// A file is a container of at most one schema and one list of blocks.
+/// A law: a file is a container of at most one schema and one list of blocks.
 pub fn a_container_has_one_reading()
     ensures { (file : List ℕ) (schema other : ℕ) (pieces others : List Piece)
         → IsContainerWithBlocks file schema pieces → IsContainerWithBlocks file other others
         → (schema ≡ other) × (pieces ≡ others) }
 {}
 
-/// The container of blocks in an allowed order is spelled by its schema and these blocks.
+/// A law: the bytes that are written for a schema and blocks in an allowed order are a container,
+/// by the grammar, of this schema and these blocks.
 pub fn what_is_written_is_spelled()
     ensures { (schema : ℕ) (pieces : List Piece)
         → schema < 2 ^ 32 → CanBlocksBeWrittenAfter None pieces

@@ -1,6 +1,6 @@
--- What the entry of a file says of the bytes of the file. The rules are in `docs/commands.md`, "What a
--- change does with files", on configuration files; the fields are in `docs/formats.md`, "Schemas",
--- table 4. Serves the laws of `src/entries.rt`.
+-- What the entry of a file in a package says of the bytes of the file. The rules are in `docs/commands.md`, "What a
+-- change does with files", part "Configuration files"; the fields are in `docs/formats.md`, "Schemas", table 4. Serves
+-- the laws of `src/entries.rt`.
 use Rattle.std.specs.Prelude.{◌≡◌, ℕ, List, ◌++◌, codes, drop, length}
 use Rattle.sha1.specs.Sha1.{sha1}
 use Rattle.sha2.specs.Sha256.{sha256}
@@ -10,15 +10,15 @@ use Rattle.adb_view.specs.Values.{int_in, text_in}
 use Rattle.adb_view.specs.declared.tables.Which.TheVariants.{File}
 use Rattle.make_laws.specs.NamedFields.{field_named}
 
--- the size that an entry gives; 0 if it gives none
+-- the size in the entry of a file; 0 if the entry has none
 abbrev pub size_field_of_entry : Plain → ℕ
 size_field_of_entry entry = int_in (field_named File (codes "size") entry)
 
--- the digest that an entry gives; no bytes if it gives none
+-- the digest in the entry of a file; no bytes if the entry has none
 abbrev pub digest_field_of_entry : Plain → List ℕ
 digest_field_of_entry entry = text_in (field_named File (codes "hashes") entry)
 
--- the target that an entry gives; no bytes if the file is no link
+-- the field `target` in the entry of a file; no bytes if the file is no link
 abbrev pub target_field_of_entry : Plain → List ℕ
 target_field_of_entry entry = text_in (field_named File (codes "target") entry)
 
@@ -31,15 +31,17 @@ pub record GiveSameSizeDigestAndTarget (a b : Plain) : Type 0 where
   -- both give the same link target, or none
   pub target : target_field_of_entry a ≡ target_field_of_entry b
 
--- the bytes of a file that represents a link: a mark, and the target without its first two bytes, which
--- say that it is a link
+-- `bytes` are those of a file that represents a link: `!<symlink>`, followed by the field `target` without its first
+-- two bytes, which say that the file is a link
 abbrev pub IsTargetOfLinkBytes : List ℕ → List ℕ → Type 0
 IsTargetOfLinkBytes target bytes = bytes ≡ codes "!<symlink>" ++ drop 2 target
 
--- The bytes have this digest. The length of the digest selects the function (FIPS 180-4). A digest of
--- another length is not compared.
+-- The bytes have this digest. The length of the digest selects the hash function (FIPS 180-4). A digest of another
+-- length than these three is not compared with the bytes.
 pub record HasDigest (digest bytes : List ℕ) : Type 0 where
-  -- a digest of 20 bytes is SHA-1, one of 32 is SHA-256, and one of 64 is SHA-512
+  -- a digest of 20 bytes is the SHA-1 of the bytes
   pub of_20_bytes : length digest ≡ 20 → digest ≡ sha1 bytes
+  -- a digest of 32 bytes is the SHA-256 of the bytes
   pub of_32_bytes : length digest ≡ 32 → digest ≡ sha256 bytes
+  -- a digest of 64 bytes is the SHA-512 of the bytes
   pub of_64_bytes : length digest ≡ 64 → digest ≡ sha512 bytes

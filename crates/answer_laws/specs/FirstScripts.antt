@@ -1,6 +1,5 @@
--- Which script a refused change names. The rules are in `docs/commands.md`, "`add` and `del`", on
--- scripts, and the numbers in `docs/formats.md`, "Schemas", table 6. Serves the laws of
--- `src/scripts.rt`.
+-- Which script the refusal of a change names. The rules are in `docs/commands.md`, "`add` and `del`", part "What is
+-- refused"; the numbers of scripts are in `docs/formats.md`, "Schemas", table 6. Serves the laws of `src/scripts.rt`.
 use Rattle.std.specs.Prelude.{◌≡◌, ◌⊎◌, ◌<◌, ℕ, true, false}
 use Rattle.adb_view.specs.Plain.{Plain}
 use Rattle.change_outcome.specs.PackageFiles.{has_script_of}
@@ -11,7 +10,8 @@ use Rattle.report_core.specs.Reports.{Change, Downgrade, Install, Purge, Reinsta
 abbrev pub IsUpgradeScript : ℕ → Type 0
 IsUpgradeScript n = (n ≡ PRE_UPGRADE_SCRIPT) ⊎ (n ≡ POST_UPGRADE_SCRIPT)
 
--- a change runs the script with this number, if the package has it
+-- the scripts with this number are among those that a change of this kind would run. The change `Replace` installs
+-- another package with an equal version
 abbrev pub IsScriptNumberRunByChange : Change → ℕ → Type 0
 IsScriptNumberRunByChange (Install name version) n = (n ≡ PRE_INSTALL_SCRIPT) ⊎ (n ≡ POST_INSTALL_SCRIPT)
 IsScriptNumberRunByChange (Purge name version) n = (n ≡ PRE_DEINSTALL_SCRIPT) ⊎ (n ≡ POST_DEINSTALL_SCRIPT)
@@ -20,7 +20,8 @@ IsScriptNumberRunByChange (Upgrade name old new) n = IsUpgradeScript n
 IsScriptNumberRunByChange (Downgrade name old new) n = IsUpgradeScript n
 IsScriptNumberRunByChange (Replace name old new) n = IsUpgradeScript n
 
--- the script with this number is the first, by number, of those that the change of a package runs
+-- of the scripts that the package `pkg` has and that the change would run, the one with the number `n` has the smallest
+-- number
 pub record IsFirstScriptRunByChange (change : Change) (pkg : Plain) (n : ℕ) : Type 0 where
   -- the change runs the script with this number
   pub runs : IsScriptNumberRunByChange change n

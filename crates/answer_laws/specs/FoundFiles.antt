@@ -1,24 +1,27 @@
--- Where packages and databases are found. The rules are in `docs/commands.md`, "`add` and `del`", what
--- is read. Serves the laws of `src/found.rt`.
+-- Where the files of packages are. The rules are in `docs/commands.md`, "`add` and `del`", part "What is read".
+-- Serves the laws of `src/found.rt`.
 use Rattle.std.specs.Prelude.{◌≡◌, ◌+◌, ℕ, false, List, Some, slice_get}
 use Rattle.installed_info.specs.candidate_core.Candidates.{Candidate}
 use Rattle.dep_core.specs.Repositories.{Repository}
 use Rattle.change_outcome.specs.package_changes.Changes.{candidate_version_text}
 use Rattle.change_outcome.specs.root_names.PackagePath.{has_slash, package_file_name}
 
--- the file name of a candidate's package
+-- the name, without its folder, of the file of a candidate's package: `NAME-VERSION.apk`
 abbrev pub candidate_file_name : Candidate → List ℕ
 candidate_file_name c = package_file_name c.name (candidate_version_text c)
 
--- a candidate is of the repository at a place, counted from 0, whose index has this path
+-- the candidate `c` is from a repository of the list whose index has this path
 pub record IsCandidateOfIndexAtPath (repositories : List Repository) (c : Candidate) (path : List ℕ)
     : Type 0 where
   -- the place of the repository in the list, counted from 0
   pub place : ℕ
+  -- the candidate has the number of this repository, which is counted from 1
   pub numbered : c.repository ≡ Some (place + 1)
-  -- the repository, whose index has this path
+  -- the repository of the candidate
   pub repository : Repository
+  -- this repository is at this place of the list
   pub listed : slice_get repositories place ≡ Some repository
+  -- the index of this repository has this path
   pub path_is : repository.path ≡ path
 
 -- a text has no `/`

@@ -1,4 +1,4 @@
--- What `info` answers. The rules are in `docs/commands.md`, "`info`". Serves the laws of
+-- What `info` prints and refuses. The rules are in `docs/commands.md`, "`info`". Serves the laws of
 -- `src/info.rt`.
 use Rattle.std.specs.Prelude.{◌≡◌, ℕ, true, List, [], ◌∷◌, ◌++◌, None, codes, is_some, map}
 use Rattle.std.specs.List.{flat_map}
@@ -19,24 +19,28 @@ use Rattle.installed_info.specs.Packages.{package_meant_by_operand_text}
 use Rattle.make_laws.specs.NamedFields.{field_named}
 use Rattle.report_core.specs.Reports.{name_dash_version, report_lines}
 
--- a text with a line for each package, its name, in byte order
+-- the text has one line for each package, with the name of the package, in byte order
 pub record HasSortedPackageNameLines (packages : List Plain) (text : List ℕ) : Type 0 where
-  -- the names of the packages
+  -- the lines of the text
   pub names : List (List ℕ)
+  -- they are the names of the packages, in some order
   pub same : IsPermutation (map package_name packages) names
   -- they are in byte order
   pub order : IsSorted bytes_cmp names
   -- the text has a line for each of them
   pub text_is : text ≡ report_lines names
 
--- the operand at this place has no package, in the form that the flags select, and each one before it
--- has one
+-- `place` is the place in the command line of the first operand for which no package is found. The flags select the
+-- form of `info`, and with it what an operand means (a name or, with `-W`, a path)
 pub record IsPlaceOfFirstOperandNotFound (flags : Flags) (packages : List Plain) (operands : List Operand)
     (place : ℕ) : Type 0 where
-  -- the operands before it, the operand, and those after it
+  -- the operands before this operand
   pub front : List Operand
+  -- the operand for which no package is found
   pub operand : Operand
+  -- the operands after it
   pub rest : List Operand
+  -- these are all operands, in their order
   pub operands_are : operands ≡ front ++ operand ∷ rest
   -- the operand has this place in the command line
   pub place_is : operand.place ≡ place
@@ -46,15 +50,15 @@ pub record IsPlaceOfFirstOperandNotFound (flags : Flags) (packages : List Plain)
   pub earlier : (o : Operand) → IsIn o front
       → is_some (package_meant_by_operand_text (info_form_of_flags flags) packages o.text) ≡ true
 
--- a section: a heading, a line for each fact, and an empty line
+-- the text of a section: its heading, a line for each text of the list `facts`, and an empty line
 abbrev pub section_text_with_heading : List ℕ → List (List ℕ) → List ℕ
 section_text_with_heading heading facts = report_lines (heading ∷ (facts ++ ([] ∷ [])))
 
--- the heading of a section: a package with its version, and a text
+-- the heading of a section: `NAME-VERSION` of the package, followed by `text`
 abbrev pub info_heading : Plain → List ℕ → List ℕ
 info_heading pkg text = name_dash_version (package_name pkg) (package_version_text pkg) ++ text
 
--- the field of this name in a package's information
+-- the value of the field with this name in the information of a package
 abbrev pub info_field : List ℕ → Plain → Plain
 info_field name pkg = field_named PkgInfo name (field_named Package (codes "info") pkg)
 

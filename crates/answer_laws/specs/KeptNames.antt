@@ -1,5 +1,5 @@
 -- Which packages are kept though they were to be removed, and which others need them. The rules are in
--- `docs/commands.md`, "`add` and `del`", what is reported. Serves the laws of `src/kept.rt`.
+-- `docs/commands.md`, "`add` and `del`", part "What is reported". Serves the laws of `src/kept.rt`.
 use Rattle.std.specs.Prelude.{◌≡◌, ◌⊎◌, ◌↔◌, ◌≤◌, ℕ, true, false, List, [], map, length}
 use Rattle.std.specs.List.{filter, find}
 use Rattle.std.specs.Option.{option_map_or}
@@ -16,33 +16,37 @@ use Rattle.report_core.specs.Reports.{report_lines, still_needed_text}
 
 -- ---- who needs a candidate
 
--- what a candidate provides, by an entry that is no conflict, meets a dependency
+-- the candidate `c` provides a name, by an entry that is no conflict, which meets the dependency `d`
 pub record IsProvidedBy (d : Dependency) (c : Candidate) : Type 0 where
-  -- an entry of the candidate's provides
+  -- an entry of the names that the candidate provides
   pub entry : Dependency
+  -- the candidate has this entry
   pub listed : IsIn entry c.provides
   -- the entry is no conflict
   pub positive : entry.conflict ≡ false
   -- the entry meets the dependency
   pub met : meets d entry.name entry.version ≡ true
 
--- a candidate has a dependency, which is no conflict, that another one meets by its own name and
--- version, or by what it provides
+-- the candidate `c` has a dependency, which is no conflict, that the candidate `other` meets by its own name and
+-- version, or by a name that it provides
 pub record NeedsOther (c other : Candidate) : Type 0 where
   -- a dependency of the candidate
   pub dependency : Dependency
+  -- the candidate has this dependency
   pub listed : IsIn dependency c.depends
   -- the dependency is no conflict
   pub positive : dependency.conflict ≡ false
-  -- the other candidate meets it, by its own name and version or by what it provides
+  -- the other candidate meets the dependency, by its own name and version or by a name that it provides
   pub met : (meets dependency other.name other.version ≡ true) ⊎ IsProvidedBy dependency other
 
--- a selected candidate of this name, which is not that of the needed one, needs it
+-- a selected candidate with this name needs the candidate `needed`, which has another name
 pub record IsNeededBySelectedName (selected : List Candidate) (needed : Candidate)
     (name : List ℕ) : Type 0 where
-  -- a selected candidate with this name
+  -- the candidate that needs the other
   pub user : Candidate
+  -- this candidate is selected
   pub listed : IsIn user selected
+  -- this candidate has this name
   pub named : name ≡ user.name
   -- the name is not that of the needed candidate
   pub another : name ≡ needed.name → ⊥
@@ -51,27 +55,27 @@ pub record IsNeededBySelectedName (selected : List Candidate) (needed : Candidat
 
 -- ---- the lines
 
--- of each name at most one candidate is selected
+-- no two selected candidates have the same name
 abbrev pub IsEachNameSelectedAtMostOnce : List Candidate → Type 0
 IsEachNameSelectedAtMostOnce selected =
     (name : List ℕ) → length (filter (is_candidate_named name) selected) ≤ 1
 
--- the text on the selected candidate of a name that was to be removed, with the names of those that
--- need it
+-- the line for a name that was to be removed and stays: the name, and the names of the selected candidates that need
+-- its candidate. The line is empty if no candidate of the name is selected
 abbrev pub still_needed_text_of_name : List Candidate → List ℕ → List ℕ
 still_needed_text_of_name selected name =
     option_map_or (λ (c : Candidate). still_needed_text name (names_needing_candidate selected c))
     (find (is_candidate_named name) selected) []
 
--- a text with one line for each name that was to be removed, was installed and is selected, and no
--- other, in byte order of the names
+-- the text has one line for each name that was to be removed, was installed before and is still selected, and no other
+-- line, in byte order of the names
 pub record HasStillNeededLines (before : List Plain) (selected : List Candidate) (to_remove : List (List ℕ))
     (text : List ℕ) : Type 0 where
   -- the names that were to be removed and are kept
   pub names : List (List ℕ)
-  -- they are in byte order, each once
+  -- these names are in byte order, each once
   pub order : AreSortedDistinctNames names
-  -- they are the names that were to be removed, were installed and are selected
+  -- a name is in the list exactly if it was to be removed, was installed and is selected
   pub each : (name : List ℕ) → IsIn name names
       ↔ (IsIn name to_remove × IsIn name (map package_name before)
       × IsIn name (map (λ (c : Candidate). c.name) selected))

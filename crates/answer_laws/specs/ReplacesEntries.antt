@@ -1,4 +1,4 @@
--- Which packages are named by the `replaces` of another. The rule is in `docs/commands.md`, "Files that
+-- When the field `replaces` of one package names another package. The rule is in `docs/commands.md`, "Files that
 -- several packages list". Serves the laws of `src/replaces.rt`.
 use Rattle.std.specs.Prelude.{◌≡◌, true, false, Some}
 use Rattle.change_outcome.specs.adb_fields.Repeated.{entries_at, package_name}
@@ -12,19 +12,23 @@ use Rattle.dep_core.specs.Meets.{constraint_accepts}
 use Rattle.installed_info.specs.file_owners.Replaces.{package_version_text}
 use Rattle.version_core.specs.Order.{is_version}
 
--- an entry of a package's `replaces`, which is no conflict, has the other's own name and accepts its
--- own version
+-- an entry of the field `replaces` of `pkg`, which is no conflict, has the own name of `other` and accepts the own
+-- version of `other`
 pub record HasReplacesEntryForOther (pkg other : Plain) : Type 0 where
   -- an entry of the package's `replaces`
   pub entry : Plain
+  -- the entry is in this field of the package
   pub listed : IsIn entry (entries_at INFO_REPLACES (entry_in pkg PACKAGE_INFO))
   -- the dependency that the entry is
   pub dependency : Dependency
+  -- the value of the entry is this dependency
   pub read : dependency_in entry ≡ Some dependency
-  -- it is no conflict, and has the name of the other package
+  -- the dependency is no conflict
   pub positive : dependency.conflict ≡ false
+  -- the dependency has the name of the other package
   pub name : dependency.name ≡ package_name other
-  -- the other package has a version, which the dependency accepts
+  -- the version text of the other package is a version
   pub version : is_version (package_version_text other) ≡ true
+  -- the dependency accepts this version
   pub wanted : constraint_accepts dependency.version dependency.bits (Some (package_version_text other))
       ≡ true

@@ -2,10 +2,11 @@
 -- from". Serves the law of `src/ids.rt`.
 use Rattle.std.specs.Prelude.{◌≡◌, ◌≢◌, ◌⊎◌, ℕ, List, [], ◌++◌}
 
--- both ids have bytes, and one of them is the other followed by some bytes, or by none
+-- the ids `a` and `b` are both not empty, and one of them is a prefix of the other; equal ids are included
 pub record OneBeginsTheOther (a b : List ℕ) : Type 0 where
-  -- both ids have bytes
+  -- the first id is not empty
   pub first_has_bytes : a ≢ []
+  -- the second id is not empty
   pub second_has_bytes : b ≢ []
   -- the bytes by which one id is longer than the other
   pub rest : List ℕ

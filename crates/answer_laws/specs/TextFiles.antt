@@ -5,7 +5,7 @@ use Rattle.change_outcome.specs.v2_core.Records.{ListedFile, ListedFolder, liste
 use Rattle.change_outcome.specs.v2_lines.Accesses.{Access}
 use Rattle.change_outcome.specs.v2_lines.Lines.{RecordLine, file_access_line, file_hash_line, file_line, folder_access_line, folder_line, info_line, other_line}
 
--- the lines up to the next that begins a folder
+-- the lines before the first line that begins a folder; all lines if none does
 abbrev pub lines_up_to_folder : List RecordLine → List RecordLine
 lines_up_to_folder [] = []
 lines_up_to_folder (info_line f values ∷ lines) = info_line f values ∷ lines_up_to_folder lines
@@ -16,7 +16,7 @@ lines_up_to_folder (file_access_line a ∷ lines) = file_access_line a ∷ lines
 lines_up_to_folder (file_hash_line hash ∷ lines) = file_hash_line hash ∷ lines_up_to_folder lines
 lines_up_to_folder (other_line ∷ lines) = other_line ∷ lines_up_to_folder lines
 
--- the lines up to the next that begins a file
+-- the lines before the first line that begins a file; all lines if none does
 abbrev pub lines_up_to_file : List RecordLine → List RecordLine
 lines_up_to_file [] = []
 lines_up_to_file (info_line f values ∷ lines) = info_line f values ∷ lines_up_to_file lines
@@ -27,7 +27,7 @@ lines_up_to_file (file_access_line a ∷ lines) = file_access_line a ∷ lines_u
 lines_up_to_file (file_hash_line hash ∷ lines) = file_hash_line hash ∷ lines_up_to_file lines
 lines_up_to_file (other_line ∷ lines) = other_line ∷ lines_up_to_file lines
 
--- the access of a folder that the first of these lines gives; none if no line does
+-- the access (mode, user, group) of a folder, from the first of these lines that gives one; None if no line does
 abbrev pub folder_access_in : List RecordLine → Option Access
 folder_access_in [] = None
 folder_access_in (info_line f values ∷ lines) = folder_access_in lines
@@ -38,7 +38,7 @@ folder_access_in (file_access_line a ∷ lines) = folder_access_in lines
 folder_access_in (file_hash_line hash ∷ lines) = folder_access_in lines
 folder_access_in (other_line ∷ lines) = folder_access_in lines
 
--- the access of a file that the first of these lines gives; none if no line does
+-- the access (mode, user, group) of a file, from the first of these lines that gives one; None if no line does
 abbrev pub file_access_in : List RecordLine → Option Access
 file_access_in [] = None
 file_access_in (info_line f values ∷ lines) = file_access_in lines
@@ -49,7 +49,7 @@ file_access_in (file_access_line a ∷ lines) = Some a
 file_access_in (file_hash_line hash ∷ lines) = file_access_in lines
 file_access_in (other_line ∷ lines) = file_access_in lines
 
--- the hash of a file that the first of these lines gives; none if no line does
+-- the hash of a file, from the first of these lines that gives one; None if no line does
 abbrev pub file_hash_in : List RecordLine → Option (List ℕ)
 file_hash_in [] = None
 file_hash_in (info_line f values ∷ lines) = file_hash_in lines
@@ -60,8 +60,8 @@ file_hash_in (file_access_line a ∷ lines) = file_hash_in lines
 file_hash_in (file_hash_line hash ∷ lines) = Some hash
 file_hash_in (other_line ∷ lines) = file_hash_in lines
 
--- the files that the lines of a folder list: one for each line that begins one, with the access and the
--- hash that the lines up to the next file give
+-- the files that the lines of a folder list: one file for each line that begins one (`file_line`), with the access and
+-- the hash that the lines before the next file give
 abbrev pub files_listed : List RecordLine → List ListedFile
 files_listed [] = []
 files_listed (info_line f values ∷ lines) = files_listed lines
@@ -75,8 +75,8 @@ files_listed (file_access_line a ∷ lines) = files_listed lines
 files_listed (file_hash_line hash ∷ lines) = files_listed lines
 files_listed (other_line ∷ lines) = files_listed lines
 
--- the folders that the lines of a record list: one for each line that begins one, with the access and
--- the files that the lines up to the next folder give
+-- the folders that the lines of a record list: one folder for each line that begins one (`folder_line`), with the
+-- access and the files that the lines before the next folder give
 abbrev pub folders_of_record_lines : List RecordLine → List ListedFolder
 folders_of_record_lines [] = []
 folders_of_record_lines (info_line f values ∷ lines) = folders_of_record_lines lines

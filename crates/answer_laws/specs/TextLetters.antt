@@ -1,6 +1,6 @@
--- What the lines of a text database give to a package, letter by letter. The table is in
--- `docs/formats.md`, "Text database of version 2"; the names of fields are those of "Schemas". Serves
--- the laws of `src/letters.rt`.
+-- Which field of a package each letter of a text database gives, and with which values. The table of letters is in
+-- `docs/formats.md`, "Text database of version 2"; the names of fields are those of "Schemas". Serves the laws of
+-- `src/letters.rt`.
 use Rattle.std.specs.Prelude.{◌≡◌, ◌⊎◌, ℕ, Bool, true, false, List, [], ◌∷◌, ◌++◌, length, codes, Option, Some, Ok}
 use Rattle.std.specs.Option.{option_and_then}
 use Rattle.base64.specs.Engines.{standard}
@@ -20,7 +20,7 @@ use Rattle.change_outcome.specs.v2_lines.declared.field.InfoField.TheVariants as
 
 -- ---- the table of letters
 
--- the letter with which the lines of a field begin
+-- the letter with which the lines of a package's field begin
 abbrev pub line_letter : InfoField → List ℕ
 line_letter Letters.Hashes = codes "C"
 line_letter Letters.Name = codes "P"
@@ -41,11 +41,11 @@ line_letter Letters.Provides = codes "p"
 line_letter Letters.Replaces = codes "r"
 line_letter Letters.InstallIf = codes "i"
 
--- the letters that are listed: those of the package's fields, and those of folders and files
+-- the letters in the table of `docs/formats.md`: those of a package's fields, and last those of folders and files
 abbrev pub known_line_letters : List ℕ
 known_line_letters = codes "CPVATULomItkqcDpriFMRaZ"
 
--- the name of the field that the lines of a letter give
+-- the name, in the schema of a package, of the field that the lines of a letter give
 abbrev pub letter_field_name : InfoField → List ℕ
 letter_field_name Letters.Hashes = codes "hashes"
 letter_field_name Letters.Name = codes "name"
@@ -66,7 +66,8 @@ letter_field_name Letters.Provides = codes "provides"
 letter_field_name Letters.Replaces = codes "replaces"
 letter_field_name Letters.InstallIf = codes "install-if"
 
--- whether each line of a letter adds to a list; of another letter a record has one line at most
+-- whether each line with the field's letter adds its values to a list. Of any other letter, a record (the lines of
+-- one package) has at most one line
 abbrev pub is_list_letter : InfoField → Bool
 is_list_letter Letters.Depends = true
 is_list_letter Letters.Provides = true
@@ -74,31 +75,31 @@ is_list_letter Letters.Replaces = true
 is_list_letter Letters.InstallIf = true
 is_list_letter f = false
 
--- the value of a letter's field in a package: in its information, except the priority in replacing,
--- which is a field of the package
+-- the value, in a package, of the field that a letter gives. The field is in the package's information, except
+-- `replaces-priority`, which is a field of the package itself
 abbrev pub letter_value_in_package : InfoField → Plain → Plain
 letter_value_in_package Letters.ReplacesPriority pkg =
     field_named Package (letter_field_name Letters.ReplacesPriority) pkg
 letter_value_in_package f pkg =
     field_named PkgInfo (letter_field_name f) (field_named Package (codes "info") pkg)
 
--- ---- what a value says
+-- ---- which values the text after the colon of a line gives to a field
 
--- a value gives these 20 bytes as a hash: the value is `Q1` and the base64 of the bytes
+-- the text `value` gives one value, a hash of 20 bytes (`said`): the text is `Q1`, followed by the base64 of the hash
 abbrev pub SaysHash : List ℕ → List FieldValue → Type 0
 SaysHash value said =
     (encoded : List ℕ) × (bytes : List ℕ) × (value ≡ codes "Q1" ++ encoded)
     × (base64_bytes standard encoded ≡ Ok bytes) × (length bytes ≡ 20) × (said ≡ text bytes ∷ [])
 
--- a value gives what it would give as the field `repo-commit` of `mkpkg`; a value that may not be given
--- there is dropped
+-- the text `value` gives the values `said`: those of the option `-I repo-commit:VALUE` of `mkpkg`. A text that this
+-- option does not allow gives no value
 abbrev pub SaysCommit : List ℕ → List FieldValue → Type 0
 SaysCommit value said =
     FieldTextGivesValues Options.RepoCommit value said
     ⊎ (((given : List FieldValue) → FieldTextGivesValues Options.RepoCommit value given → ⊥) × (said ≡ []))
 
--- the value of a line of a letter is allowed, and says this: what it would say as an option `-I` of
--- `mkpkg` for the field, if there is such an option
+-- `value`, which follows the letter of this field and a colon in a line, is allowed there and gives the values `said`:
+-- those of an option `-I` of `mkpkg` with this text; `Hashes`, `InstalledSize` and `RepoCommit` have their own rules
 abbrev pub LetterValueGivesValues : InfoField → List ℕ → List FieldValue → Type 0
 LetterValueGivesValues Letters.Hashes value said = SaysHash value said
 LetterValueGivesValues Letters.Name value said = FieldTextGivesValues Options.Name value said
@@ -127,39 +128,42 @@ LetterValueGivesValues Letters.InstallIf value said = FieldTextGivesValues Optio
 abbrev pub letter_line : List ℕ → List ℕ → List ℕ
 letter_line letter value = letter ++ codes ":" ++ value
 
--- a line gives these values to a field; a line of another letter gives none
+-- a line gives the values `said` to a field; a line with another letter than the field's gives none
 abbrev pub LineGivesFieldValues : InfoField → List ℕ → List FieldValue → Type 0
 LineGivesFieldValues f line said =
     ((value : List ℕ) × (line ≡ letter_line (line_letter f) value) × LetterValueGivesValues f value said)
     ⊎ (((value : List ℕ) → line ≡ letter_line (line_letter f) value → ⊥) × (said ≡ []))
 
--- lines give these values to a field, one line after another
+-- lines together give the values `said` to a field: those of the first line, then those of the next, and so on
 abbrev pub LinesGiveFieldValues : InfoField → List (List ℕ) → List FieldValue → Type 0
 LinesGiveFieldValues f [] said = said ≡ []
 LinesGiveFieldValues f (line ∷ lines) said =
     (here : List FieldValue) × (further : List FieldValue)
     × LineGivesFieldValues f line here × LinesGiveFieldValues f lines further × (said ≡ here ++ further)
 
--- a record with some lines more, one after another, if all are allowed
+-- the record `r` with the contents of these further lines, in their order; None if one of the lines is not allowed
 abbrev pub record_with_lines : Record → List (List ℕ) → Option Record
 record_with_lines r [] = Some r
 record_with_lines r (line ∷ lines) =
     option_and_then (λ next. record_with_lines next lines) (record_with_text_line r line)
 
--- the field of a package has what the lines of its letter give: all values for a list, otherwise the
--- first
+-- the field `f` of the package has the values that the lines with its letter give: all of them if the field is a list,
+-- otherwise the first
 pub record HasFieldValuesOfLines (f : InfoField) (lines : List (List ℕ)) (pkg : Plain) : Type 0 where
   -- the values that the lines of the field's letter give
   pub said : List FieldValue
+  -- the lines give exactly these values, in this order
   pub say : LinesGiveFieldValues f lines said
   -- the field has all of them if it is a list, otherwise the first
   pub tells : HasValuesAsList (is_list_letter f) said (letter_value_in_package f pkg)
 
--- a line has a letter that is not listed, before a colon
+-- a line begins with one byte and a colon, and the byte is no letter of the table in `docs/formats.md`
 pub record BeginsWithUnknownFieldLetter (line : List ℕ) : Type 0 where
-  -- the first byte of the line, then a colon and the value
+  -- the first byte of the line
   pub letter : ℕ
+  -- the bytes after the colon
   pub value : List ℕ
+  -- the line is this byte, a colon and these bytes
   pub line_is : line ≡ letter ∷ codes ":" ++ value
-  -- the letter is none of those that are listed
+  -- the byte is none of the letters of the table
   pub unlisted : IsIn letter known_line_letters → ⊥

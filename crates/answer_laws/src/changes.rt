@@ -1,6 +1,6 @@
-//! Which change a package has, and which changes a report has.
-//! The rules are in `docs/commands.md`, "`add` and `del`" and "`upgrade` and `fix`", what is
-//! reported.
+//! Laws: which change (install, upgrade, purge and so on) a package has, and which changes a report
+//! has. The rules are in `docs/commands.md`, "`add` and `del`", part "What is reported", and in
+//! "`upgrade` and `fix`".
 
 ghost use Rattle.std.specs.Prelude.{◌≡◌, ◌↔◌, ℕ, List, Some, None, map};
 ghost use Rattle.std.specs.List.{find};
@@ -18,8 +18,8 @@ ghost use Rattle.version_core.specs.Order.{version_cmp};
 
 /// A package is upgraded exactly if the new version is greater, and downgraded exactly if it is
 /// less. It is replaced exactly if the versions are equal in order and the candidate is another
-/// package, by the text of its version or by its id. The very package that is installed is
-/// installed again exactly if its name is asked for again; otherwise it is kept.
+/// package, by the text of its version or by its id. A candidate that is the installed package is
+/// reinstalled exactly if its name is in `r.again`; otherwise the package is kept.
 pub fn the_order_of_versions_decides_the_change()
     // An upgrade: the new version is greater.
     ensures upgrade { (r : Replacement) (name : List ℕ) (pkg : Plain) (c : Candidate)
@@ -33,33 +33,34 @@ pub fn the_order_of_versions_decides_the_change()
         → (change_of_name r name
         ≡ Some (Downgrade name (package_version_text pkg) (candidate_version_text c)))
         ↔ (version_cmp (package_version_text pkg) (candidate_version_text c) ≡ Greater) }
+    // A replacement: the versions are equal in order, but the version's text or the id differs.
     ensures replace { (r : Replacement) (name : List ℕ) (pkg : Plain) (c : Candidate)
         → HasBothVersions r name pkg c
         → (change_of_name r name
         ≡ Some (Replace name (package_version_text pkg) (candidate_version_text c)))
         ↔ ((version_cmp (package_version_text pkg) (candidate_version_text c) ≡ Equal)
         × (IsSameVersionAndId pkg c → ⊥)) }
-    // The same version and id, and the name is to be installed again.
+    // A reinstallation: the same version and id, and the name is in `r.again`.
     ensures reinstall { (r : Replacement) (name : List ℕ) (pkg : Plain) (c : Candidate)
         → HasBothVersions r name pkg c
         → (change_of_name r name ≡ Some (Reinstall name (candidate_version_text c)))
         ↔ (IsSameVersionAndId pkg c × IsIn name r.again) }
-    // No change: the same version and id, and the name is not to be installed again.
+    // No change: the same version and id, and the name is not in `r.again`.
     ensures kept { (r : Replacement) (name : List ℕ) (pkg : Plain) (c : Candidate)
         → HasBothVersions r name pkg c
         → (change_of_name r name ≡ None)
         ↔ (IsSameVersionAndId pkg c × (IsIn name r.again → ⊥)) }
 {}
 
-/// A package that no index has is selected as it is installed: it is installed again exactly if its
-/// name is asked for again, and otherwise kept.
+/// If the selected candidate of a name is the installed package itself, which is from no index, the
+/// package is reinstalled exactly if its name is in `r.again`. Otherwise it is kept.
 pub fn a_package_of_no_index_is_kept()
-    // It is installed again exactly if its name is to be installed again.
+    // The package is reinstalled exactly if its name is in `r.again`.
     ensures reinstall { (r : Replacement) (name : List ℕ) (c : Candidate)
         → IsInstalledPackageSelected r name c
         → (change_of_name r name ≡ Some (Reinstall name (candidate_version_text c)))
         ↔ IsIn name r.again }
-    // Otherwise it does not change.
+    // The package has no change exactly if its name is not in `r.again`.
     ensures kept { (r : Replacement) (name : List ℕ) (c : Candidate)
         → IsInstalledPackageSelected r name c
         → (change_of_name r name ≡ None) ↔ (IsIn name r.again → ⊥) }
@@ -68,37 +69,42 @@ pub fn a_package_of_no_index_is_kept()
 /// The changes of a report are exactly those of the names, one for each name whose package
 /// changes, in byte order of the names.
 pub fn each_changed_name_has_one_change_in_order()
+    // A change is in the list exactly if it is the change of the name that it has.
     ensures each { (r : Replacement) (change : Change)
         → IsIn change (changes_of r)
         ↔ (change_of_name r (changed_name change) ≡ Some change) }
+    // The names of the changes are in byte order, each once.
     ensures order { (r : Replacement)
         → AreSortedDistinctNames (map changed_name (changes_of r)) }
 {}
 
-/// A package is removed exactly if it was installed and no candidate of its name is selected, and
-/// installed exactly if one is selected and it was not; the version is that of the package, or of
-/// the candidate. A name on neither side has no change.
+/// A package is removed exactly if it was installed and no candidate of its name is selected. It is
+/// installed exactly if a candidate of its name is selected and no package of this name was
+/// installed. A name that is neither installed nor selected has no change.
 pub fn a_package_on_one_side_is_installed_or_removed()
+    // Removed: the name was installed and is not selected.
     ensures purge { (r : Replacement) (name : List ℕ)
         → HasPurgeChange r name ↔ (WasInstalled r name × (IsSelected r name → ⊥)) }
+    // Installed: the name is selected and was not installed.
     ensures install { (r : Replacement) (name : List ℕ)
         → HasInstallChange r name ↔ (IsSelected r name × (WasInstalled r name → ⊥)) }
-    // A package whose name is not selected is removed.
+    // The change `Purge` has the version of the removed package.
     ensures purged_version { (r : Replacement) (name : List ℕ) (pkg : Plain)
         → find (is_package_named name) r.before ≡ Some pkg
         → find (is_candidate_named name) r.selected ≡ None
         → change_of_name r name ≡ Some (Purge name (package_version_text pkg)) }
-    // A candidate whose name was not installed is installed.
+    // The change `Install` has the version of the candidate.
     ensures installed_version { (r : Replacement) (name : List ℕ) (c : Candidate)
         → find (is_package_named name) r.before ≡ None
         → find (is_candidate_named name) r.selected ≡ Some c
         → change_of_name r name ≡ Some (Install name (candidate_version_text c)) }
+    // A name that was not installed and is not selected has no change.
     ensures absent { (r : Replacement) (name : List ℕ)
         → (WasInstalled r name → ⊥) → (IsSelected r name → ⊥) → change_of_name r name ≡ None }
 {}
 
-/// A report has one line for each change, in the order of the changes, with its number, from 1, and
-/// with their count.
+/// A report has one line for each change, in the order of the changes. The line begins with the
+/// number of the change, counted from 1, and the number of all changes, as in `(1/3)`.
 pub fn each_change_has_one_numbered_line()
     ensures { (changes : List Change) → HasNumberedChangeLines changes (change_lines changes) }
 {}

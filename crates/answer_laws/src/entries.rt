@@ -1,5 +1,5 @@
-//! What the entry of a file says of the bytes of the file, and which files are protected.
-//! The rules are in `docs/commands.md`, "What a change does with files", on configuration files.
+//! Laws: when the bytes of a file agree with the file's entry, and which files are protected. The
+//! rules are in `docs/commands.md`, "What a change does with files", part "Configuration files".
 
 ghost use Rattle.std.specs.Prelude.{◌≡◌, ◌≢◌, ◌↔◌, ℕ, List, [], ◌++◌, codes, Option, Some, true, false};
 ghost use Rattle.adb_view.specs.Plain.{Plain};
@@ -14,8 +14,8 @@ pub fn two_entries_agree_exactly_if_size_digest_and_target_are_equal()
 {}
 
 /// The bytes of a file are as its entry lists them exactly if one of three cases holds. The entry
-/// gives a target, and the bytes represent the link. It gives only a digest, and the bytes have it.
-/// It gives neither, its size is 0, and there are no bytes.
+/// gives a link target, and the bytes represent this link. The entry gives no target but a digest,
+/// and the bytes have this digest. The entry gives neither, its size is 0, and there are no bytes.
 pub fn a_file_is_as_listed_exactly_if_it_has_the_link_or_the_digest_of_its_entry()
     // The entry has a link target.
     ensures link { (entry : Plain) (bytes : List ℕ) → target_field_of_entry entry ≢ []

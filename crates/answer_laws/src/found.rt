@@ -1,5 +1,5 @@
-//! Where packages and databases are found.
-//! The rules are in `docs/commands.md`, "`add` and `del`", what is read.
+//! Laws: where the files of packages are, and which file is the database. The rules are in
+//! `docs/commands.md`, "`add` and `del`", part "What is read".
 
 ghost use Rattle.std.specs.Prelude.{◌≡◌, ◌++◌, ℕ, List, Option, Bool, Some, None, Ok, Err, [], true, false, codes};
 ghost use Rattle.answer_laws.specs.FoundFiles.{HasNoSlash, IsCandidateOfIndexAtPath, candidate_file_name};
@@ -10,7 +10,8 @@ ghost use Rattle.change_outcome.specs.PackageFiles.{package_file_path_of_candida
 ghost use Rattle.dep_core.specs.Repositories.{Repository};
 ghost use Rattle.report_core.specs.declared.refusal.Refusal.TheVariants.{NoDatabase};
 
-/// A package's file is in the folder of its index, at whatever depth that is.
+/// The file of a candidate's package is in the folder of its index, at any depth. `index` is the
+/// last part of the index's path.
 pub fn a_package_is_found_in_the_folder_of_its_index()
     // The index is in a folder.
     ensures below { (repositories : List Repository) (c : Candidate) (folder index : List ℕ)
@@ -25,23 +26,27 @@ pub fn a_package_is_found_in_the_folder_of_its_index()
         → package_file_path_of_candidate repositories c ≡ Some (candidate_file_name c) }
 {}
 
-/// A container decides what is installed, whatever the text database has; without a container the
-/// text does, also if a database may be begun. A database is begun only if there is neither.
+/// `root_database` has three arguments: whether a new database may be created (`--initdb`), the
+/// bytes of the container, and those of the text database. If there is a container, it is the
+/// database. Otherwise the text database is. A new database is created only if there is neither.
 pub fn the_container_decides_before_the_text()
-    // If there is a container, the text database does not matter.
+    // If there is a container, neither the text database nor `--initdb` matters.
     ensures container { (begins other : Bool) (file : List ℕ) (text another : Option (List ℕ))
         → root_database begins (Some file) text ≡ root_database other (Some file) another }
     // A database that is read from a container has the bytes of its file.
     ensures by_container { (begins : Bool) (file : List ℕ) (text : Option (List ℕ)) (d : Database)
         → root_database begins (Some file) text ≡ Ok d
         → (d.from_text ≡ false) × (d.file ≡ Some file) }
+    // If there is only a text database, it does not matter whether a database may be created.
     ensures text { (begins other : Bool) (text : List ℕ)
         → root_database begins None (Some text) ≡ root_database other None (Some text) }
     // A database that is read from a text has no container file.
     ensures by_text { (begins : Bool) (text : List ℕ) (d : Database)
         → root_database begins None (Some text) ≡ Ok d
         → (d.from_text ≡ true) × (d.file ≡ None) }
+    // Without both files, and without `--initdb`, the change is refused.
     ensures refused { root_database false None None ≡ Err NoDatabase }
+    // Without both files, but with `--initdb`, the database has no packages and no file.
     ensures begun { (d : Database) → root_database true None None ≡ Ok d
         → (d.packages ≡ []) × (d.from_text ≡ false) × (d.file ≡ None) }
 {}

@@ -1,5 +1,5 @@
-//! What `info` answers.
-//! The rules are in `docs/commands.md`, "`info`".
+//! Laws: what `info` prints, and which operand it refuses. The rules are in `docs/commands.md`,
+//! "`info`".
 
 ghost use Rattle.std.specs.Prelude.{◌≡◌, ◌↔◌, ◌∷◌, ◌++◌, [], codes, ℕ, List, Some, None, true, false, is_some, map};
 ghost use Rattle.std.specs.List.{filter};
@@ -26,7 +26,8 @@ pub fn info_prints_the_names_in_byte_order()
         → HasSortedPackageNameLines packages (sorted_package_name_lines packages) }
 {}
 
-/// The operand that `info` refuses is the first without a package.
+/// `info` refuses the first operand for which no package is found, and reports its place in the
+/// command line.
 pub fn info_refuses_the_first_absent_operand()
     ensures { (flags : Flags) (packages : List Plain) (operands : List Operand) (place : ℕ)
         → (info_refusal (info_form_of_flags flags) packages operands ≡ Some (NotInstalled place))
@@ -53,6 +54,7 @@ pub fn each_question_of_info_has_its_answer()
         → package_info (info_form_of_flags flags) name pkg
         ≡ section_text_with_heading (info_heading pkg (codes " contains:"))
         (file_paths_in_listed_order pkg) }
+    // The paths in this section are exactly those that the package lists.
     ensures listed { (pkg : Plain) (path : List ℕ)
         → IsIn path (file_paths_in_listed_order pkg) ↔ (lists_path path pkg ≡ true) }
     // With `--depends`: the dependencies of the package.
@@ -69,7 +71,8 @@ pub fn each_question_of_info_has_its_answer()
         → package_info (info_form_of_flags flags) name pkg
         ≡ section_text_with_heading (info_heading pkg (codes " description:"))
         (text_in (info_field (codes "description") pkg) ∷ []) }
-    // With `--who-owns`: the package that has the path.
+    // With `--who-owns`: a line with the path, without a leading slash, and the owner's name and
+    // version.
     ensures owner { (flags : Flags) (path : List ℕ) (pkg : Plain) → flags.who_owns ≡ true
         → package_info (info_form_of_flags flags) path pkg
         ≡ report_line (owner_text (without_slash path) (package_name pkg)
@@ -79,6 +82,7 @@ pub fn each_question_of_info_has_its_answer()
 /// The report of `info` on several operands is that on each of them, one after the other, in the
 /// order given, also if an operand is given twice. An operand without a package adds nothing.
 pub fn info_answers_each_operand_in_the_order_given()
+    // Without operands the report is empty.
     ensures none { (flags : Flags) (packages : List Plain)
         → operands_info (info_form_of_flags flags) packages [] ≡ [] }
     // An operand with a package has its lines at its place in the report.

@@ -1,5 +1,5 @@
-//! What a text database of version 2 gives to the packages of the database that it becomes.
-//! The rules are in `docs/formats.md`, "Text database of version 2".
+//! Laws: which fields the packages of a text database get when it is taken over. The rules are in
+//! `docs/formats.md`, "Text database of version 2".
 
 ghost use Rattle.std.specs.Prelude.{◌≡◌, ◌↔◌, ℕ, List, Some, codes, map};
 ghost use Rattle.adb_view.specs.Plain.{null};
@@ -13,8 +13,8 @@ ghost use Rattle.change_outcome.specs.v2_lines.declared.field.InfoField.{InfoFie
 
 use dep_core::{read_texts_are_spelled, spelled_texts_are_read};
 
-/// Each field of a package has what the lines of its letter give, for every letter: a list has all
-/// values, in their order, another field the one value, if there is a line.
+/// Each field of a package has the values that the lines with the field's letter give. A list has
+/// all values, in their order. Any other field has the value of its one line, if there is one.
 pub fn each_letter_gives_its_field()
     ensures { (lines : List (List ℕ)) (r : Record) (f : InfoField)
         → record_with_lines empty_record lines ≡ Some r
@@ -25,24 +25,27 @@ pub fn each_letter_gives_its_field()
     spelled_texts_are_read();
 }
 
-/// A line is dropped exactly if its letter is not listed.
+/// A line is skipped (`other_line`) exactly if it begins with one byte and a colon, and this byte
+/// is no letter of the table in `docs/formats.md`.
 pub fn a_line_is_dropped_if_its_letter_is_not_listed()
     ensures { (line : List ℕ) → (record_line_of line ≡ Some other_line)
         ↔ BeginsWithUnknownFieldLetter line }
 {}
 
-/// A package of a text has no field that no letter gives, and a file neither size nor time nor
-/// target.
+/// Fields for which a text database has no letter are null in its packages.
 pub fn what_no_letter_gives_is_null()
+    // A package has neither scripts nor triggers.
     ensures scripts { (r : Record)
         → (field_named Package (codes "scripts") (record_value r) ≡ null)
         × (field_named Package (codes "triggers") (record_value r) ≡ null) }
+    // The information of a package has none of these four fields.
     ensures info { (r : Record)
         → (let info = field_named Package (codes "info") (record_value r) in
         (field_named PkgInfo (codes "file-size") info ≡ null)
         × (field_named PkgInfo (codes "recommends") info ≡ null)
         × (field_named PkgInfo (codes "layer") info ≡ null)
         × (field_named PkgInfo (codes "tags") info ≡ null)) }
+    // The entry of a file has neither size, nor time, nor link target.
     ensures file { (f : ListedFile)
         → (let file = listed_file_value f in
         (field_named File (codes "size") file ≡ null)

@@ -1,6 +1,6 @@
-//! Laws above the definitions of what a user is answered.
+//! Laws about the definitions of reports and refusals: they say in other words what a user reads.
 //!
-//! Each is a function that does nothing; its contract is what it says. The rules are in
+//! Each law is a function that does nothing; its contract is the theorem. The rules are in
 //! `docs/commands.md`, "`add` and `del`", "`upgrade` and `fix`", "Files that several packages
 //! list", "What a change does with files", "`info`", "Queries" and "`manifest`", in
 //! `docs/formats.md`, "Text database of version 2", and in `docs/selection.md`, "What there is to

@@ -1,5 +1,5 @@
-//! What `manifest` prints.
-//! The rules are in `docs/commands.md`, "`manifest`".
+//! A law: what `manifest` prints, and when it is not refused. The rules are in `docs/commands.md`,
+//! "`manifest`".
 
 ghost use Rattle.std.specs.Prelude.{ℕ, ◌≡◌, ◌↔◌, List, Ok};
 ghost use Rattle.adb_view.specs.Plain.{Plain};

@@ -1,5 +1,5 @@
-//! What `list`, `search` and `policy` print.
-//! The rules are in `docs/commands.md`, "Queries", "`list`", "`search`" and "`policy`".
+//! Laws: what `list`, `search` and `policy` print. The rules are in `docs/commands.md`, "Queries",
+//! "`list`", "`search`" and "`policy`".
 
 ghost use Rattle.std.specs.Prelude.{ℕ, ◌≡◌, ◌++◌, Bool, List, Option};
 ghost use Rattle.std.specs.List.{flat_map};
@@ -18,8 +18,8 @@ use query_core::{
     search_prints_what_is_asked_for,
 };
 
-/// `list` prints a line for each candidate that is asked for, and no other line, in the order of
-/// queries.
+/// `list` prints a line for each candidate that the patterns and `installed_only` ask for, and no
+/// other line, in the order in which queries print candidates.
 pub fn list_prints_a_line_for_each_candidate_that_is_asked_for()
     ensures { (candidates : List Candidate) (patterns : List Operand) (installed_only : Bool)
         → HasLineOfEachAskedCandidate
@@ -31,8 +31,8 @@ pub fn list_prints_a_line_for_each_candidate_that_is_asked_for()
     list_prints_what_is_asked_for();
 }
 
-/// `search` prints name and version of each candidate that is asked for, and of no other, in the
-/// order of queries.
+/// `search` prints name and version of each candidate that the patterns ask for, and of no other,
+/// in the order in which queries print candidates.
 pub fn search_prints_a_line_for_each_candidate_that_is_asked_for()
     ensures { (candidates : List Candidate) (patterns : List Operand)
         → HasLineOfEachAskedCandidate (IsInSearchReport patterns)
@@ -48,11 +48,13 @@ pub fn search_prints_a_line_for_each_candidate_that_is_asked_for()
 /// name. Below a version it prints the line of the database if the version is installed. Then it
 /// prints a line for each repository that has the version, in the order of the repositories.
 pub fn policy_prints_where_each_version_is()
+    // For each name: its heading, and then the lines of each of its versions.
     ensures names { (candidates : List Candidate) (repositories : List Repository)
         (names : List Operand) → policy_report candidates repositories names
         ≡ flat_map (λ (o : Operand). policy_heading o.text
         ++ flat_map (version_policy candidates repositories o.text)
         (versions_of_name candidates o.text)) names }
+    // The lines of one version: its heading, the database, and the repositories that have it.
     ensures places { (candidates : List Candidate) (repositories : List Repository)
         (name : List ℕ) (version : Option (List ℕ))
         → HasPolicyLinesOfVersion candidates repositories name version

@@ -1,5 +1,5 @@
-//! Which triggers are due.
-//! The rules are in `docs/commands.md`, "`add` and `del`", which triggers are due.
+//! Laws: which triggers are due, and what is reported of them. The rules are in `docs/commands.md`,
+//! "`add` and `del`", part "Which triggers are due".
 
 ghost use Rattle.std.specs.Prelude.{◌≡◌, ◌⊎◌, ◌↔◌, ℕ, List, [], true, false, Ok, Err, codes};
 ghost use Rattle.adb_view.specs.Plain.{Plain};
@@ -22,9 +22,11 @@ use change_outcome::{
 /// the stars of each part of the pattern so that it reads as the folder's part. The root is matched
 /// by `/` alone.
 pub fn a_pattern_matches_a_folder_part_by_part()
+    // A folder below the root is matched part by part.
     ensures below { (folder pattern : List ℕ) → (folder ≡ [] → ⊥)
         → (is_folder_matched_by_pattern folder pattern ≡ true)
         ↔ MatchesFolderByParts pattern folder }
+    // The root, the empty path, is matched by the pattern `/` alone.
     ensures root { (pattern : List ℕ)
         → (is_folder_matched_by_pattern [] pattern ≡ true) ↔ (pattern ≡ codes "/") }
 {
@@ -33,13 +35,16 @@ pub fn a_pattern_matches_a_folder_part_by_part()
 }
 
 /// A trigger is due for a folder exactly if the package has a trigger script and one of its
-/// patterns matches the folder. The folders are exactly those that have a changed file right in
-/// them, each once, in byte order.
+/// patterns matches the folder. The folders that are tested are exactly those that directly contain
+/// a changed file, each once, in byte order.
 pub fn a_trigger_is_due_for_a_changed_folder()
+    // The trigger of a package is due for a folder exactly if it watches this folder.
     ensures due { (pkg : Plain) (folder : List ℕ)
         → (is_trigger_due pkg folder ≡ true) ↔ HasTriggerWatchingFolder pkg folder }
+    // The folders of changed files (`paths`) are those that directly contain one of them.
     ensures folders { (paths : List (List ℕ)) (folder : List ℕ)
         → IsIn folder (folders_of_paths paths) ↔ HasFileRightInFolder paths folder }
+    // These folders are in byte order, each once.
     ensures order { (paths : List (List ℕ)) → AreSortedDistinctNames (folders_of_paths paths) }
 {}
 
@@ -50,10 +55,10 @@ pub fn each_due_trigger_has_a_line()
         → HasTriggerLines paths members (trigger_lines paths members) }
 {}
 
-/// If scripts may not be left out, a change is accepted exactly if no trigger is due; a refusal
-/// names the first package whose trigger is due.
+/// Without `--no-scripts` (the argument `false`), a change is not refused for triggers exactly if
+/// no trigger is due. The refusal names the first package whose trigger is due.
 pub fn a_due_trigger_refuses_the_change()
-    // The change is accepted exactly if no trigger is due.
+    // The change is not refused exactly if no trigger is due.
     ensures accepted { (paths : List (List ℕ)) (members : List Member)
         → (unless_trigger_due false paths members ≡ Ok true)
         ↔ ((m : Member) → IsIn m members → (folder : List ℕ) → IsTriggerDueFor paths m folder → ⊥) }
@@ -63,8 +68,8 @@ pub fn a_due_trigger_refuses_the_change()
         → IsFirstPackageWithDueTrigger paths members name }
 {}
 
-/// The files whose folders count for triggers are exactly those of packages that a change writes or
-/// removes.
+/// The paths whose folders are tested for triggers are exactly those at which the change writes or
+/// removes a package's file.
 pub fn the_changed_files_are_those_written_or_removed()
     ensures { (change : FileChange) (files : Files) (path : List ℕ)
         → IsIn path (touched_paths change files)

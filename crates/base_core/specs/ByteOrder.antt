@@ -14,7 +14,7 @@ bytes_cmp = slice_cmp nat_cmp
 abbrev pub precedes : List ℕ → List ℕ → Bool
 precedes a b = is_lt (bytes_cmp a b)
 
--- the smaller of two texts by byte order; the first if there is no other
+-- the smaller of two texts by byte order; the first text if the second is None
 abbrev pub smaller_text : List ℕ → Option (List ℕ) → Option (List ℕ)
 smaller_text a None = Some a
 smaller_text a (Some b) = if precedes b a then Some b else Some a

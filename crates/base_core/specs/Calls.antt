@@ -4,8 +4,8 @@ use Rattle.std.specs.Prelude.{◌≡◌, ◌⊎◌, List, [], ◌∷◌, Result,
 use Rattle.base_core.specs.Tree.{TreeState}
 use Rattle.base_core.specs.Faults.{Counts, CountsOnlyRise, IsFaultCountedWithCause, CountsNoNewFault, saturating_increment}
 
--- A tree's history is the list of its states so far, the newest first. It is observable if it is not
--- empty. A tree whose states nobody can know, such as one over the host's files, has an empty one.
+-- The history of a tree is the list of its states so far, the newest first. It is observable if it is not empty. A tree
+-- whose states contracts cannot know, such as the host's tree, has an empty history.
 
 -- P holds of the newest state, if the history is observable
 abbrev pub IfObservable : List TreeState → (TreeState → Type 0) → Type 0
@@ -17,30 +17,32 @@ abbrev pub HoldsNow : List TreeState → (TreeState → Type 0) → Type 0
 HoldsNow [] P = ⊥
 HoldsNow (v ∷ earlier) P = P v
 
--- how a call that writes changes the history: a success adds the state `done`; a failure adds the state
--- `failed` or none, and none if the call was a misuse. `can` says at which states it is no misuse
+-- how a call that writes changes the history from `old` to `new`: a success adds the state that `done` makes of the
+-- newest state; a failure adds the state that `failed` makes of it, or none, and none if the call was a misuse. `can`
+-- says at which states the call is no misuse
 pub record ChangesHistory {T E : Type 0} (can : TreeState → Type 0) (done failed : TreeState
     → TreeState)
     (old new : List TreeState) (result : Result T E) : Type 0 where
-  -- an unobservable history stays unobservable
+  -- a history that is not observable (empty) stays so
   pub unobservable : old ≡ [] → new ≡ []
-  -- success adds exactly the state `done`
+  -- success adds exactly the state that `done` makes of the newest state
   pub ok : OnOk result (IfObservable old (λ v. new ≡ done v ∷ old))
-  -- a failure adds nothing, or the state `failed` if the call was no misuse
+  -- failure adds no state, or, if the call was no misuse, the state that `failed` makes of the newest state
   pub err : OnErr result (IfObservable old (λ v. (new ≡ old) ⊎ (can v × (new ≡ failed v ∷ old))))
 
--- how a call of a tree changes the counts; `can` says at which states the call is no misuse
+-- how a call of a tree changes the counts, from `before` to `now`, given its result. `can` says at which states the
+-- call is no misuse, and `history` is the history before the call
 pub record IsCounted {T E : Type 0} (can : TreeState → Type 0) (history : List TreeState)
     (before now : Counts) (result : Result T E) : Type 0 where
   -- no count falls
   pub goes_on : CountsOnlyRise before now
-  -- an error is a counted fault, and has its reason
+  -- an error is counted as a fault, and a reason for it is counted or allowed
   pub cause : OnErr result (IsFaultCountedWithCause before now)
-  -- a call that succeeds counts neither a fault nor a lack of memory, and was no misuse
+  -- a call that succeeds counts neither a fault nor a lack of memory
   pub kept : OnOk result (CountsNoNewFault before now)
   -- a call that succeeds was allowed at the newest state
   pub allowed : OnOk result (IfObservable history can)
-  -- exactly the misuses are counted as such
+  -- if the state allows the call, no misuse is counted
   pub proper : IfObservable history (λ v. can v → now.misuses ≡ before.misuses)
   -- if the state does not allow the call, one more misuse is counted
   pub misuse : IfObservable history (λ v. (can v → ⊥) → now.misuses ≡ saturating_increment before.misuses)

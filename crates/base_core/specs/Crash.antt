@@ -4,26 +4,26 @@ use Rattle.std.specs.Prelude.{◌≡◌, ℕ, true, List, ◌++◌, Option, Some
 use Rattle.base_core.specs.Files.{Files, NameMap}
 use Rattle.base_core.specs.Tree.{TreeState, File, IsCurrentOrOlderMap, files_under_map}
 
--- what a crash may leave of the file with this number: its bytes if it is synced, and any bytes if
--- it is not. Without a number (None) there is no file
+-- what a crash may leave of the file with this number: its bytes if the file is synced, and any bytes if it is not.
+-- Without a number (None) there is no file
 abbrev pub CrashMayLeave : (ℕ → File) → Option ℕ → Option (List ℕ) → Type 0
 CrashMayLeave files None bytes = bytes ≡ None
 CrashMayLeave files (Some n) None = ⊥
 CrashMayLeave files (Some n) (Some bytes) = (files n).synced ≡ true → bytes ≡ (files n).bytes
 
--- files that a crash may leave if it leaves this map of names
+-- `image` are files that a crash may leave of the state `v` if it leaves this map of names
 abbrev pub IsCrashImageUnderMap : TreeState → NameMap → Files → Type 0
 IsCrashImageUnderMap v map image = (q : List ℕ) → CrashMayLeave v.files (map q) (image q)
 
--- files that a crash may leave if it undoes only the newest changes of names: their names are those
--- of the current map or of an older one
+-- `image` are files that a crash may leave of the state `v` if it undoes only the newest changes of names: those under
+-- the current map of names or an older one
 abbrev pub IsCrashImageIfUndoneNewestFirst : TreeState → Files → Type 0
 IsCrashImageIfUndoneNewestFirst v image =
     (map : NameMap) × IsCurrentOrOlderMap v map × IsCrashImageUnderMap v map image
 
--- a tree is durable if a crash undoes only the last changes of names: each file that must be durable
--- is synced, in each map of names. The parameter `depends_on` says which files these are, given the
--- files of that map: only a crate that can read the journal knows it
+-- a tree is durable if a crash undoes only the newest changes of names: each file that must be durable is synced, in
+-- the current map of names and in each older map. The parameter `depends_on` says which names lead to such files, given
+-- the files under that map: only a crate that can read the journal can define it
 pub record IsDurableIfUndoneNewestFirst (depends_on : Files → List ℕ → Type 0)
     (v : TreeState) : Type 0 where
   -- in each such map, a file on which something depends is synced
@@ -31,7 +31,7 @@ pub record IsDurableIfUndoneNewestFirst (depends_on : Files → List ℕ → Typ
       → depends_on (files_under_map v map) q
       → map q ≡ Some n → (v.files n).synced ≡ true
 
--- ---- moments, as the states that a history got since it was an older one, the newest first
+-- ---- moments: the states that were added to a history during some calls, the newest first
 
 -- P holds of each state that was added between the histories `old` and `new`
 pub record Since (P : TreeState → Type 0) (old new : List TreeState) : Type 0 where

@@ -14,7 +14,7 @@ pub record Counts : Type 0 where
   -- whether a later call may fail for an outside reason: neither a misuse nor out of memory
   pub fallible : Bool
 
--- a count after one more event: one more, but never above 2 ^ 64 - 1
+-- a count after one more call was counted: one more, but at most 2 ^ 64 - 1
 abbrev pub saturating_increment : ℕ → ℕ
 saturating_increment n = min (n + 1) (2 ^ 64 - 1)
 
@@ -22,8 +22,7 @@ saturating_increment n = min (n + 1) (2 ^ 64 - 1)
 abbrev pub RoseOrIsSaturated : ℕ → ℕ → Type 0
 RoseOrIsSaturated before now = saturating_increment before ≤ now
 
--- from one moment to a later one no count fell, and a tree or sink that could not fail for another
--- reason still cannot
+-- from one moment (`before`) to a later one (`now`) no count fell, and `fallible` did not become true
 pub record CountsOnlyRise (before now : Counts) : Type 0 where
   -- the number of failed calls
   pub faults : before.faults ≤ now.faults
@@ -34,27 +33,27 @@ pub record CountsOnlyRise (before now : Counts) : Type 0 where
   -- `fallible` does not become true again
   pub fallible : IsTrue now.fallible → IsTrue before.fallible
 
--- a failure was counted, and has its reason: an outside fault, a misuse, or the object was out of
--- memory
+-- between two moments a failed call was counted, and has a reason: an outside reason, a misuse, or the tree or sink was
+-- out of memory
 pub record IsFaultCountedWithCause (before now : Counts) : Type 0 where
   -- one more fault was counted, unless the count has its largest value
   pub fault : RoseOrIsSaturated before.faults now.faults
-  -- an outside fault, which `fallible` allows, a misuse, or the object was out of memory
+  -- `fallible` allowed an outside reason, or one more misuse or lack of memory was counted
   pub reason : IsTrue before.fallible ⊎ (RoseOrIsSaturated before.misuses now.misuses
       ⊎ RoseOrIsSaturated before.memory_faults now.memory_faults)
 
--- between two moments neither a fault nor a lack of memory was counted
+-- between two moments neither a fault nor a lack of memory was counted; misuses are left open
 pub record CountsNoNewFault (before now : Counts) : Type 0 where
   -- the number of failed calls is unchanged
   pub faults : now.faults ≡ before.faults
   -- the number of calls that failed for lack of memory is unchanged
   pub memory_faults : now.memory_faults ≡ before.memory_faults
 
--- how a call of a sink changes its counts, by the call's result
+-- how a call of a sink changes the sink's counts, from `before` to `now`, given the result of the call
 pub record FailsWithCause {T E : Type 0} (before now : Counts) (result : Result T E) : Type 0 where
   -- no count falls
   pub goes_on : CountsOnlyRise before now
-  -- an error is a counted fault, and has its reason
+  -- an error is counted as a fault, and has a reason
   pub cause : OnErr result (IsFaultCountedWithCause before now)
   -- a call that succeeds counts neither a fault nor a lack of memory
   pub kept : OnOk result (CountsNoNewFault before now)

@@ -13,15 +13,15 @@ Files = List ℕ → Option (List ℕ)
 abbrev pub NameMap : Type 0
 NameMap = List ℕ → Option ℕ
 
--- the map with `x` under a name; each other name is as it was
+-- the map in which the name leads to `x`; each other name leads where it led
 abbrev pub put_name : {X : Type 0} → (List ℕ → Option X) → List ℕ → X → List ℕ → Option X
 put_name map name x q = if bytes_eq q name then Some x else map q
 
--- the map with nothing under a name; each other name is as it was
+-- the map in which the name leads to nothing; each other name leads where it led
 abbrev pub drop_name : {X : Type 0} → (List ℕ → Option X) → List ℕ → List ℕ → Option X
 drop_name map name q = if bytes_eq q name then None else map q
 
--- the map in which `to` has `x`, and `from` nothing; each other name is as it was
+-- the map in which the name `to` leads to `x`, and `from` to nothing; each other name leads where it led
 abbrev pub move_name : {X : Type 0} → (List ℕ → Option X) → List ℕ → List ℕ → X → List ℕ → Option X
 move_name map from to x = put_name (drop_name map from) to x
 
@@ -29,15 +29,15 @@ move_name map from to x = put_name (drop_name map from) to x
 abbrev pub no_names : {X : Type 0} → List ℕ → Option X
 no_names q = None
 
--- only names of this list are present in the map, so they are finitely many
+-- each name that is present in the map is in the list `names`, so finitely many are present
 abbrev pub HasNamesAmong : {X : Type 0} → List (List ℕ) → (List ℕ → Option X) → Type 0
 HasNamesAmong names map = (q : List ℕ) → IsSome (map q) → list_any (bytes_eq q) names ≡ true
 
--- whatever is present in the map is a name: a path below the root
+-- each key that is present in the map is a valid name: the path of a file below the root
 abbrev pub AreNames : {X : Type 0} → (List ℕ → Option X) → Type 0
 AreNames map = (q : List ℕ) → IsSome (map q) → IsName q
 
--- a name is a folder of another: the name and a slash (47) begin the other
+-- `folder` is a folder of `name`, at any depth: `name` begins with `folder` and a slash (47)
 abbrev pub IsFolderOf : List ℕ → List ℕ → Type 0
 IsFolderOf folder name = (rest : List ℕ) × (name ≡ folder ++ 47 ∷ rest)
 

@@ -12,28 +12,29 @@ use Rattle.base_core.specs.Tree.{TreeState}
 abbrev pub AreSortedDistinctNames : List (List ℕ) → Type 0
 AreSortedDistinctNames names = AllPairs (λ a b. slice_cmp nat_cmp a b ≡ Less) names
 
--- exactly the names that are present in a map, in byte order
+-- `names` are exactly the names that are present in the map, in byte order
 pub record AreSortedNamesInMap {X : Type 0} (map : List ℕ → Option X) (names : List (List ℕ)) : Type 0 where
   -- the names are in byte order, each once
   pub rising : AreSortedDistinctNames names
   -- the list has exactly the present names
   pub each : (q : List ℕ) → Contains names q ↔ IsSome (map q)
 
--- the listing of a folder: exactly the present names below it, at any depth, in byte order
+-- `names` are the listing of a folder in the state `v`: exactly the present names below the folder, at any depth, in
+-- byte order
 pub record IsSortedListingOfFolder (folder : List ℕ) (v : TreeState) (names : List (List ℕ)) : Type 0 where
   -- the names are in byte order, each once
   pub rising : AreSortedDistinctNames names
   -- the list has exactly the present names below the folder
   pub each : (q : List ℕ) → Contains names q ↔ (IsSome (v.names q) × IsFolderOf folder q)
 
--- these bytes are a name, and the folder is a folder of it
+-- `name` is a valid name below the folder, at any depth
 pub record IsValidNameBelowFolder (folder name : List ℕ) : Type 0 where
   -- the bytes are a valid name
   pub named : IsName name
   -- the folder is above this name, at any distance
   pub below : IsFolderOf folder name
 
--- names below the folder in byte order, each once; which ones a tree has is left open
+-- `names` are valid names below the folder, in byte order, each once. Nothing is said of which names a tree has
 pub record AreSortedNamesBelowFolder (folder : List ℕ) (names : List (List ℕ)) : Type 0 where
   -- the names are in byte order, each once
   pub rising : AreSortedDistinctNames names

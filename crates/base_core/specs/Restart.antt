@@ -4,17 +4,18 @@ use Rattle.std.specs.Prelude.{◌≡◌, ◌⊎◌, ◌≤◌, ℕ, true, List, 
 use Rattle.base_core.specs.Crash.{IsCrashImageIfUndoneNewestFirst}
 use Rattle.base_core.specs.Tree.{TreeState, files_of}
 
--- `w` is a tree that is found after a crash of `v`: it reads as an image of `v`, and a further crash
--- would take nothing from it
+-- `w` is the state of a tree after a crash of the state `v` that undoes only the newest changes of names: it has one
+-- map of names, and each of its files is synced
 pub record IsAfterCrashIfUndoneNewestFirst (v w : TreeState) : Type 0 where
-  -- what is read then is what a crash may leave of `v`
+  -- the files of `w`, as read, are files that such a crash may leave of `v`
   pub left : IsCrashImageIfUndoneNewestFirst v (files_of w)
   -- no change of names can be undone any more
   pub one_map : w.older ≡ []
   -- each file that a name leads to is synced
   pub synced : (q : List ℕ) (n : ℕ) → w.names q ≡ Some n → (w.files n).synced ≡ true
 
--- P holds at each moment of a list: its arguments are the earlier moments and the state
+-- P holds at each moment of a list (the newest first); the arguments of P are the earlier moments and the state at the
+-- moment
 abbrev pub EachMoment : (List TreeState → TreeState → Type 0) → List TreeState → Type 0
 EachMoment P [] = Unit {0}
 EachMoment P (v ∷ earlier) = P earlier v × EachMoment P earlier
@@ -29,7 +30,8 @@ pub record SinceGivenEarlier (P : List TreeState → TreeState → Type 0)
   -- P holds at each added state, together with the states before it
   pub each : EachMoment P added
 
--- at one of the moments the name as read led to a file whose number is `made` or larger
+-- at one of these moments the name, as read, led to a file whose number is at least `made`: a file that was made after
+-- the first `made` files
 abbrev pub HasNameLedToFileFromNumber : List ℕ → ℕ → List TreeState → Type 0
 HasNameLedToFileFromNumber name made [] = ⊥
 HasNameLedToFileFromNumber name made (v ∷ earlier) =

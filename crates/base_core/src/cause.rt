@@ -6,20 +6,23 @@
 /// bytes).
 #[derive(Clone, Copy, Debug, PartialEq, Eq)]
 pub enum Digest {
+    /// A SHA-1 digest.
     Sha1([u8; 20]),
+    /// A SHA-256 digest.
     Sha256([u8; 32]),
+    /// A SHA-512 digest.
     Sha512([u8; 64]),
 }
 
-/// Why a container (apk-v3(5)), or a database that is a text, is refused. `at` is an offset in
-/// bytes from the file's start, `word` the 32-bit word of a value.
+/// Why a container (apk-v3(5)), or a text database, is refused. `at` is an offset in bytes from the
+/// file's start. `word` is the 32-bit word by which the payload refers to the value.
 #[derive(Clone, Copy, Debug, PartialEq, Eq)]
 pub enum Cause {
     /// The file does not begin as an ADB container does.
     NotAdb,
     /// The container is compressed.
     Compressed,
-    /// The header, or the block at this offset, is not whole.
+    /// The file's header (`at` is 0), or the block at this offset, is not complete.
     Truncated {
         at: u64,
     },
@@ -29,11 +32,11 @@ pub enum Cause {
     },
     /// The payload's compatibility version is not 0.
     CompatVersion,
-    /// The value's range leaves the payload.
+    /// The bytes of the value to which this word refers are not all within the payload.
     Outside {
         word: u32,
     },
-    /// The value is of another kind than expected.
+    /// The value to which this word refers is of another kind than expected.
     WrongKind {
         word: u32,
     },
@@ -50,14 +53,16 @@ pub enum Cause {
     BadText {
         place: u16,
     },
-    /// A name is repeated, at two positions that count from 1. `place` is as in `BadText`.
+    /// A list has a name twice, at two positions that count from 1. `place` is the field of the
+    /// name, as in `BadText`.
     Repeated {
         place: u16,
         first: u32,
         second: u32,
     },
-    /// The contents of one file are at the place of another's. Each file is given by the position
-    /// of its folder and its position in the folder, both counted from 1; (0, 0) means none.
+    /// The contents of the file `found` come where those of the file `expected` have to come. Each
+    /// file is given by the position of its folder and its position in the folder, both counted
+    /// from 1; (0, 0) means none.
     DataOrder {
         expected: (u32, u32),
         found: (u32, u32),
@@ -72,7 +77,7 @@ pub enum Cause {
         wanted: Digest,
         found: Digest,
     },
-    /// This line, counted from 1, of a database in text form breaks its grammar.
+    /// This line of a text database, counted from 1, breaks the grammar of such a database.
     TextLine {
         line: u64,
     },

@@ -1,5 +1,5 @@
 //! Laws: what follows from the definitions of a tree's states, of a crash, of a listing and of the
-//! counts. A crate above calls such a function to use its law; it does nothing at run time.
+//! counts. Another crate calls such a function to use its law; the call does nothing at run time.
 //! `docs/crash-safety.md` says the laws in words: those of a crash in "What a crash leaves", those
 //! of a listing in "A tree at one moment".
 ghost use Rattle.std.specs.Prelude.{◌≡◌, ◌≤◌, ◌++◌, ℕ, List, [], Option, Result, Bool};
@@ -14,16 +14,18 @@ ghost use Rattle.base_core.specs.Undone.{IsAfterCrash, IsDurable, IsCrashImage, 
 
 // ---- crashes
 
-/// The files by each map of names, and so the files as read, are among what a crash may leave.
+/// A crash that undoes only the newest changes of names may leave the files under each map of names
+/// of a tree, the current one and the older ones.
 pub fn a_crash_may_leave_the_files_as_read()
-    // The files as read are among those that a crash may leave.
+    // Such a crash may leave the files as read.
     ensures read { (v : TreeState) → IsCrashImageIfUndoneNewestFirst v (files_of v) }
-    // The files under the current map, or an older one, are among those that a crash may leave.
+    // Such a crash may leave the files under the current map of names, or under an older one.
     ensures by_map { (v : TreeState) (map : NameMap) → IsCurrentOrOlderMap v map
         → IsCrashImageIfUndoneNewestFirst v (files_under_map v map) }
 {}
 
-/// If crashes undo only the last changes of names, a second one leaves the same files as the first.
+/// If crashes undo only the newest changes of names, a second crash leaves the same files as the
+/// first. `v` is the tree before the first crash, and `w` the tree after it.
 pub fn a_second_crash_in_order_leaves_the_same_files()
     ensures { (v w : TreeState) → IsAfterCrashIfUndoneNewestFirst v w → (image : Files)
         → IsCrashImageIfUndoneNewestFirst w image
@@ -37,15 +39,15 @@ pub trait Durability {
     ghost depends_on: { (List ℕ → Bool) → Files → List ℕ → Type 0 };
 }
 
-/// After a crash that undoes only the last changes of names a tree is durable, whichever files must
-/// be.
+/// After a crash that undoes only the newest changes of names, a tree (`w`) is durable, whichever
+/// files must be durable.
 pub fn a_crash_in_order_leaves_a_durable_tree<D: Durability>()
     ensures { (ignored : List ℕ → Bool) (v w : TreeState) → IsAfterCrashIfUndoneNewestFirst v w
         → IsDurableIfUndoneNewestFirst (D.depends_on ignored) w }
 {}
 
-/// A crash that undoes only the last changes of names keeps, by one of the maps of a tree that is
-/// durable then, the bytes of each file that must be durable.
+/// Let a tree be durable if crashes undo only the newest changes of names. Then a crash that leaves
+/// one of its maps of names keeps the bytes of each file that must be durable by this map.
 pub fn a_crash_in_order_keeps_the_files_of_a_durable_tree<D: Durability>()
     ensures { (ignored : List ℕ → Bool) (v : TreeState)
         → IsDurableIfUndoneNewestFirst (D.depends_on ignored) v
@@ -55,8 +57,8 @@ pub fn a_crash_in_order_keeps_the_files_of_a_durable_tree<D: Durability>()
         ≡ files_under_map v map q }
 {}
 
-/// A tree that is durable if crashes undo only the newest changes of names stays so if fewer files
-/// must be durable.
+/// A tree that is durable, if crashes undo only the newest changes of names, is also durable if
+/// fewer files must be durable. `fewer` and `more` are the ignored names in the two cases.
 pub fn a_tree_stays_durable_in_order_if_fewer_files_must_be<D: Durability>()
     ensures { (more fewer : List ℕ → Bool) (v : TreeState)
         → ((files : Files) (q : List ℕ) → D.depends_on fewer files q → D.depends_on more files q)
@@ -66,66 +68,67 @@ pub fn a_tree_stays_durable_in_order_if_fewer_files_must_be<D: Durability>()
 
 // ---- crashes that undo any of the changes
 
-/// The files as read are among what a crash may leave, and so are those by each map that it may
-/// leave. A crash may undo or keep each change of names, whatever it does with the earlier ones.
+/// A crash may leave the files as read, and the files under each map of names that it may leave. It
+/// may undo or keep each change of names, whatever it does with the earlier changes.
 pub fn a_crash_may_undo_any_changes()
-    // The files as read are among those that a crash may leave.
+    // A crash may leave the files as read.
     ensures read { (v : TreeState) → IsCrashImage v (files_of v) }
-    // The files under each map that a crash may leave are among those that it may leave.
+    // A crash may leave the files under each map of names that it may leave.
     ensures by_map { (v : TreeState) (map : NameMap) → IsCrashMap v map
         → IsCrashImage v (files_under_map v map) }
-    // A crash may also undo the newest change of names.
+    // After one more change of names, a crash may leave any map that it could leave before.
     ensures undone { (v : TreeState) (names map : NameMap) → IsCrashMap v map
         → IsCrashMap (with_names v names) map }
-    // A crash may also keep the newest change of names.
+    // After one more change of names, a crash may leave such a map with this change replayed.
     ensures kept { (v : TreeState) (names map : NameMap) → IsCrashMap v map
         → IsCrashMap (with_names v names) (with_change_replayed v.names names map) }
 {}
 
-/// A crash that undoes only the newest changes of names, in any number, is a special case: each map
-/// since the last sync of the names may be left. So what holds after every crash that may undo any
-/// changes holds after it too.
+/// A crash that undoes only the newest changes of names is a special case of a crash, which may
+/// undo any of them. So what holds after each crash also holds after such a crash.
 pub fn a_crash_may_undo_the_last_changes()
-    // Each map since the last sync of names is one that a crash may leave.
+    // A crash may leave the current map of names, and each older map since their last sync.
     ensures map { (v : TreeState) (map : NameMap) → IsCurrentOrOlderMap v map → IsCrashMap v map }
-    // Files that such a crash may leave are among those that any crash may leave.
+    // Files that such a crash may leave are files that a crash may leave.
     ensures image { (v : TreeState) (image : Files) → IsCrashImageIfUndoneNewestFirst v image
         → IsCrashImage v image }
-    // A tree after such a crash is one after a crash.
+    // A tree `w` after such a crash of `v` is a tree after a crash of `v`.
     ensures crash { (v w : TreeState) → IsAfterCrashIfUndoneNewestFirst v w → IsAfterCrash v w }
 {}
 
-/// Whatever a crash undoes, each name then leads where it led in one of the maps since the last
-/// sync of the names. If there is one map, it is the only one that a crash may leave.
+/// Whatever a crash undoes, each name then leads where it led in one of the maps of names since
+/// their last sync. If there is only the current map, it is the only map that a crash may leave.
 pub fn a_crash_leaves_each_name_where_it_led()
     // Each name leads where it led in the current map or an older one.
     ensures leads { (v : TreeState) (map : NameMap) → IsCrashMap v map → (q : List ℕ)
         → (one : NameMap) × IsCurrentOrOlderMap v one × (map q ≡ one q) }
-    // Without an older map, a crash leaves the current one.
+    // Without older maps, a crash leaves the current map.
     ensures one_map { (v : TreeState) → v.older ≡ [] → (map : NameMap) → IsCrashMap v map
         → map ≡ v.names }
 {}
 
-/// A durable tree is durable too if a crash undoes only the last changes of names.
+/// A durable tree is also durable in the weaker sense: if a crash undoes only the newest changes of
+/// names.
 pub fn a_durable_tree_is_durable_in_order<D: Durability>()
     ensures { (ignored : List ℕ → Bool) (v : TreeState) → IsDurable (D.depends_on ignored) v
         → IsDurableIfUndoneNewestFirst (D.depends_on ignored) v }
 {}
 
-/// A second crash leaves the same files as the first.
+/// A second crash leaves the same files as the first. `v` is the tree before the first crash, and
+/// `w` the tree after it.
 pub fn a_second_crash_leaves_the_same_files()
     ensures { (v w : TreeState) → IsAfterCrash v w → (image : Files) → IsCrashImage w image
         → (q : List ℕ) → image q ≡ files_of w q }
 {}
 
-/// After a crash a tree is durable, whichever files must be.
+/// After a crash a tree (`w`) is durable, whichever files must be durable.
 pub fn a_crash_leaves_a_durable_tree<D: Durability>()
     ensures { (ignored : List ℕ → Bool) (v w : TreeState) → IsAfterCrash v w
         → IsDurable (D.depends_on ignored) w }
 {}
 
-/// A crash of a durable tree keeps, by the map that it leaves, the bytes of each file that must be
-/// durable.
+/// If a crash of a durable tree leaves the map of names `map`, each file that must be durable by
+/// this map keeps its bytes. `image` are the files after the crash.
 pub fn a_crash_keeps_the_files_of_a_durable_tree<D: Durability>()
     ensures { (ignored : List ℕ → Bool) (v : TreeState) → IsDurable (D.depends_on ignored) v
         → (map : NameMap) → IsCrashMap v map → (image : Files) → IsCrashImageUnderMap v map image
@@ -133,7 +136,8 @@ pub fn a_crash_keeps_the_files_of_a_durable_tree<D: Durability>()
         ≡ files_under_map v map q }
 {}
 
-/// A tree stays durable if fewer files must be.
+/// A durable tree is also durable if fewer files must be durable. `fewer` and `more` are the
+/// ignored names in the two cases.
 pub fn a_tree_stays_durable_if_fewer_files_must_be<D: Durability>()
     ensures { (more fewer : List ℕ → Bool) (v : TreeState)
         → ((files : Files) (q : List ℕ) → D.depends_on fewer files q → D.depends_on more files q)
@@ -142,8 +146,8 @@ pub fn a_tree_stays_durable_if_fewer_files_must_be<D: Durability>()
 
 // ---- names and files
 
-/// A listing can always be answered: each folder of a whole state has exactly one, and all its
-/// elements are names.
+/// Each folder of a well-formed state has exactly one listing, and all elements of the listing are
+/// valid names. So a call of `list` always has an answer.
 pub fn a_folder_has_one_listing()
     // There is a listing of each folder, and it has only names below the folder.
     ensures exists { (v : TreeState) → IsWellFormed v → (folder : List ℕ)
@@ -154,10 +158,10 @@ pub fn a_folder_has_one_listing()
         → IsSortedListingOfFolder folder v a → IsSortedListingOfFolder folder v b → a ≡ b }
 {}
 
-/// A map with finitely many names has exactly one list of them. Each map of a whole state is such a
-/// map.
+/// A map with finitely many names has exactly one list of its names. Each map of a well-formed
+/// state is such a map.
 pub fn a_map_has_one_list_of_names()
-    // There is a list of the names in the map.
+    // If all names of the map are in the list `within`, there is a sorted list of its names.
     ensures exists { (map : NameMap) (within : List (List ℕ)) → HasNamesAmong within map
         → (names : List (List ℕ)) × AreSortedNamesInMap map names }
     // Two lists of the names in one map are equal.
@@ -168,7 +172,7 @@ pub fn a_map_has_one_list_of_names()
 
 /// Files under finitely many names have exactly one list of their names.
 pub fn files_have_one_list_of_names()
-    // There is a list of the files' names.
+    // If all names of the files are in the list `within`, there is a sorted list of their names.
     ensures exists { (files : Files) (within : List (List ℕ)) → HasNamesAmong within files
         → (names : List (List ℕ)) × AreSortedNamesInMap files names }
     // Two lists of the names of the same files are equal.
@@ -183,8 +187,8 @@ pub fn the_files_as_read_have_the_names_as_read()
         → AreSortedNamesInMap (files_of v) names }
 {}
 
-/// The files of a whole state, by each of its maps, are finitely many, and each is under a name and
-/// has fewer than 2^64 bytes.
+/// The files of a well-formed state, under each of its maps of names, are finitely many. Each is
+/// under a valid name and has fewer than 2^64 bytes.
 pub fn the_files_of_a_well_formed_state_are_named_files()
     // Under each map, files have valid names and a possible length.
     ensures named { (v : TreeState) → IsWellFormed v → (map : NameMap) → IsCurrentOrOlderMap v map
@@ -198,8 +202,8 @@ pub fn the_files_of_a_well_formed_state_are_named_files()
 
 // ---- calls in a row
 
-/// What holds of the counts over each of two successive calls holds over the two together. If there
-/// is no call, no count changes.
+/// What holds of the counts over each of two successive calls holds over both together. `a` are the
+/// counts before the first call, `b` those between the calls, and `c` those after the second.
 pub fn counts_of_consecutive_calls_compose()
     // If no count fell from a to b, and none from b to c, none fell from a to c.
     ensures goes_on { (a b c : Counts) → CountsOnlyRise a b → CountsOnlyRise b c
@@ -217,26 +221,27 @@ pub fn counts_of_consecutive_calls_compose()
     ensures stays { (a : Counts) → CountsOnlyRise a a × CountsNoNewFault a a }
 {}
 
-/// A sequence of calls that only read only reads, if all but the last succeeded.
+/// If each call of a sequence only reads, and all but the last succeeded, the sequence only reads.
 pub fn consecutive_reads_compose<A, B, E>()
-    // A run without a call only reads.
+    // A sequence without a call only reads: states and counts are unchanged.
     ensures none { (disk_fault : E) (h : List TreeState) (a : Counts) (value : A)
         → OnlyReads disk_fault h h a a (Ok value) }
-    // If the first of two calls succeeded, and both only read, so do both together.
+    // If the first of two calls succeeded, and each only reads, both together only read. `value` is
+    // the result of the first call, and `then` that of the second.
     ensures two { (disk_fault : E) (h0 h1 h2 : List TreeState) (a b c : Counts) (value : A)
         (then : Result B E)
         → OnlyReads disk_fault h0 h1 a b (Ok value) → OnlyReads disk_fault h1 h2 b c then
         → OnlyReads disk_fault h0 h2 a c then }
 {}
 
-/// `HasNameLedToFileFromNumber name b moments` says that at one of these moments the name led to a file whose
-/// number is `b` or larger. Then this also holds for each smaller number (`begun`), and for a
-/// longer list of moments (`later`).
+/// `HasNameLedToFileFromNumber name b moments` says that at one of these moments the name led to a
+/// file whose number is `b` or larger. Then this also holds for each smaller number (`begun`), and
+/// for a longer list of moments (`later`).
 pub fn a_file_made_in_a_run_was_made_in_an_earlier_one()
-    // A file made as number b or later was made as number a or later, if a is at most b.
+    // If a is at most b, a number that is at least b is at least a.
     ensures begun { (name : List ℕ) (a b : ℕ) (moments : List TreeState) → a ≤ b
         → HasNameLedToFileFromNumber name b moments → HasNameLedToFileFromNumber name a moments }
-    // What holds of some moments also holds of these with further moments.
+    // If this holds of some moments, it also holds of these with the moments `later`.
     ensures later { (name : List ℕ) (made : ℕ) (later moments : List TreeState)
         → HasNameLedToFileFromNumber name made moments
         → HasNameLedToFileFromNumber name made (later ++ moments) }

@@ -11,7 +11,7 @@ use std::marker::Model;
 use std::str;
 
 /// A path as its bytes: UTF-8, 1 to 1,024 bytes, parts separated by `/`, no part empty, `.` or
-/// `..`, no zero byte. It is relative to the tree's root.
+/// `..`, no zero byte. The path is relative to the tree's root.
 #[derive(Drop)]
 pub struct Name {
     /// The bytes of the name, UTF-8 text.
@@ -22,10 +22,12 @@ impl Model for Name {
     ghost use Rattle.std.specs.Prelude.{ℕ, List};
     ghost use Rattle.base_core.specs.Name.{IsName};
 
+    // Contracts see a name as the list of its bytes.
     ghost Value = { List ℕ };
 
     ghost view = { λ name. name.bytes.items };
 
+    // The bytes are a valid name.
     ghost invariant = { λ name. IsName name.bytes.items };
 }
 
@@ -44,7 +46,7 @@ impl Name {
         Ok(Some(Name { bytes }))
     }
 
-    /// The bytes as a name, if they are known to be one.
+    /// The bytes as a name; the caller has to prove that they are a valid name.
     pub fn of(alloc: Global, bytes: &[u8]) -> Result<Name, AllocError>
         // The bytes are a valid name.
         requires { IsName bytes.now }
@@ -54,8 +56,11 @@ impl Name {
         Ok(Name { bytes })
     }
 
+    /// The bytes of the name.
     pub fn as_bytes(&self) -> &[u8]
+        // The result has the bytes of the name.
         ensures value { result.now ≡ self.now }
+        // These bytes are a valid name.
         ensures name { IsName self.now }
     {
         &self.bytes
@@ -130,10 +135,12 @@ impl Model for Names {
     ghost use Rattle.std.specs.Prelude.{ℕ, List, All};
     ghost use Rattle.base_core.specs.Name.{IsName};
 
+    // Contracts see the list of the names' bytes.
     ghost Value = { List (List ℕ) };
 
     ghost view = { λ names. names.names.items };
 
+    // Each element is a valid name.
     ghost invariant = { λ names. All IsName names.names.items };
 }
 
@@ -147,10 +154,11 @@ impl Names {
         }
     }
 
-    /// Adds a name at the end. A refused push drops it and leaves the list as it was.
+    /// Adds a name at the end. If out of memory, the name is dropped, and the list is unchanged.
     pub fn push(&mut self, name: Name) -> Result<(), AllocError>
+        // On Ok, the name is added at the end of the list.
         ensures ok { OnOk result (self.new ≡ self.old ++ name ∷ []) }
-        // An error leaves the value unchanged.
+        // An error leaves the list unchanged.
         ensures err { OnErr result (self.new ≡ self.old) }
     {
         self.names.push(name)?;
@@ -171,14 +179,14 @@ impl Names {
         self.names.is_empty()
     }
 
-    /// A law of the list: each of its elements is a name. It does nothing when it runs.
+    /// A law of the list: each of its elements is a valid name. The call does nothing at run time.
     pub fn are_names(&self)
         ensures { All IsName self.now }
     {
         let _ = &self.names;
     }
 
-    /// The name at a place, counted from 0.
+    /// The name at the index `i`, counted from 0.
     pub fn get(&self, i: usize) -> &Name
         // The index is that of an element.
         requires { i < length self.now }

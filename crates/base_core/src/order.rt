@@ -11,7 +11,7 @@ ghost use Rattle.base_core.specs.Sorted.{sorted_by};
 ghost use Rattle.std.specs.List.Sorted.{IsPermutation, IsSorted};
 ghost use Rattle.std.specs.Prelude.{◌≡◌, ℕ, List, slice_get};
 
-/// Sorting texts by their bytes keeps the texts, and no text is before a smaller one.
+/// Sorting texts by their bytes keeps all texts, and leaves no text before a smaller one.
 pub fn sorted_texts_are_in_order()
     // Sorting keeps the texts, each as often as before.
     ensures same { (texts : List (List ℕ)) → IsPermutation texts (sorted_by bytes_cmp texts) }

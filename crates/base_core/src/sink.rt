@@ -1,4 +1,4 @@
-//! Output streams: the trait `Sink`, and a write of all bytes. Its rules are in
+//! Output streams: the trait `Sink`, and a write of all bytes. The rules are in
 //! `docs/crash-safety.md`, "Misuses, faults and counts" (the counts of a sink), and in the rows of
 //! `Sink` and `write_all` in the README of this crate.
 ghost use Rattle.std.specs.Prelude.{◌≡◌, [], List, ℕ, Option, take, IsOk, IfOk, OnOk, OnErr};
@@ -17,17 +17,20 @@ pub trait Sink {
     /// The bytes written so far, if they are observable.
     ghost bytes: { Self → Option (List ℕ) };
 
-    /// How often a write failed, and why.
+    /// How many writes failed, and for which reasons.
     ghost counts: { Self → Counts };
 
-    /// Takes a prefix of the piece, at least one byte if there is one, and returns how many bytes
-    /// it took. An empty piece never fails.
+    /// Takes a prefix of the bytes `piece`, at least one byte if there is one, and returns how many
+    /// bytes were taken. A write of no bytes never fails.
     ///
     /// # Errors
     ///
     /// `SinkFault` if the sink failed; then it took nothing.
     fn write(&mut self, piece: &[u8]) -> Result<usize, SinkFault>
+        // On Ok, the result is at most the length of the piece, and not 0 unless the piece is
+        // empty.
         ensures taken { IfOk result (λ n. IsWriteCount n piece.now) }
+        // A write of no bytes succeeds.
         ensures empty { piece.now ≡ [] → IsOk result }
         // On Ok, exactly the first n bytes of the piece are added, where n is the result.
         ensures added { IfOk result (λ n.
@@ -53,6 +56,7 @@ pub fn write_all<S: Sink>(sink: &mut S, bytes: &[u8]) -> Result<(), SinkFault>
 {
     let mut rest = bytes;
     while !rest.is_empty() {
+        // How many bytes the sink took: at least one, so that the loop ends.
         let taken = sink.write(rest)?;
         rest = &rest[taken..];
     }

@@ -18,6 +18,7 @@ impl Model for Text {
 
     ghost Value = { List ℕ };
 
+    // Contracts see a text as the list of its bytes.
     ghost view = { λ text. text.bytes.items };
 }
 
@@ -37,6 +38,7 @@ impl Text {
         Text { bytes }
     }
 
+    /// The bytes of the text.
     pub fn as_bytes(&self) -> &[u8]
         ensures { result.now ≡ self.now }
     {
@@ -59,8 +61,10 @@ impl Model for Words {
 
     ghost Value = { List (List ℕ) };
 
+    // Contracts see the list of the words, each as its bytes.
     ghost view = { λ words. words.words.items };
 
+    // There are at most 4,294,967,294 words.
     ghost invariant = { λ words. length words.words.items < 4294967295 };
 }
 
@@ -75,12 +79,13 @@ impl Words {
         }
     }
 
-    /// Adds a copy of the word. A refused push changes nothing.
+    /// Adds a copy of the word at the end. If out of memory, nothing changes.
     pub fn push(&mut self, word: &[u8]) -> Result<(), AllocError>
+        // There is room for one more word, as the invariant limits their number.
         requires { length self.old < 4294967294 }
         // On Ok, the word is added at the end.
         ensures ok { OnOk result (self.new ≡ self.old ++ word.now ∷ []) }
-        // An error leaves the value unchanged.
+        // An error leaves the words unchanged.
         ensures err { OnErr result (self.new ≡ self.old) }
     {
         let text = Text::of(self.alloc, word)?;
@@ -90,7 +95,9 @@ impl Words {
 
     /// How many words there are.
     pub fn len(&self) -> usize
+        // The result is the number of words.
         ensures value { result ≡ length self.now }
+        // The place after the last word, counted from 1, fits in 32 bits.
         ensures small { result < 4294967295 }
     {
         self.words.len()

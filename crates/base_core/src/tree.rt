@@ -31,6 +31,7 @@ pub enum TreeFault {
 }
 
 impl From<Disk> for TreeFault {
+    // Contracts know of this conversion that its result is `TreeFault::Disk`.
     ghost from_gives = { λ _ fault. fault ≡ DiskFault };
 
     // An I/O error as the error of a call that reads the tree into memory.
@@ -40,6 +41,7 @@ impl From<Disk> for TreeFault {
 }
 
 impl From<AllocError> for TreeFault {
+    // Contracts know of this conversion that its result is `TreeFault::Memory`.
     ghost from_gives = { λ _ fault. fault ≡ Memory };
 
     // Out of memory as the error of a call that reads the tree into memory.
@@ -56,37 +58,39 @@ impl From<AllocError> for TreeFault {
 /// added, `counts` how the counts change, and `value` what is returned if the history is
 /// observable.
 pub trait Tree {
-    /// The states so far, the newest first. It is empty if they are not observable.
+    /// The states of the tree so far, the newest first. The list is empty if the tree is not
+    /// observable.
     ghost history: { Self → List TreeState };
 
-    /// How often a call failed, and why.
+    /// How many calls of the tree failed, and for which reasons.
     ghost counts: { Self → Counts };
 
     /// The tree has answered that a file can be renamed to the name from the given source, or,
-    /// without a source, that the name can be removed. It depends on no state: only an Ok of
-    /// `check_target` gives it, so code over any tree that has it must have asked.
+    /// without a source, that the name can be removed. The statement has no state as an argument.
+    /// Only an Ok of `check_target` gives it: code for any tree that relies on it must have called
+    /// `check_target`.
     ghost accepts: { Option (List ℕ) → List ℕ → Type 0 };
 
     /// The file's length in bytes, or None exactly if the name is absent.
     fn size(&mut self, name: &Name) -> Result<Option<u64>, Disk>
         // The history is unchanged.
         ensures same { history self.new ≡ history self.old }
-        // How the counts change, and which states allow the call.
+        // How the counts change; each state allows the call, so that it is no misuse.
         ensures counts { IsCounted IsAlwaysAllowed (history self.old) (counts self.old)
             (counts self.new) result }
-        // What is returned, if the history is observable.
+        // On success the result is the length of the file under the name, or None if it is absent.
         ensures value { IfOk result (λ size. IfObservable (history self.old) (λ v.
             size ≡ option_map length (files_of v name.now))) };
 
-    /// Fills the buffer with the file's bytes from `at` on. An absent name, or a read past the
-    /// file's end, is a misuse, and a fault.
+    /// Fills the buffer `into` with the file's bytes from the offset `at` on. An absent name, or a
+    /// read past the file's end, is a misuse, and a fault.
     fn read_at(&mut self, name: &Name, at: u64, into: &mut [u8]) -> Result<(), Disk>
         // The history is unchanged.
         ensures same { history self.new ≡ history self.old }
-        // How the counts change, and which states allow the call.
+        // How the counts change; the call is a misuse if the state does not allow this read.
         ensures counts { IsCounted (CanRead name.now at (length into.old)) (history self.old)
             (counts self.old) (counts self.new) result }
-        // What is returned, if the history is observable.
+        // On success the buffer has the bytes of the file from the offset on.
         ensures value { OnOk result (IfObservable (history self.old) (λ v.
             IfSome (files_of v name.now) (λ bytes.
             into.new ≡ take (length into.old) (drop at bytes)))) };
@@ -94,34 +98,35 @@ pub trait Tree {
     /// Makes an empty file, which is not synced. A name that is present, or that would make one
     /// name a folder of another, is a misuse, and a fault.
     fn create(&mut self, name: &Name) -> Result<(), Disk>
-        // Which state is added to the history: on success, and on an error.
+        // Success adds the state with the new empty file; an error adds the same state, or none.
         ensures moves { ChangesHistory (CanCreate name.now) (after_create name.now) (after_create
             name.now)
             (history self.old) (history self.new) result }
-        // How the counts change, and which states allow the call.
+        // How the counts change; the call is a misuse if no file can be made under the name.
         ensures counts { IsCounted (CanCreate name.now) (history self.old)
             (counts self.old) (counts self.new) result };
 
-    /// Adds a piece at the file's end. After the call the file is unsynced; after a failed call it
-    /// may be unsynced. `Disk` reports an I/O error of the tree. An absent name is a misuse, and a
-    /// fault.
+    /// Adds the bytes `piece` at the file's end. After the call the file is unsynced; after a
+    /// failed call it may be unsynced. `Disk` reports an I/O error of the tree. An absent name is a
+    /// misuse, and a fault.
     fn append(&mut self, name: &Name, piece: &[u8]) -> Result<(), Disk>
-        // Which state is added to the history: on success, and on an error.
+        // Success adds the state with these bytes at the file's end; an error adds a state in which
+        // the file is unsynced, or none.
         ensures moves { ChangesHistory (HasName name.now) (after_append name.now piece.now)
             (after_failed_append name.now)
             (history self.old) (history self.new) result }
-        // How the counts change, and which states allow the call.
+        // How the counts change; the call is a misuse if the name is absent.
         ensures counts { IsCounted (HasName name.now) (history self.old)
             (counts self.old) (counts self.new) result };
 
     /// File fsync: no later crash undoes what was written to the file before this call. An absent
     /// name is a misuse, and a fault.
     fn sync(&mut self, name: &Name) -> Result<(), Disk>
-        // Which state is added to the history: on success, and on an error.
+        // Success adds the state with the synced file; an error adds the old state again, or none.
         ensures moves { ChangesHistory (HasName name.now)
             (after_sync name.now) unchanged_after_failed_call
             (history self.old) (history self.new) result }
-        // How the counts change, and which states allow the call.
+        // How the counts change; the call is a misuse if the name is absent.
         ensures counts { IsCounted (HasName name.now) (history self.old)
             (counts self.old) (counts self.new) result };
 
@@ -129,30 +134,31 @@ pub trait Tree {
     /// led to is gone. An absent `from`, the same name twice, or a `to` that would make one name a
     /// folder of another is a misuse, and a fault.
     fn rename(&mut self, from: &Name, to: &Name) -> Result<(), Disk>
-        // Which state is added to the history: on success, and on an error.
+        // Success adds the state with the file under `to`; an error adds the same state, or none.
         ensures moves { ChangesHistory (CanRename from.now to.now) (after_rename from.now to.now)
             (after_rename from.now to.now) (history self.old) (history self.new) result }
-        // How the counts change, and which states allow the call.
+        // How the counts change; the call is a misuse if the state does not allow this rename.
         ensures counts { IsCounted (CanRename from.now to.now) (history self.old)
             (counts self.old) (counts self.new) result };
 
     /// Removes a name. An absent name is no fault, and nothing changes.
     fn remove(&mut self, name: &Name) -> Result<(), Disk>
-        // Which state is added to the history: on success, and on an error.
+        // Success adds the state without the name; an error adds the same state, or none.
         ensures moves { ChangesHistory IsAlwaysAllowed (after_remove name.now) (after_remove
             name.now)
             (history self.old) (history self.new) result }
-        // How the counts change, and which states allow the call.
+        // How the counts change; each state allows the call, so that it is no misuse.
         ensures counts { IsCounted IsAlwaysAllowed (history self.old) (counts self.old)
             (counts self.new) result };
 
     /// Directory fsync: no later crash undoes a change of names made before this call.
     fn sync_names(&mut self) -> Result<(), Disk>
-        // Which state is added to the history: on success, and on an error.
+        // Success adds the state without older maps of names; an error adds the old state again, or
+        // none.
         ensures moves { ChangesHistory IsAlwaysAllowed after_sync_names unchanged_after_failed_call (history
             self.old)
             (history self.new) result }
-        // How the counts change, and which states allow the call.
+        // How the counts change; each state allows the call, so that it is no misuse.
         ensures counts { IsCounted IsAlwaysAllowed (history self.old) (counts self.old)
             (counts self.new) result };
 
@@ -163,38 +169,40 @@ pub trait Tree {
         ensures same { history self.new ≡ history self.old }
         // No count falls.
         ensures goes_on { CountsOnlyRise (counts self.old) (counts self.new) }
-        // A failed tree has its cause; no other answer adds a fault or a lack of memory.
+        // An I/O error is returned only if a fault with its cause was counted.
         ensures disk { IsErrOf result DiskFault
             → IsFaultCountedWithCause (counts self.old) (counts self.new) }
         // Ok is returned only if no fault was counted.
         ensures kept { OnOk result (CountsNoNewFault (counts self.old) (counts self.new)) }
-        // Out of memory is no fault of the tree.
+        // The error "out of memory" is returned only if no fault was counted.
         ensures memory { IsErrOf result Memory
             → CountsNoNewFault (counts self.old) (counts self.new) }
-        // No call is a misuse.
+        // The call is no misuse: each state allows it.
         ensures proper { (counts self.new).misuses ≡ (counts self.old).misuses }
-        // What is returned, if the history is observable.
+        // The result has exactly the present names below the folder, if the history is observable.
         ensures value { IfOk result (λ names.
             IfObservable (history self.old) (λ v. IsSortedListingOfFolder folder.now v names)) }
-        // In any case these are names below the folder, in byte order, each once.
+        // Even if it is not observable, the result has valid names below the folder, in byte order.
         ensures order { IfOk result (λ names. AreSortedNamesBelowFolder folder.now names) };
 
     /// Asks, before a change is committed, whether the tree could later rename a file from the
-    /// source to the name, or, without a source, remove the name. The source need not exist yet. A
-    /// fault says that the tree can never do so. No call is a misuse: conflicts with other files
+    /// source to the name, or, without a source, remove the name. The source need not exist yet. An
+    /// error says that the tree can never do so. No call is a misuse: conflicts with other files
     /// are not checked here. Missing folders may be made, since an empty folder is no part of a
     /// state.
     fn check_target(&mut self, name: &Name, source: Option<&Name>) -> Result<(), Disk>
         // The history is unchanged.
         ensures same { history self.new ≡ history self.old }
-        // How the counts change, and which states allow the call.
+        // How the counts change; each state allows the call, so that it is no misuse.
         ensures counts { IsCounted IsAlwaysAllowed (history self.old) (counts self.old)
             (counts self.new) result }
-        // Ok is returned only if the tree accepts the target.
+        // Ok is returned only if the tree accepts a rename from the source to the name, or, without
+        // a source, a removal of the name.
         ensures accepted { OnOk result (accepts (option_copied source.entry) name.now) };
 
-    /// Each state that is observable is whole: its names are names, finitely many, none a folder of
-    /// another, and each leads to a file that was made, of fewer than 2^64 bytes.
+    /// The proof that each state of the history is well formed: its names are valid, finitely many,
+    /// none is a folder of another, and each leads to a file that was made, of fewer than 2^64
+    /// bytes.
     ghost whole: { (tree : Self) → All IsWellFormed (history tree) };
 }
 
@@ -224,13 +232,13 @@ pub fn read_all<T: Tree>(
     Ok(Some(bytes))
 }
 
-/// How many bytes one call reads at most: 128 KiB. The buffer is filled with zeros first; with this
-/// limit they are still in the processor's cache when the file's bytes replace them. Any number
-/// above 0 is correct.
+/// How many bytes one call of `read_at` reads at most: 128 KiB. The buffer is filled with zeros
+/// first. With this limit, the zeros are still in the processor's cache when the file's bytes
+/// replace them. Any number above 0 would be correct.
 const LONGEST_READ: u64 = 131_072;
 
-/// Appends a whole file of the given length to the bytes. The tree is unchanged, whatever is
-/// returned. No memory is allocated if there is room for the file.
+/// Appends a whole file, which has `size` bytes, to `bytes`. The tree is unchanged, whatever is
+/// returned. No memory is allocated if `bytes` has room for the file.
 ///
 /// # Errors
 ///
@@ -245,7 +253,7 @@ pub fn append_file_to<T: Tree>(
     // If the tree is observable, the file has this length.
     requires { IfObservable (T.history tree.old) (λ v.
         Some size ≡ option_map length (files_of v name.now)) }
-    // On Ok, the bytes of the whole file are added at the end.
+    // On Ok, the bytes of the whole file are added at the end of `bytes`.
     ensures added { OnOk result (AppendsReadBytes (T.history tree.old) name.now 0 size
         bytes.old.items bytes.new.items) }
     // The tree is only read: no file changes, no I/O error is hidden, and no call is a misuse.
@@ -262,7 +270,7 @@ pub fn append_file_to<T: Tree>(
     Ok(())
 }
 
-/// Appends this many bytes of a file, from an offset on, to the bytes, by one call.
+/// Appends `len` bytes of a file, from the offset `at` on, to `bytes`, by one call of `read_at`.
 fn read_some<T: Tree>(
     tree: &mut T,
     name: &Name,
@@ -272,13 +280,14 @@ fn read_some<T: Tree>(
 ) -> Result<(), TreeFault>
     // If the tree is observable, the file exists and has these bytes.
     requires { IfObservable (T.history tree.old) (CanRead name.now at len) }
-    // On Ok, the bytes of the file from the offset on are added at the end.
+    // On Ok, these bytes of the file are added at the end of `bytes`.
     ensures added { OnOk result (AppendsReadBytes (T.history tree.old) name.now at len
         bytes.old.items bytes.new.items) }
     // The tree is only read: no file changes, no I/O error is hidden, and no call is a misuse.
     ensures tree { OnlyReads TreeFault.Disk (T.history tree.old) (T.history tree.new)
         (T.counts tree.old) (T.counts tree.new) result }
 {
+    // The room for the read bytes in `bytes`: from `start` to `end`.
     let start = bytes.len();
     let Some(end) = start.checked_add(len as usize) else {
         return Err(TreeFault::Memory);

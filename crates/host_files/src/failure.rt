@@ -1,11 +1,12 @@
-//! Why a call on the host fails, and what the program prints of it. The rules are in
-//! `docs/commands.md`, "A fault of the tree".
+//! Why a call on the host fails, and the line that the program prints of the first failed call. The
+//! rules are in `docs/commands.md`, "A fault of the tree".
 
 use std::alloc::{AllocError, Global};
 use std::io;
 use std::io::{ErrorKind, Write};
 
-/// A reason of this program for a failed call.
+/// A reason, in the program's own words, why a call fails. Other errors of the host are printed
+/// with the host's text.
 #[derive(Clone, Copy)]
 pub enum Reason {
     /// A path is a symbolic link, which is never followed.
@@ -28,7 +29,7 @@ pub enum Reason {
     LostWrite,
     /// Another run of this program works in the folder.
     Locked,
-    /// The lock's folder cannot be made, so that nothing is written.
+    /// The folder of the lock cannot be made, so that this run may not write.
     NoLockFolder,
     /// Both names of a rename are the same.
     SameName,
@@ -65,14 +66,14 @@ impl Reason {
 pub enum HostFault {
     /// The program or the host was out of memory.
     Memory,
-    /// An error of the host, and the path `at` that it concerns, if this is not the path of the
-    /// call.
+    /// An error of the host, and the path `at` that the error concerns, if this is not the path of
+    /// the call.
     Host {
         error: io::Error,
         at: Option<Vec<u8>>,
     },
-    /// A reason of this program, and the path `at` that it concerns, if this is not the path of the
-    /// call.
+    /// A reason of this program, and the path `at` that the reason concerns, if this is not the
+    /// path of the call.
     Own {
         reason: Reason,
         at: Option<Vec<u8>>,
@@ -124,7 +125,7 @@ impl From<io::Error> for HostFault {
     }
 }
 
-/// The call that failed first, the paths that it was given, and why it failed.
+/// The first call on the tree that failed, the paths that this call was given, and why it failed.
 #[derive(Drop)]
 pub struct Failure {
     // The name of the call that is printed, such as `rename`.
@@ -209,6 +210,7 @@ impl Failure {
 /// Prints a path. Bytes that would act on a terminal, those below 0x20 and 0x7f, are printed as
 /// `\x` and two digits.
 pub fn write_path<W: Write>(path: &[u8], to: &mut W) -> io::Result<()> {
+    // Each part of the path ends with such a byte, except perhaps the last one.
     for piece in path.split_inclusive(|byte| acts_on_terminal(*byte)) {
         match piece.split_last() {
             Some((last, before)) if acts_on_terminal(*last) => {
@@ -230,6 +232,7 @@ fn acts_on_terminal(byte: u8) -> bool {
 fn hex_digit(n: u8) -> u8 {
     match n {
         0..=9 => b'0' + n,
+        // 10 is `a`, 11 is `b`, and so on.
         _ => (b'a' - 10).wrapping_add(n),
     }
 }

@@ -46,7 +46,7 @@ impl LookedAt {
         }
     }
 
-    /// Whether metadata of the host, of an open file, is that of this same regular file.
+    /// Whether the host's metadata of an open file belongs to this regular file.
     pub fn is(&self, data: &Metadata) -> bool {
         data.is_file() && data.dev() == self.device && data.ino() == self.number
     }
@@ -59,9 +59,9 @@ impl Found {
     }
 }
 
-/// What is at `path`, which the host finds under `host_path`. A symbolic link is not followed: it
-/// is a fault, as is anything else that is neither a regular file nor a folder. At a path with a
-/// name that is too long for the host there is nothing.
+/// What is at `path`; `host_path` is the path, perhaps a shorter one, that is given to the host for
+/// it. A symbolic link is not followed. The link is a fault, as is anything else that is neither a
+/// regular file nor a folder. If a name in the path is too long for the host, nothing is there.
 pub fn look<R: Files>(
     rt: &R,
     alloc: Global,
@@ -74,13 +74,13 @@ pub fn look<R: Files>(
     }
 }
 
-/// What is at a path at which a file is to be written. This is as in `look`, but a name that is too
-/// long for the host is a fault.
+/// What is at a path at which a file is to be written. The result is that of `look`, but a name
+/// that is too long for the host is a fault.
 pub fn look_to_write<R: Files>(rt: &R, alloc: Global, path: &[u8]) -> Result<Found, HostFault> {
     found_of(alloc, path, fs::symlink_metadata(rt, path_text(path)?))
 }
 
-/// What is at a path, given the host's metadata of it, or its error.
+/// What is at a path, given the host's metadata of the path, or the host's error.
 fn found_of(alloc: Global, path: &[u8], looked: io::Result<Metadata>) -> Result<Found, HostFault> {
     let data = match looked {
         Ok(data) => data,
@@ -101,7 +101,7 @@ fn found_of(alloc: Global, path: &[u8], looked: io::Result<Metadata>) -> Result<
     Err(HostFault::at(alloc, reason, path))
 }
 
-/// Whether two metadata of the host are of the same file or folder.
+/// Whether two metadata of the host belong to the same file or folder.
 pub fn is_same(a: &Metadata, b: &Metadata) -> bool {
     a.dev() == b.dev() && a.ino() == b.ino()
 }
@@ -127,7 +127,7 @@ pub fn parent_of(path: &[u8]) -> &[u8] {
     }
 }
 
-/// The last part of a path, after its folder.
+/// The last part of a path: what follows its last slash.
 pub fn last_part_of(path: &[u8]) -> &[u8] {
     match path.iter().rposition(|byte| *byte == b'/') {
         Some(end) => &path[end + 1..],

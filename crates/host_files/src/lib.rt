@@ -22,7 +22,7 @@ use std::fs::{File, Files};
 use std::io::Eprint;
 use std::time::Clock;
 
-/// The required parts of a runtime: files, a clock, standard error, and memory.
+/// The parts of a runtime that these crates need: files, a clock, standard error, and memory.
 pub trait Host: Files<File = File> + Clock + Eprint + AllocGlobal + Clone + Drop {}
 
 impl<R: Files<File = File> + Clock + Eprint + AllocGlobal + Clone + Drop> Host for R {}

@@ -1,5 +1,6 @@
-//! The folder of the last paths that were used, and shorter paths to its files if it is deep. The
-//! rules are in `docs/crash-safety.md`, "What the host's tree does", the point of a deep folder.
+//! The folder that contains the paths that were used last, and shorter paths to its files if the
+//! folder is deep. The rules are in `docs/crash-safety.md`, "What the host's tree does", the first
+//! two points of the part "Folders".
 
 use super::Host;
 use super::failure::HostFault;
@@ -9,14 +10,14 @@ use std::fs;
 use std::fs::{File, OpenFile};
 use std::os::fd::AsRawFd;
 
-/// The number of folders above a file from which on the file is reached through its open folder.
-/// With fewer folders, the host resolves the path itself as fast.
+/// If a file has at least this many folders above it, the host gets a path through its open folder.
+/// With fewer folders, the host resolves the whole path as fast.
 const DEEP: usize = 32;
 
 /// After this many paths in a row in one folder, the folder is opened.
 const PATHS_IN_A_ROW: u32 = 4;
 
-/// The folder that has the last paths that were used. The root is the empty path.
+/// The folder that contains the paths that were used last. The root is the empty path.
 #[derive(Drop)]
 pub struct LastFolder {
     // The path of the folder.
@@ -42,8 +43,8 @@ impl LastFolder {
         self.path.as_slice() == path
     }
 
-    /// The path by which the host finds `path`, which is in this folder: shorter if the folder is
-    /// open. It counts as one more path in a row.
+    /// The path that is given to the host for `path`, which is in this folder: a shorter path if
+    /// the folder is open. The call counts as one more path in a row.
     pub fn host_path<'b, R: Host>(
         &'b mut self,
         rt: &R,
@@ -71,15 +72,16 @@ fn is_deep(folder: &[u8]) -> bool {
 struct OpenFolder {
     // The open folder, which stays open as long as the path is used.
     _file: File,
-    // The short path of the folder with its slash, followed by the last part that was asked for.
+    // The short path of the folder with a slash, followed by the last part of the path that was
+    // used last.
     path: Vec<u8>,
     // The length of the short path of the folder with its slash, in bytes.
     folder_len: usize,
 }
 
 impl OpenFolder {
-    /// Opens a folder. Returns None if that fails, or if its short path does not lead to it: then
-    /// the path itself is used.
+    /// Opens a folder. Returns None if that fails, or if its path or its short path does not lead
+    /// to the open folder. The host then gets the paths of files themselves.
     fn open<R: Host>(
         rt: &R,
         alloc: Global,
@@ -88,6 +90,7 @@ impl OpenFolder {
         let Ok(file) = fs::open(rt, path_text(folder)?) else {
             return Ok(None);
         };
+        // The number of the open folder (its file descriptor), which is part of the short path.
         let number = file.as_raw_fd();
         let path = format!(in alloc; "/proc/self/fd/{number}/")?;
         if !leads_to(rt, path.as_str(), &file) || !leads_to(rt, path_text(folder)?, &file) {
@@ -109,7 +112,8 @@ impl OpenFolder {
     }
 }
 
-/// Whether an open file is the file at a path, without following a symbolic link.
+/// Whether an open file or folder is the one at a path. A symbolic link at the path is not
+/// followed.
 fn leads_to<R: Host>(rt: &R, path: &str, file: &File) -> bool {
     match (fs::symlink_metadata(rt, path), file.metadata()) {
         (Ok(found), Ok(opened)) => is_same(&found, &opened),

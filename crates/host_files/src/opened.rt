@@ -11,8 +11,7 @@ use std::fs::{File, OpenOptions};
 use std::io::{ErrorKind, Read, Seek, SeekFrom, Write};
 use std::os::unix::fs::OpenOptionsExt;
 
-/// An open file, with the path under which it was opened, its length, and the offset of the next
-/// read, if that is known.
+/// An open file of the host, which stays open between calls of the tree.
 #[derive(Drop)]
 pub struct Opened {
     // The path under which the file was opened.
@@ -46,12 +45,12 @@ impl Opened {
         })
     }
 
-    /// Makes an empty file at a path, and opens it to append to it. Anything at the path is a
-    /// fault.
+    /// Makes an empty file at a path, and opens the file for appending. Anything that is at the
+    /// path already is a fault.
     pub fn make<R: Host>(rt: &R, alloc: Global, path: &[u8]) -> Result<Opened, HostFault> {
         let copy = Vec::from_slice(alloc, path)?;
-        let mut how = OpenOptions::new();
-        let file = how
+        let mut options = OpenOptions::new();
+        let file = options
             .append(true)
             .create_new(true)
             .mode(FILE_MODE)
@@ -64,12 +63,13 @@ impl Opened {
         })
     }
 
-    /// Fills the buffer with the bytes of the file from the offset `at` on. A file that is too
-    /// short for this is a fault.
+    /// Fills the buffer `into` with the bytes of the file from the offset `at` on. A file that is
+    /// too short for this is a fault.
     pub fn fill(&mut self, at: u64, into: &mut [u8]) -> Result<(), HostFault> {
         if at > self.len || into.len() as u64 > self.len - at {
             return Err(HostFault::own(Reason::EndsEarly));
         }
+        // If the last read did not end at this offset, the host is told where to read.
         if self.at != Some(at) {
             self.file.seek(SeekFrom::Start(at))?;
         }
@@ -88,14 +88,14 @@ impl Opened {
         }
     }
 
-    /// Appends a piece to the file. After a fault, the file may end with a prefix of the piece.
+    /// Appends the bytes `piece` to the file. After a fault, the file may end with some of them.
     pub fn add(&mut self, piece: &[u8]) -> Result<(), HostFault> {
         self.file.write_all(piece)?;
         self.len = self.len.saturating_add(piece.len() as u64);
         Ok(())
     }
 
-    /// Cuts off what a failed `add` has written. Returns whether that succeeded.
+    /// Cuts off the bytes that a failed call of `add` has written. Returns whether that succeeded.
     pub fn cut_back(&mut self) -> bool {
         self.file.set_len(self.len).is_ok()
     }
@@ -106,7 +106,7 @@ impl Opened {
     }
 }
 
-/// Whether `slot` has the open file of this path.
+/// Whether `slot` has an open file that was opened under this path.
 pub fn is_open(slot: &Option<Opened>, path: &[u8]) -> bool {
     match slot {
         Some(opened) => opened.path.as_slice() == path,

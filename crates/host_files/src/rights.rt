@@ -1,6 +1,6 @@
 //! Mode and owner of files: those of new files and folders, and those that a new file takes over
 //! from the file that it replaces. The rules are in `docs/crash-safety.md`, "What the host's tree
-//! does", the point of mode and owner.
+//! does", part "Modes and owners".
 
 use super::failure::HostFault;
 use super::found::path_text;
@@ -54,7 +54,7 @@ impl Rights {
         self.mode & EXECUTE_BITS != 0
     }
 
-    /// Whether user and group of both are equal.
+    /// Whether `self` and `other` have the same user and the same group.
     fn has_owner_of(&self, other: Rights) -> bool {
         self.user == other.user && self.group == other.group
     }
@@ -75,17 +75,18 @@ impl Rights {
         let path = path_text(path)?;
         // The file is opened before its mode changes, since the new mode may not allow to open it.
         let file = open_to_sync(rt, path)?;
+        // Whether the file has the wanted owner now, and which bits of the mode are then set.
         let is_given = self.has_owner_of(wanted) || give_away(rt, path, wanted);
         let kept = if is_given { ALL_BITS } else { RIGHTS_BITS };
-        // A file system without modes refuses this. It then has no mode to set, so the error is
+        // A file system without modes refuses this. Its files have no mode to set, so the error is
         // ignored.
         let _ = fs::set_permissions(rt, path, Permissions::from_mode(wanted.mode & kept));
         Ok(file.sync_all()?)
     }
 }
 
-/// Opens a file to sync it. If an umask has left even the owner no right to read it, the owner
-/// first gets the rights to read and write.
+/// Opens a file in order to sync it. If its mode does not let even the owner read it, as an umask
+/// may cause, the file first gets the mode 600.
 fn open_to_sync<R: Files>(rt: &R, path: &str) -> io::Result<R::File> {
     match fs::open(rt, path) {
         Err(e) if e.kind() == ErrorKind::PermissionDenied => {
@@ -96,8 +97,8 @@ fn open_to_sync<R: Files>(rt: &R, path: &str) -> io::Result<R::File> {
     }
 }
 
-/// Sets the owner and the group of a file, or the group alone if the caller may not set the owner.
-/// Returns whether both were set.
+/// Sets the user and the group of a file to the wanted ones, or the group alone if the caller may
+/// not set the user. Returns whether both were set.
 fn give_away<R: Files>(rt: &R, path: &str, wanted: Rights) -> bool {
     if lchown(rt, path, Some(wanted.user), Some(wanted.group)).is_ok() {
         return true;

@@ -1,6 +1,6 @@
 //! The folders below the root: finds and makes the folders above a file, removes folders without
-//! files, and syncs the folders in which names changed. The rules are in `docs/crash-safety.md`,
-//! "What the host's tree does".
+//! files, and syncs the folders in which names changed. `root` and `targets` use it. The rules are
+//! in `docs/crash-safety.md`, "What the host's tree does", parts "Folders" and "Syncs".
 
 use host_files::{
     FOLDER_MODE, Found, Host, HostFault, LastFolder, Reason, look, parent_of, path_text,
@@ -20,12 +20,13 @@ pub struct Folders {
     alloc: Global,
     // The folders that this run has found or made.
     known: BTreeSet<Vec<u8>>,
-    // The folder of the previous path, which is a known folder or the root. If it is deep, it may
-    // be held open, for shorter paths to its files.
+    // The folder of the path that was used last, which is a known folder or the root. If this
+    // folder is deep, it may be open, so that the host gets shorter paths to its files.
     last: LastFolder,
-    // The folders in which names changed, or will change, and that must still be synced.
+    // The noted folders: names in them changed or will change, and the next sync of the names syncs
+    // them.
     changed: BTreeSet<Vec<u8>>,
-    // The folders for which `note_way` has noted all folders above them.
+    // The folders that `note_way` has noted together with all folders above them.
     ways: BTreeSet<Vec<u8>>,
 }
 
@@ -41,7 +42,7 @@ impl Folders {
         }
     }
 
-    /// Whether each part of a path before the last one is a folder that exists.
+    /// Whether all folders above a path exist. Those that are found are then known.
     pub fn ensure_folders<R: Files>(&mut self, rt: &R, path: &[u8]) -> Result<bool, HostFault> {
         Ok(self.deepest_known_folder(rt, path)? == parent_of(path))
     }
@@ -56,6 +57,7 @@ impl Folders {
         if self.knows_folders(path)? {
             return Ok(parent_of(path));
         }
+        // The deepest folder found so far. Each slash of the path ends the path of a folder.
         let mut folder: &'p [u8] = &[];
         for (i, byte) in path.iter().enumerate() {
             if *byte == b'/' {
@@ -68,7 +70,7 @@ impl Folders {
         Ok(folder)
     }
 
-    /// What is at a path: nothing if a part of the path before the last one is no folder.
+    /// What is at a path: nothing if a folder above the path is missing.
     pub fn find<R: Host>(&mut self, rt: &R, path: &[u8]) -> Result<Found, HostFault> {
         if !self.ensure_folders(rt, path)? {
             return Ok(Found::Nothing);
@@ -77,8 +79,8 @@ impl Folders {
         look(rt, alloc, path, self.host_path(rt, path)?)
     }
 
-    /// A path as the host is given it: the path itself, or a shorter one if its folder is the
-    /// folder of the previous path and is held open.
+    /// The path that is given to the host for `path`: a shorter path if the folder of `path` is the
+    /// one that was used last and is open, else `path` itself.
     pub fn host_path<'b, R: Host>(
         &'b mut self,
         rt: &R,
@@ -109,8 +111,8 @@ impl Folders {
         keep(self.alloc, &mut self.known, folder)
     }
 
-    /// Notes a folder in which names will change: the next sync of the names syncs it. It is noted
-    /// before its names change, so that no change is left unsynced.
+    /// Notes a folder in which names will change, so that the next sync of the names syncs it. A
+    /// folder is noted before its names change, so that no change is left unsynced.
     pub fn note(&mut self, folder: &[u8]) -> Result<(), HostFault> {
         if self.changed.contains(folder) {
             return Ok(());
@@ -118,9 +120,11 @@ impl Folders {
         keep(self.alloc, &mut self.changed, folder)
     }
 
-    /// Notes the root and each existing folder above a path for the next sync of the names, once
-    /// per run: an earlier run may have changed names in them and not synced them.
+    /// Notes the root and each existing folder above a path for the next sync of the names, since
+    /// an earlier run may have changed names in them without syncing them. For paths in the same
+    /// folder this is done once.
     pub fn note_way<R: Files>(&mut self, rt: &R, path: &[u8]) -> Result<(), HostFault> {
+        // The folder that contains the path.
         let around = parent_of(path);
         if self.ways.contains(around) {
             return Ok(());
@@ -137,8 +141,8 @@ impl Folders {
         keep(self.alloc, &mut self.ways, around)
     }
 
-    /// Makes the path of a file free: creates the folders on the way to it, and removes an empty
-    /// folder at it. Returns what was found at the path.
+    /// Prepares a path for a file: makes the missing folders above the path, and removes a folder
+    /// at the path if only folders are below it. Returns what was found at the path.
     pub fn make_room<R: Host>(&mut self, rt: &R, path: &[u8]) -> Result<Found, HostFault> {
         self.make_missing_folders(rt, path)?;
         let found = look_at(rt, self.alloc, path)?;
@@ -152,6 +156,7 @@ impl Folders {
     /// but folders below it, this is a fault, and nothing is removed.
     fn remove_folders_at<R: Host>(&mut self, rt: &R, path: &[u8]) -> Result<(), HostFault> {
         let folders = empty_tree(rt, self.alloc, path)?;
+        // In reverse order, each folder is removed after the folders in it.
         for folder in folders.iter().rev() {
             self.remove_empty(rt, folder)?;
         }
@@ -167,7 +172,7 @@ impl Folders {
     }
 
     /// Removes the empty folders above a path whose file was removed, the deepest first, and never
-    /// the root. It ends at the first folder that is not empty.
+    /// the root. The removal ends at the first folder that is not empty.
     pub fn prune<R: Files>(&mut self, rt: &R, path: &[u8]) -> Result<(), HostFault> {
         for i in (0..path.len()).rev() {
             if path[i] == b'/' && !self.remove_if_empty(rt, &path[..i])? {
@@ -186,8 +191,8 @@ impl Folders {
         Ok(())
     }
 
-    /// Whether the folder of a path is known. If it is, it is remembered as the folder of the
-    /// previous path.
+    /// Whether the folder that contains a path is known, or is the root. If so, it becomes the
+    /// folder that was used last.
     fn knows_folders(&mut self, path: &[u8]) -> Result<bool, HostFault> {
         let folder = parent_of(path);
         if self.last.is(folder) {
@@ -212,7 +217,8 @@ impl Folders {
         Ok(true)
     }
 
-    /// Makes a folder if it is absent, and notes its parent for the next sync of the names.
+    /// Makes a folder if it is absent; its parent is noted before for the next sync of the names. A
+    /// file at the path of the folder is a fault.
     fn make_if_absent<R: Files>(&mut self, rt: &R, folder: &[u8]) -> Result<(), HostFault> {
         if self.known.contains(folder) {
             return Ok(());
@@ -232,6 +238,7 @@ impl Folders {
 
     /// Removes a folder if it is empty. Returns whether it is absent afterwards.
     fn remove_if_empty<R: Files>(&mut self, rt: &R, folder: &[u8]) -> Result<bool, HostFault> {
+        // The parent of the folder, which is noted before the removal.
         let around = parent_of(folder);
         let was_noted = self.changed.contains(around);
         self.note(around)?;
@@ -244,7 +251,8 @@ impl Folders {
             Err(e) if keeps_folder(e.kind()) => false,
             Err(e) => return Err(e.into()),
         };
-        // No name in the parent changed, so that it is noted only if it was noted before.
+        // No name in the parent (`around`) changed, so the parent stays noted only if it was
+        // before.
         if !was_noted {
             self.changed.remove(around);
         }
@@ -261,12 +269,13 @@ impl Folders {
     }
 }
 
-/// What is at a path, for which the host is given the path itself. A symbolic link is a fault.
+/// What is at a path. The host is given the path itself, not a shorter one. A symbolic link is a
+/// fault.
 pub fn look_at<R: Files>(rt: &R, alloc: Global, path: &[u8]) -> Result<Found, HostFault> {
     look(rt, alloc, path, path_text(path)?)
 }
 
-/// Adds a folder to a set. If out of memory, the set is unchanged.
+/// Adds a folder to a set of folders. If out of memory, the set is unchanged.
 pub fn keep(
     alloc: Global,
     folders: &mut BTreeSet<Vec<u8>>,
@@ -304,8 +313,8 @@ pub enum Contents {
     FoldersAndFiles,
 }
 
-/// Adds the paths of the folders in a folder to `folders`. Anything in it that `contents` does not
-/// allow is a fault.
+/// Adds the paths of the folders directly in `folder` to `folders`. If `folder` contains anything
+/// that `contents` does not allow, this is a fault.
 pub fn push_folders<R: Host>(
     rt: &R,
     alloc: Global,
@@ -326,8 +335,8 @@ pub fn push_folders<R: Host>(
     Ok(())
 }
 
-/// Adds a path to `folders` if there is a folder at it. Otherwise this is a fault, unless
-/// `contents` allows files.
+/// Adds a path to `folders` if a folder is at the path. A regular file at the path is a fault,
+/// unless `contents` allows files.
 fn push_folder<R: Files>(
     rt: &R,
     alloc: Global,
@@ -358,15 +367,15 @@ fn write_folder<R: Files>(rt: &R, folder: &[u8]) -> Result<(), HostFault> {
     Ok(fs::open(rt, path_text(path)?)?.sync_all()?)
 }
 
-/// Whether an error of removing a folder says that there is no such folder: a run that was killed
-/// may have removed it.
+/// Whether this kind of error, of a removal of a folder, says that there is no such folder: a
+/// killed run may have removed it.
 fn is_absent(kind: ErrorKind) -> bool {
     matches!(kind, ErrorKind::NotFound | ErrorKind::NotADirectory)
 }
 
-/// Whether an error of removing a folder says that it is not empty, that it is a mount point, or
-/// that its parent may not be written. The host may report the latter before it tests whether it is
-/// empty.
+/// Whether this kind of error, of a removal of a folder, says that the folder is to stay: it is not
+/// empty, it is a mount point, or the user may not write in its parent. The host may report the
+/// latter before it tests whether the folder is empty.
 fn keeps_folder(kind: ErrorKind) -> bool {
     matches!(
         kind,

@@ -1,7 +1,7 @@
 //! The root, which is the folder that the program runs in: what each call of a tree does on the
-//! host. The last files that were read and written stay open between calls. The rules are in
-//! `docs/crash-safety.md`, "What the host's tree does": the rows of its table, and what follows the
-//! table.
+//! host. `host_tree` makes these calls, and counts those that fail. The file that was read last and
+//! the file that is being written stay open between calls. The rules are in `docs/crash-safety.md`,
+//! "What the host's tree does": the rows of its table, and the parts after the table.
 
 use super::folders::Folders;
 use super::targets::{Targets, check_remove};
@@ -13,16 +13,16 @@ use std::alloc::Global;
 use std::fs;
 use std::fs::OpenOptions;
 
-/// The path of the journal entry, which is there while a committed change is not done
+/// The path of the journal entry. The file exists while a committed change is not completed
 /// (`docs/crash-safety.md`, "A change of several files").
 const INTENT: &[u8] = b"lib/apk/intent";
 
-/// The end of the name under which a new file is written beside a file that the user modified
+/// The last bytes of the path at which a new file is written beside a file that the user modified
 /// (`docs/commands.md`, "What a change does with files").
 const ASIDE_ENDING: &[u8] = b".apk-new";
 
-/// The root. From its first call on it holds a lock on the folder, so that it is the only run of
-/// this program that writes there.
+/// The root, as one run of the program uses it. From the first call on, this run holds a lock on
+/// the root, so that it is the only run that writes there.
 #[derive(Drop)]
 pub struct Root<'a, R: Host> {
     // The runtime, through which the host is called.
@@ -31,11 +31,11 @@ pub struct Root<'a, R: Host> {
     alloc: Global,
     // Which lock the first call takes: shared, or for this run alone.
     lock: Lock,
-    // The lock, while this run holds it.
+    // The lock, while this run holds it; None before the first call and after `leave`.
     held: Option<Held>,
-    // The file that was read last.
+    // The open file that was read last.
     reader: Option<Opened>,
-    // The file that is being written.
+    // The open file that is being written.
     writer: Option<Opened>,
     // The path of the regular file that was found last, with its metadata, unless something was
     // written since.
@@ -44,11 +44,12 @@ pub struct Root<'a, R: Host> {
     folders: Folders,
     // The folders to which the host lets files be renamed, as far as this run has tested them.
     targets: Targets,
-    // Whether this run has found a journal entry (`INTENT`), and has not removed it yet.
+    // Whether this run has found a journal entry (at `INTENT`), and has not removed it yet: then it
+    // is completing the change of an earlier run.
     recovers: bool,
-    // Whether the host once failed to sync, or to cut off a piece that it had written in part. The
-    // host may have dropped what it could not write. A later sync would then succeed without
-    // writing it, so every later sync is an error.
+    // Whether the host has failed to sync, or to cut off bytes that a failed append had written.
+    // The host may have dropped bytes that it could not write. A later sync would then succeed
+    // without writing them, so every later sync of this run is an error.
     has_lost: bool,
     // The target of the last rename, if it is not synced yet.
     maybe_renamed_name: Option<Vec<u8>>,
@@ -82,8 +83,9 @@ impl<'a, R: Host> Root<'a, R> {
         }
     }
 
-    /// Whether there is a journal entry: a change is committed and not done yet, and the next
-    /// command finishes it. False without the lock, since another run may be doing the change.
+    /// Whether there is a journal entry: a change is committed and not completed, and the next
+    /// command that recovers completes it. False if this run does not hold the lock, since another
+    /// run may be making the change.
     pub fn has_unfinished_change(&self) -> bool {
         match path_text(INTENT) {
             Ok(path) => self.held.is_some() && fs::symlink_metadata(self.rt, path).is_ok(),
@@ -91,13 +93,14 @@ impl<'a, R: Host> Root<'a, R> {
         }
     }
 
-    /// Whether this run has found a committed change, and has not finished it yet.
+    /// Whether this run has found the committed change of an earlier run, and has not completed it
+    /// yet.
     pub fn recovers(&self) -> bool {
         self.recovers
     }
 
-    /// Notes the folders above a path: the next sync of the names syncs them even if this run
-    /// changes no name in them.
+    /// Notes the folders above a path, so that the next sync of the names syncs them even if this
+    /// run changes no name in them.
     pub fn note_way(&mut self, path: &[u8]) -> Result<(), HostFault> {
         self.take_lock()?;
         self.folders.note_way(self.rt, path)
@@ -134,8 +137,8 @@ impl<'a, R: Host> Root<'a, R> {
         Ok(())
     }
 
-    /// Takes the lock for a call that writes, or that tests whether the host allows a write. It is
-    /// a fault if the lock does not keep out other runs that write.
+    /// Takes the lock for a call that writes, or that tests whether the host allows a write. If the
+    /// lock does not exclude other runs that write, this is a fault.
     fn take_lock_to_write(&mut self) -> Result<(), HostFault> {
         self.take_lock()?;
         match &self.held {
@@ -149,7 +152,7 @@ impl<'a, R: Host> Root<'a, R> {
         self.take_lock()?;
         match self.folders.find(self.rt, path)? {
             Found::File(looked_at) => {
-                // A journal entry was found, whose change is to be finished.
+                // A journal entry was found: an earlier run did not complete its change.
                 self.recovers |= path == INTENT;
                 self.seen = Some((Vec::from_slice(self.alloc, path)?, looked_at));
                 Ok(Some(looked_at.len))
@@ -158,8 +161,9 @@ impl<'a, R: Host> Root<'a, R> {
         }
     }
 
-    /// The metadata of the regular file at a path: as found by the last call of `length_of`, if
-    /// that was for this path and nothing was written since, or as it is now.
+    /// The metadata of the regular file at a path: as the last call of `length_of` found it, if
+    /// that call was for this path and nothing was written since; otherwise the host is asked. If
+    /// there is no regular file, this is a fault.
     fn look_at(&mut self, path: &[u8]) -> Result<LookedAt, HostFault> {
         if let Some((seen, looked_at)) = &self.seen
             && seen.as_slice() == path
@@ -173,7 +177,7 @@ impl<'a, R: Host> Root<'a, R> {
         }
     }
 
-    /// Fills the buffer with the bytes of the file at a path, from an offset on.
+    /// Fills the buffer `into` with the bytes of the file at a path, from the offset `at` on.
     pub fn fill(&mut self, path: &[u8], at: u64, into: &mut [u8]) -> Result<(), HostFault> {
         self.take_lock()?;
         if !is_open(&self.reader, path) {
@@ -181,6 +185,7 @@ impl<'a, R: Host> Root<'a, R> {
         }
         match &mut self.reader {
             Some(reader) => reader.fill(at, into),
+            // Never the case here: the file was opened above.
             None => Err(HostFault::own(Reason::Nothing)),
         }
     }
@@ -193,8 +198,9 @@ impl<'a, R: Host> Root<'a, R> {
         Ok(())
     }
 
-    /// Makes an empty file at a path, which stays open, and the folders above it. Folders at the
-    /// path are removed if there are only folders below them. Anything else at the path is a fault.
+    /// Makes an empty file at a path, which stays open, and the missing folders above the file. A
+    /// folder at the path is removed if only folders are below it. Anything else at the path is a
+    /// fault.
     pub fn begin(&mut self, path: &[u8]) -> Result<(), HostFault> {
         self.take_lock_to_write()?;
         self.seen = None;
@@ -205,7 +211,8 @@ impl<'a, R: Host> Root<'a, R> {
         Ok(())
     }
 
-    /// The file at a path, open for writing. The lock for a call that writes is taken first.
+    /// The file at a path, open for writing: the file that is being written, or else the file is
+    /// opened. The lock for a call that writes is taken first.
     fn open_to_write(&mut self, path: &[u8]) -> Result<&mut Opened, HostFault> {
         self.take_lock_to_write()?;
         if self.has_lost {
@@ -218,6 +225,7 @@ impl<'a, R: Host> Root<'a, R> {
         self.seen = None;
         match &mut self.writer {
             Some(writer) => Ok(writer),
+            // Never the case here: the file was opened above.
             None => Err(HostFault::own(Reason::Nothing)),
         }
     }
@@ -232,8 +240,8 @@ impl<'a, R: Host> Root<'a, R> {
         Ok(())
     }
 
-    /// Appends a piece to the file at a path. If that fails, the written beginning of the piece is
-    /// cut off again.
+    /// Appends the bytes `piece` to the file at a path. If that fails, those of the bytes that were
+    /// written are cut off again.
     pub fn add(&mut self, path: &[u8], piece: &[u8]) -> Result<(), HostFault> {
         let writer = self.open_to_write(path)?;
         let added = writer.add(piece);
@@ -243,7 +251,7 @@ impl<'a, R: Host> Root<'a, R> {
         added
     }
 
-    /// Syncs the file at a path, and closes it.
+    /// Syncs the file at a path, so that its bytes survive a crash, and closes it.
     pub fn write_file_through(&mut self, path: &[u8]) -> Result<(), HostFault> {
         let written = self.open_to_write(path)?.write_through();
         self.has_lost = written.is_err();
@@ -251,13 +259,15 @@ impl<'a, R: Host> Root<'a, R> {
         written
     }
 
-    /// Renames the file at `from` to `to`, in one call of the host. Folders without files at `to`
-    /// are removed first. The file first gets the mode and the owner of the file that it replaces.
+    /// Renames the file at `from` to `to`, in one call of the host. A folder at `to` is removed
+    /// first if only folders are below it. The renamed file first gets the mode and the owner of
+    /// the file that it replaces.
     pub fn move_file(&mut self, from: &[u8], to: &[u8]) -> Result<(), HostFault> {
         self.take_lock_to_write()?;
         if from == to {
             return Err(HostFault::own(Reason::SameName));
         }
+        // The metadata of the file that is renamed, and what is at its new path.
         let moved = self.look_at(from)?;
         self.forget(from);
         self.forget(to);
@@ -266,15 +276,17 @@ impl<'a, R: Host> Root<'a, R> {
         // Names change in both folders, so both are noted for the next sync.
         self.folders.note(parent_of(from))?;
         self.folders.note(parent_of(to))?;
+        // The new name is copied before the rename, so that nothing fails after it.
         let target = Vec::from_slice(self.alloc, to)?;
         rename_path(self.rt, from, to)?;
         self.maybe_renamed_name = Some(target);
         Ok(())
     }
 
-    /// Gives the file at `from` the mode and the owner of the file `replaced`, or of `PATH` if `to`
-    /// is `PATH.apk-new`. If they are equal already, they were synced with the file's bytes, unless
-    /// an earlier run that was killed has set them.
+    /// Gives the file at `from` (its metadata is `moved`) the mode and the owner of the file that
+    /// it replaces (`replaced`), or of the file at `PATH` if `to` is `PATH.apk-new`. If they are
+    /// equal already, nothing is set, except in a recovery: a killed run may have set but not
+    /// synced them.
     fn keep_rights(
         &mut self,
         from: &[u8],
@@ -282,16 +294,19 @@ impl<'a, R: Host> Root<'a, R> {
         to: &[u8],
         replaced: Found,
     ) -> Result<(), HostFault> {
+        // The file at `PATH` if the new path is `PATH.apk-new`.
         let beside = match to.strip_suffix(ASIDE_ENDING) {
             Some(beside) => self.folders.find(self.rt, beside)?,
             None => Found::Nothing,
         };
+        // The file whose mode and owner are taken over; without such a file, nothing is set.
         let ((Found::File(model), _) | (_, Found::File(model))) = (beside, replaced) else {
             return Ok(());
         };
         if moved.rights == model.rights && !self.recovers {
             return Ok(());
         }
+        // If the mode and the owner were not synced, no later sync is trusted.
         let kept = moved.rights.change_to(self.rt, from, model.rights);
         self.has_lost |= kept.is_err();
         kept
@@ -309,9 +324,9 @@ impl<'a, R: Host> Root<'a, R> {
         }
     }
 
-    /// Removes the file at a path, if there is one, and then each empty folder above it. If this
-    /// run recovers, these folders are removed even if there is no file: an earlier run that was
-    /// killed may have removed the file and not the folders.
+    /// Removes the file at a path, if there is one, and then the folders above the path that have
+    /// become empty. If this run recovers, these folders are removed even if there is no file: a
+    /// killed run may have removed the file and not the folders.
     pub fn remove_file_at(&mut self, path: &[u8]) -> Result<(), HostFault> {
         self.take_lock_to_write()?;
         if self.length_of(path)?.is_none() {
@@ -328,7 +343,8 @@ impl<'a, R: Host> Root<'a, R> {
         self.folders.prune(self.rt, path)
     }
 
-    /// Syncs the folders in which names changed since their last sync.
+    /// Syncs the noted folders, in which names changed since the last such call or may have
+    /// changed.
     pub fn write_names_through(&mut self) -> Result<(), HostFault> {
         self.take_lock_to_write()?;
         if self.has_lost {

@@ -16,12 +16,13 @@ use std::os::unix::fs::MetadataExt;
 /// allows.
 const PROBE: &[u8] = b".apk-probe";
 
-/// The folders to which the host lets a file be renamed, as far as this run has tested them.
+/// The folders to which the host lets a file be renamed, as far as this run has tested them. Each
+/// pair of folders is tested once.
 #[derive(Drop)]
 pub struct Targets {
     // Where memory is taken.
     alloc: Global,
-    // The folder from which files were renamed in the tests so far.
+    // The deepest existing folder above the `source` of the tests so far.
     source: Vec<u8>,
     // The folders whose test succeeded: the host renamed the probe between them and `source`.
     asked: BTreeSet<Vec<u8>>,
@@ -49,13 +50,16 @@ impl Targets {
         if is_reserved(path) {
             return Err(HostFault::own(Reason::Reserved));
         }
+        // The deepest existing folder above the path.
         let folder = folders.deepest_known_folder(rt, path)?;
         if folder == parent_of(path) {
             check_place(rt, self.alloc, path)?;
         } else {
+            // The rest of the path, whose folders do not exist.
             let absent = path.strip_prefix(folder).unwrap_or(path);
             check_parts(rt, self.alloc, folder, absent)?;
         }
+        // The deepest existing folder above the file that will be renamed.
         let source = folders.deepest_known_folder(rt, source)?;
         self.check_folder(rt, folder, source)
     }
@@ -69,6 +73,7 @@ impl Targets {
         folder: &[u8],
         source: &[u8],
     ) -> Result<(), HostFault> {
+        // The tests of another source folder do not count for this one.
         if self.source.as_slice() != source {
             self.source = Vec::from_slice(self.alloc, source)?;
             self.asked.clear();
@@ -76,6 +81,7 @@ impl Targets {
         if self.asked.contains(folder) {
             return Ok(());
         }
+        // The paths of the probe before and after its rename.
         let probe = below(self.alloc, folder, PROBE)?;
         let moved = below(self.alloc, source, PROBE)?;
         make_probe(rt, &probe)?;
@@ -88,8 +94,8 @@ impl Targets {
     }
 }
 
-/// Whether a path is, or is below, a path that the program itself uses: the folder of the lock, or
-/// the probe.
+/// Whether a path is reserved for the program: it is in the lock's folder or is this folder, or one
+/// of its parts is the name of the probe.
 fn is_reserved(path: &[u8]) -> bool {
     for (i, part) in path.split(is_slash).enumerate() {
         if part == PROBE || (i == 0 && part == LOCK_FOLDER.as_bytes()) {
@@ -104,8 +110,8 @@ fn is_slash(byte: &u8) -> bool {
     *byte == b'/'
 }
 
-/// Tests whether the host allows names as long as these parts of a path. `parts` is what follows
-/// the existing folder `folder` in the path.
+/// Tests whether the host allows names as long as each of these parts of a path. `parts` is what
+/// follows the existing folder `folder` in the path; each part is looked up in this folder.
 fn check_parts<R: Files>(
     rt: &R,
     alloc: Global,
@@ -125,8 +131,8 @@ fn check_parts<R: Files>(
 }
 
 /// Tests whether the host allows a name as long as the last part of a path, and whether a file can
-/// replace what is there: a regular file that may be removed, or folders. Regular files below these
-/// folders are no fault of this test.
+/// replace what is at the path: a regular file that may be removed, or a folder. Regular files
+/// below this folder are no fault of this test.
 fn check_place<R: Host>(rt: &R, alloc: Global, path: &[u8]) -> Result<(), HostFault> {
     match look_to_write(rt, alloc, path)? {
         Found::Nothing => Ok(()),
@@ -151,12 +157,13 @@ pub fn check_remove<R: Host>(
     }
 }
 
-/// Tests whether the host will let the regular file at a path be removed or replaced. It is called
-/// to remove a folder at this path: it tests the rights on the file and on its folder first, and
-/// then reports that there is no folder.
+/// Tests whether the host will let the regular file at a path be removed or replaced. The test asks
+/// the host to remove a folder at this path. The host first checks the user's rights, and then
+/// refuses since the file is no folder; so the file is not removed.
 fn check_removal<R: Files>(rt: &R, path: &[u8]) -> Result<(), HostFault> {
     match fs::remove_dir(rt, path_text(path)?) {
         Ok(()) => Ok(()),
+        // The rights suffice: the host refuses only since the file is no folder.
         Err(e) if e.kind() == ErrorKind::NotADirectory => Ok(()),
         Err(e) => Err(e.into()),
     }
@@ -165,8 +172,9 @@ fn check_removal<R: Files>(rt: &R, path: &[u8]) -> Result<(), HostFault> {
 /// Tests whether a file can replace the folder at a path: this folder and all below it are on the
 /// file system of their parent, and contain only folders and regular files.
 fn check_folders_below<R: Host>(rt: &R, alloc: Global, path: &[u8]) -> Result<(), HostFault> {
-    // The device of the parent.
+    // The device (file system) of the parent.
     let around = device_of(rt, parent_of(path))?;
+    // The folders that are still to be tested.
     let mut folders = Vec::new(alloc);
     push(alloc, &mut folders, path)?;
     // The loop ends when no folder is left; the bound shows the checker that it ends.
@@ -201,7 +209,8 @@ fn make_probe<R: Files>(rt: &R, probe: &[u8]) -> Result<(), HostFault> {
     }
 }
 
-/// Renames the probe. If that fails, the probe is removed.
+/// Renames the probe from the path `probe` to the path `moved`. If that fails, the probe is
+/// removed.
 fn rename_probe<R: Files>(rt: &R, probe: &[u8], moved: &[u8]) -> Result<(), HostFault> {
     let Err(e) = fs::rename(rt, path_text(probe)?, path_text(moved)?) else {
         return Ok(());
@@ -213,7 +222,8 @@ fn rename_probe<R: Files>(rt: &R, probe: &[u8], moved: &[u8]) -> Result<(), Host
     Err(e.into())
 }
 
-/// The path of the part `part` in a folder. The root is the empty path.
+/// The path of a file or folder in `folder`, given the last part of its path. The root is the empty
+/// path.
 fn below(alloc: Global, folder: &[u8], part: &[u8]) -> Result<Vec<u8>, HostFault> {
     let mut path = Vec::from_slice(alloc, folder)?;
     if !folder.is_empty() {

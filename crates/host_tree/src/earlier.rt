@@ -5,7 +5,7 @@ use host_root::{Host, HostFault, Root};
 use journal_intent::{PreparedIntent, ReadFault, intent_name};
 use std::alloc::Global;
 
-/// A path in the staging area. All folders that the journal uses are above it.
+/// The path of a file in the staging area. All folders that the journal uses are above this path.
 const STAGED: &[u8] = b"lib/apk/stage/0";
 
 /// Notes folders for the next sync of the names, which then also syncs what earlier runs changed:
@@ -16,6 +16,7 @@ pub(crate) fn note_earlier_changes<R: Host>(
     alloc: Global,
 ) -> Result<(), HostFault> {
     root.note_way(STAGED)?;
+    // Without an unfinished change there are no further folders.
     if !root.recovers() {
         return Ok(());
     }
@@ -31,8 +32,8 @@ pub(crate) fn note_earlier_changes<R: Host>(
     Ok(())
 }
 
-/// The journal entry of the root, or None if there is none, or if its file is no valid entry, which
-/// recovery refuses.
+/// The journal entry of the root. None if there is no journal entry, or if its file is no valid
+/// entry; then recovery refuses the file.
 fn read_intent<R: Host>(
     root: &mut Root<'_, R>,
     alloc: Global,
@@ -45,6 +46,7 @@ fn read_intent<R: Host>(
     root.fill(name.as_bytes(), 0, &mut file)?;
     match PreparedIntent::of_file(alloc, file) {
         Ok(intent) => Ok(Some(intent)),
+        // The file is no valid journal entry.
         Err(ReadFault::Bad(_)) => Ok(None),
         Err(ReadFault::Memory) => Err(HostFault::Memory),
     }

@@ -1,5 +1,5 @@
-//! The folder that a program runs in, as a `Tree`: each call is made on the host, and its faults
-//! are counted.
+//! The folder that the program runs in, as a `Tree`: each call is made on the host (by
+//! `host_root`), and the calls that fail are counted.
 //!
 //! This crate is trusted: no contract can say what a host does. Read it against the table in
 //! `docs/crash-safety.md`, "What the host's tree does".
@@ -21,8 +21,8 @@ use std::alloc::Global;
 /// The folder that the program runs in. Its files are not observable; each call that returns a
 /// fault counts it.
 ///
-/// A symbolic link, as a name or on the way to it, is never followed and is a fault, and so is what
-/// is neither a regular file nor a folder.
+/// A symbolic link at a name, or in place of a folder above the name, is never followed and is a
+/// fault. So is anything else at a name that is neither a regular file nor a folder.
 #[derive(Drop)]
 pub struct HostTree<'a, R: Host> {
     /// Where memory is taken.
@@ -33,10 +33,11 @@ pub struct HostTree<'a, R: Host> {
     faults: u64,
     /// The first failure, for the line after `ERROR: the tree failed`.
     failure: Option<Failure>,
-    /// Whether those folders are noted for the next sync in which an earlier run may have changed
-    /// names without syncing them.
+    /// Whether the folders in which an earlier run may have changed names without a sync are noted,
+    /// so that the next sync of the names syncs them.
     has_noted_earlier_changes: bool,
-    /// Whether the last list with names left out that a file is executable or a folder is empty.
+    /// Whether there was an executable file or an empty folder below the folder that was listed
+    /// last with at least one name. A listing does not show this, so `main` prints a warning.
     has_omitted: bool,
 }
 
@@ -68,13 +69,14 @@ impl<'a, R: Host> HostTree<'a, R> {
         self.root.maybe_renamed_name()
     }
 
-    /// Whether a change is committed and not done yet: the next command completes it.
+    /// Whether a change is committed and not completed: the next command that recovers completes
+    /// it.
     pub fn has_unfinished_change(&self) -> bool {
         self.root.has_unfinished_change()
     }
 
-    /// Whether the last list with names since the last call of this function left out that a file
-    /// is executable or that a folder is empty (`docs/commands.md`, "Warnings").
+    /// Whether the last listing with at least one name, since the last call of this function, left
+    /// out that a file is executable or that a folder is empty (`docs/commands.md`, "Warnings").
     pub fn take_omitted(&mut self) -> bool
         // No fault is counted.
         ensures faults { self.new.faults ≡ self.old.faults }
@@ -105,8 +107,8 @@ impl<'a, R: Host> HostTree<'a, R> {
         self.root.write_names_through()
     }
 
-    /// Counts a fault, and remembers the failure, if it is the first: the call, its path, and the
-    /// other path of a rename.
+    /// Counts a failed call, and remembers the first failure: the name of the call, its path, and
+    /// the second path of a rename (`target`).
     fn note_failure(
         &mut self,
         call: &'static str,
@@ -126,7 +128,8 @@ impl<'a, R: Host> HostTree<'a, R> {
         Disk
     }
 
-    /// The result of a call on a name. An error is counted as a fault, also if it is out of memory.
+    /// The result of a call on a name, given the answer of `host_root`. An error is counted as a
+    /// fault, also if it is a lack of memory.
     fn note_answer<T>(
         &mut self,
         call: &'static str,
@@ -160,7 +163,7 @@ impl<'a, R: Host> Tree for HostTree<'a, R> {
     // The proof that each state of the history is well formed: the history has no state.
     ghost whole = { λ tree. All-nil IsWellFormed };
 
-    // No statement is made about which files the host accepts under which names.
+    // True of each source and each name: nothing is claimed of which renames the host accepts.
     ghost accepts = { λ source name. Unit {0} };
 
     // The number of bytes of the file under a name, or None if there is none.
@@ -169,7 +172,7 @@ impl<'a, R: Host> Tree for HostTree<'a, R> {
         self.note_answer("look at", name, answer)
     }
 
-    // Fills the buffer with the bytes of a file from an offset on.
+    // Fills the buffer `into` with the bytes of a file from the offset `at` on.
     fn read_at(&mut self, name: &Name, at: u64, into: &mut [u8]) -> Result<(), Disk> {
         let answer = self.root.fill(name.as_bytes(), at, into);
         self.note_answer("read", name, answer)
@@ -181,7 +184,7 @@ impl<'a, R: Host> Tree for HostTree<'a, R> {
         self.note_answer("create", name, answer)
     }
 
-    // Appends a piece to a file.
+    // Appends the bytes `piece` to a file.
     fn append(&mut self, name: &Name, piece: &[u8]) -> Result<(), Disk> {
         let answer = self.root.add(name.as_bytes(), piece);
         self.note_answer("write", name, answer)
@@ -203,7 +206,7 @@ impl<'a, R: Host> Tree for HostTree<'a, R> {
         }
     }
 
-    // Removes a name; an absent one changes nothing.
+    // Removes a name; if the name is absent, nothing changes.
     fn remove(&mut self, name: &Name) -> Result<(), Disk> {
         let answer = self.root.remove_file_at(name.as_bytes());
         self.note_answer("remove", name, answer)
@@ -220,6 +223,7 @@ impl<'a, R: Host> Tree for HostTree<'a, R> {
     // The names of all files below a folder. If there is no memory for the result, this is no fault
     // of the tree.
     fn list(&mut self, alloc: Global, folder: &Name) -> Result<Names, TreeFault> {
+        // Whether there is an executable file or an empty folder, which a listing does not show.
         let mut has_omitted = false;
         match list_below(&mut self.root, alloc, folder, &mut has_omitted) {
             Ok(names) => {

@@ -24,6 +24,7 @@ pub fn list_below<R: Host>(
     ensures { IfOk result (AreSortedNamesBelowFolder folder.now) }
 {
     root.take_lock()?;
+    // The list of folders begins with the given folder, if it exists.
     let mut walk = Walk {
         alloc,
         folders: Vec::new(alloc),
@@ -55,8 +56,8 @@ struct Walk {
 }
 
 impl Walk {
-    /// Adds the files and folders in `folder`, which is the folder `top` of the list or below it.
-    /// Sets `has_omitted` if it is empty, or has an executable file.
+    /// Adds the files and folders directly in `folder`, which is `top`, the folder that is listed,
+    /// or is below it. Sets `has_omitted` if `folder` is empty, or has an executable file.
     fn visit<R: Host>(
         &mut self,
         root: &mut Root<'_, R>,
@@ -81,8 +82,8 @@ impl Walk {
         Ok(())
     }
 
-    /// Adds the file or folder at a path. A path that is no name of a file is a fault, which limits
-    /// the depth; so is a path that is not below the top folder.
+    /// Adds the file or folder at a path. A path that is no valid name is a fault; so the depth is
+    /// limited. A path that is not below the top folder is a fault too.
     fn meet<R: Host>(
         &mut self,
         root: &mut Root<'_, R>,
@@ -102,6 +103,7 @@ impl Walk {
             return Err(HostFault::at(self.alloc, Reason::NoName, path));
         }
         match root.find(path)? {
+            // The folder is visited later.
             Found::Folder => Ok(keep(&mut self.folders, name)?),
             Found::File(file) => {
                 if file.rights.may_execute() {
@@ -109,6 +111,7 @@ impl Walk {
                 }
                 Ok(keep(&mut self.files, name)?)
             }
+            // The entry was removed since the folder was read.
             Found::Nothing => Ok(()),
         }
     }
@@ -128,7 +131,8 @@ impl Walk {
     }
 }
 
-/// The names of a sorted list, each once: of equal names, which are adjacent, one is left.
+/// The names of a sorted list, each once: of equal names, which are next to each other in the list,
+/// the first is kept.
 fn each_once(alloc: Global, sorted: Vec<Name>) -> Result<Names, AllocError>
     // The list is sorted in byte order.
     requires { IsSorted (slice_cmp nat_cmp) sorted.items }
@@ -139,6 +143,7 @@ fn each_once(alloc: Global, sorted: Vec<Name>) -> Result<Names, AllocError>
 {
     let mut names = Names::new(alloc);
     for name in sorted {
+        // This name equals the one before it.
         if is_last(&names, &name) {
             continue;
         }

@@ -1,4 +1,4 @@
--- The names of the files of a root that the package keeper reads and writes (apk(8), apk-world(5)). The
+-- The names of the files of a root that `apk` reads and writes (apk(8), apk-world(5)). The
 -- rule is in `docs/apk.8.md`, "FILES".
 use Rattle.std.specs.Prelude.{ℕ, List, codes}
 
@@ -6,8 +6,7 @@ use Rattle.std.specs.Prelude.{ℕ, List, codes}
 abbrev pub database_name : List ℕ
 database_name = codes "lib/apk/db/installed.adb"
 
--- the name of the text database of version 2 of apk-tools, which is imported if there is no other
--- database
+-- the name of the text database of version 2 of apk-tools, which is taken over if there is no other database
 abbrev pub text_database_name : List ℕ
 text_database_name = codes "lib/apk/db/installed"
 

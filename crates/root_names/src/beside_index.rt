@@ -7,7 +7,8 @@ ghost use Rattle.std.specs.Prelude.{◌≡◌, IfOk};
 use base_core::Name;
 use std::alloc::{AllocError, Global};
 
-/// The name of the file of a package beside an index, or None if its path is no name.
+/// The name of the file of the package `name` in this version, in the folder of the index. None if
+/// the path is no valid name.
 pub fn package_file_beside(
     alloc: Global,
     index: &Name,
@@ -21,7 +22,8 @@ pub fn package_file_beside(
     Name::read(alloc, &path)
 }
 
-/// The path of the file of a package beside an index: the index's folder, and `NAME-VERSION.apk`.
+/// The path of the file of the package `name` in this version: the folder of the index, followed by
+/// `NAME-VERSION.apk`.
 pub fn package_path(
     alloc: Global,
     index: &[u8],
@@ -38,10 +40,11 @@ pub fn package_path(
     Ok(path)
 }
 
-/// A path up to its last `/`, with that; nothing of a path without one.
+/// The folder of a path: its bytes up to the last `/`, with this `/`; empty if there is none.
 fn folder_prefix_of(path: &[u8]) -> &[u8]
     ensures { result.now ≡ folder_prefix_of path.now }
 {
+    // The number of bytes up to the last `/` so far.
     let mut end = 0;
     for (i, byte) in path.iter().enumerate() {
         if *byte == b'/' {

@@ -1,4 +1,4 @@
-//! The names of the files of a root that the package keeper reads and writes: its database, the
+//! The names of the files of a root that `apk` reads and writes: its database, the
 //! text database of version 2, world and the list of repositories. `RootNames` of `specs/` has
 //! them. `PackagePath` has the path of a package's file, beside the index that has the package.
 //!

@@ -9,8 +9,8 @@ use row_text::{NamedFile, Step};
 use std::alloc::{AllocError, Global};
 use tree_memory::{MemorySink, MemoryTree};
 
-/// Compares what a run of a command line printed and left with all that the row expects of it.
-/// `before` is the tree that the command line found.
+/// Compares what a run of a command line printed and left with all that the row expects of this
+/// command line. `before` is the tree that the command line found.
 pub fn check_run<P: Program>(
     alloc: Global,
     program: &P,
@@ -71,21 +71,22 @@ fn check_files<P: Program>(
     before: &MemoryTree,
     after: &MemoryTree,
 ) -> Result<(), RowFault> {
-    // The files that were there before, and those that are there now.
+    // The files that existed before the command line, and those that exist after it.
     for tree in [before, after] {
         let names = tree.names(alloc)?;
         for i in 0..names.len() {
             check_file(alloc, program, step, before, after, names.get(i))?;
         }
     }
+    // The paths for which the row has a line `then`, since a file may be absent there.
     for file in &step.files {
         check_file(alloc, program, step, before, after, &file.name)?;
     }
     Ok(())
 }
 
-/// Checks one file after a command line: if the row has no line `then` for it, it has to be as
-/// before the command line.
+/// Checks the file of a name after a command line: it has to be as the row's line `then` for this
+/// name says, or, without such a line, as before the command line.
 fn check_file<P: Program>(
     alloc: Global,
     program: &P,
@@ -94,12 +95,14 @@ fn check_file<P: Program>(
     after: &MemoryTree,
     name: &Name,
 ) -> Result<(), RowFault> {
-    // The bytes that the file has to have; None if it has to be absent.
+    // The bytes that the file has to have; None if the file has to be absent.
     let wanted = match wanted_file(step, name) {
+        // The row has a line `then` for this name.
         Some(file) => match &file.content {
             Some(content) => Some(bytes_of(alloc, program, content)?),
             None => None,
         },
+        // Otherwise the file has to be as before the command line.
         None => match before.file(name) {
             Some(bytes) => Some(Vec::from_slice(alloc, bytes)?),
             None => None,
@@ -115,13 +118,14 @@ fn check_file<P: Program>(
     }
 }
 
-/// The fault of a row in which a file differs from the expected one, and how it differs.
+/// The fault of a row in which a file differs from what is expected. `what` says how it differs.
 fn file_differs(alloc: Global, line: u64, name: &Name, what: &[u8]) -> Result<(), RowFault> {
     let pieces: [&[u8]; 2] = [name.as_bytes(), what];
     Err(differs(alloc, line, &pieces))
 }
 
-/// What the row expects of a file after a command line (`then`), or None if it says nothing of it.
+/// What the row expects at a path after a command line (a line `then`), or None if the row has no
+/// such line for the path.
 fn wanted_file<'a>(step: &'a Step, name: &Name) -> Option<&'a NamedFile> {
     for file in &step.files {
         if file.name.as_bytes() == name.as_bytes() {
@@ -137,6 +141,7 @@ fn check_names(alloc: Global, step: &Step, tree: &MemoryTree) -> Result<(), RowF
         return Ok(());
     };
     let names = tree.names(alloc)?;
+    // Each file of the tree has to be in the row's list.
     for i in 0..names.len() {
         let name = names.get(i);
         if !wanted
@@ -146,6 +151,7 @@ fn check_names(alloc: Global, step: &Step, tree: &MemoryTree) -> Result<(), RowF
             return file_differs(alloc, step.line, name, b" is a name");
         }
     }
+    // Each name in the row's list has to be that of a file of the tree.
     for name in wanted {
         if tree.file(name).is_none() {
             return file_differs(alloc, step.line, name, b" is no name");
@@ -154,7 +160,7 @@ fn check_names(alloc: Global, step: &Step, tree: &MemoryTree) -> Result<(), RowF
     Ok(())
 }
 
-/// Checks that each image that a crash may leave of a tree has the files of the tree.
+/// Checks that each crash image of the tree that a run left has the same files as this tree.
 pub fn check_images(alloc: Global, step: &Step, tree: &MemoryTree) -> Result<(), RowFault> {
     for choice in 0..images_of(tree) {
         let image = tree.pick_image(alloc, choice)?;
@@ -179,8 +185,8 @@ pub trait Program {
         err: &mut MemorySink,
     ) -> u8;
 
-    /// Recovers a tree: finishes the change that a stopped run left committed. Returns whether that
-    /// succeeded.
+    /// Recovers a tree: completes or discards the change of an earlier run that was stopped.
+    /// Returns whether that succeeded.
     fn recover(&self, alloc: Global, tree: &mut MemoryTree) -> bool;
 
     /// The container that is written of a dump text, or None if the text is no dump text.
@@ -190,12 +196,12 @@ pub trait Program {
 /// The results of a run that ended: the tree that it left, its exit status and what it printed.
 #[derive(Drop)]
 pub struct Run {
-    /// The tree that it left, with its counts of calls.
+    /// The tree that the run left, with the counts of its calls.
     pub tree: MemoryTree,
-    /// Its exit status.
+    /// The exit status of the run.
     pub status: u8,
-    /// What it printed on standard output.
+    /// What the run printed on standard output.
     pub out: MemorySink,
-    /// What it printed on standard error.
+    /// What the run printed on standard error.
     pub err: MemorySink,
 }

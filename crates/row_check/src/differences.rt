@@ -31,8 +31,8 @@ impl<T: Drop> From<AllocFailed<T>> for RowFault {
     }
 }
 
-/// The fault of a row: a report that begins with the number of a line of the text of rows, and then
-/// has these pieces.
+/// The fault of a row, with its report: `line`, a number of a line of the text of rows, and then
+/// the texts `pieces`.
 pub fn differs(alloc: Global, line: u64, pieces: &[&[u8]]) -> RowFault {
     match difference(alloc, line, pieces) {
         Ok(text) => RowFault::Differs(text),
@@ -40,8 +40,8 @@ pub fn differs(alloc: Global, line: u64, pieces: &[&[u8]]) -> RowFault {
     }
 }
 
-/// The report of a difference: the number of the line of the text of rows that states the
-/// expectation, and then these pieces.
+/// The report of a difference: `line N: `, where line N of the text of rows has the command line or
+/// the row, and then the texts `pieces`.
 fn difference(alloc: Global, line: u64, pieces: &[&[u8]]) -> Result<Vec<u8>, AllocError> {
     let mut text = Vec::from_slice(alloc, b"line ")?;
     add_number(alloc, &mut text, line)?;
@@ -65,8 +65,9 @@ pub fn digits(alloc: Global, number: u64) -> Result<Vec<u8>, AllocError> {
     Ok(text)
 }
 
-/// Compares two texts. If they differ, the first byte that differs is reported, counted from 0,
-/// with `what`, the name of the text, and `line`, the line that states the expectation.
+/// Compares a text that was found with the wanted one. If they differ, the report has `line`, the
+/// line of the text of rows, `what`, the name of the text, and the index, from 0, of the first byte
+/// that differs.
 pub fn compare(
     alloc: Global,
     line: u64,
@@ -77,6 +78,7 @@ pub fn compare(
     if found == wanted {
         return Ok(());
     }
+    // The index of the first byte that differs, and its decimal digits.
     let at = first_difference(found, wanted);
     let place = digits(alloc, at as u64)?;
     // The report shows both texts around the first byte that differs.
@@ -94,11 +96,12 @@ pub fn compare(
     Err(differs(alloc, line, &pieces))
 }
 
-/// The index of the first byte that differs, counted from 0, or the length of the shorter text.
+/// The index of the first byte in which two texts differ, counted from 0. If one text begins with
+/// the other, it is the length of the shorter text.
 fn first_difference(found: &[u8], wanted: &[u8]) -> usize {
     let mut at = 0usize;
-    for (one, other) in found.iter().zip(wanted.iter()) {
-        if *one != *other {
+    for (found_byte, wanted_byte) in found.iter().zip(wanted.iter()) {
+        if *found_byte != *wanted_byte {
             return at;
         }
         at = at.saturating_add(1);
@@ -106,8 +109,8 @@ fn first_difference(found: &[u8], wanted: &[u8]) -> usize {
     at
 }
 
-/// Compares two numbers. If they differ, both are reported, with `what`, the name of the number,
-/// and `line`, the line that states the expectation.
+/// Compares a number that was found with the wanted one. If they differ, the report has `line`, the
+/// line of the text of rows, `what`, the name of the number, and both numbers.
 pub fn compare_numbers(
     alloc: Global,
     line: u64,
@@ -124,7 +127,7 @@ pub fn compare_numbers(
     Err(differs(alloc, line, &pieces))
 }
 
-/// The bytes of a text around the index `at`, between quotes, for a report.
+/// The bytes of a text around the index `at`, between quotation marks, for a report.
 fn shown(alloc: Global, text: &[u8], at: usize) -> Result<Vec<u8>, AllocError> {
     let mut out = Vec::new(alloc);
     out.push(b'"')?;
@@ -135,8 +138,8 @@ fn shown(alloc: Global, text: &[u8], at: usize) -> Result<Vec<u8>, AllocError> {
     Ok(out)
 }
 
-/// Adds a byte as a person can read it: a line end, and what is not printed in ASCII, with a
-/// backslash.
+/// Adds a byte in a form that can be read: a line end as `\n`, and any other byte outside of
+/// printable ASCII as `\x` and two digits.
 fn add_escaped(alloc: Global, out: &mut Vec<u8>, byte: u8) -> Result<(), AllocError> {
     match byte {
         b'\n' => out.extend_from_slice(b"\\n"),

@@ -1,6 +1,6 @@
-//! Crash images: each image of a tree is recovered, twice, and compared with the files before and
-//! after a command line. The rules are in `tests/rows.md`, "What goes wrong": the paragraphs on
-//! images and on the two sides.
+//! Crash images: each crash image of a tree is recovered, twice, and compared with the files before
+//! and after a command line. The rules are in `tests/rows.md`, "What goes wrong" and "Crash images
+//! and repetitions".
 use crate::check::Program;
 use crate::differences::{RowFault, differs, digits};
 use crate::start::{are_alike, are_equal, copy_of};
@@ -8,23 +8,23 @@ use row_text::Step;
 use std::alloc::{AllocError, Global};
 use tree_memory::MemoryTree;
 
-/// The two sides of a command line: the files that it finds and those that it leaves, both
-/// recovered.
+/// The two sides of a command line: the files that the command line finds, and those that it leaves
+/// if nothing fails, both after a recovery.
 #[derive(Drop)]
 pub struct Sides {
-    /// The files that the command line finds.
+    /// The files that the command line finds (the old files).
     pub before: MemoryTree,
-    /// The files that the command line leaves.
+    /// The files that the command line leaves (the new files).
     pub after: MemoryTree,
 }
 
-/// Whether recovered files are those before a command line or those after it. If the command line
-/// changes nothing, they can be both.
+/// Which side of a command line the recovered files of a tree are. If the command line changes
+/// nothing, they can be both sides.
 #[derive(Clone, Copy)]
 pub struct Found {
-    /// They are the files that the command line finds.
+    /// The files are those that the command line finds.
     pub before: bool,
-    /// They are the files that the command line leaves.
+    /// The files are those that the command line leaves.
     pub after: bool,
 }
 
@@ -50,8 +50,8 @@ impl Sides {
         Ok(are_alike(alloc, &self.before, &self.after)?)
     }
 
-    /// Whether the files of a tree, after a recovery, are those that the command line finds or
-    /// those that it leaves. If they are neither, this is reported; `where_found` names the tree.
+    /// Which side of the command line the files of a tree, after a recovery, are. If they are
+    /// neither side, the row fails; `where_found` names the tree in the report.
     pub fn find<P: Program>(
         &self,
         alloc: Global,
@@ -72,8 +72,8 @@ impl Sides {
         Err(differs(alloc, step.line, &[where_found, what]))
     }
 
-    /// Checks that each image that a crash may leave of a tree has, after a recovery, the files
-    /// that the command line leaves.
+    /// Checks that each crash image of a tree has, after a recovery, the files that the command
+    /// line leaves.
     pub fn check_images<P: Program>(
         &self,
         alloc: Global,
@@ -96,15 +96,15 @@ impl Sides {
     }
 }
 
-/// How many images of a tree are checked: three for each number that picks a map of names, one for
-/// each content of the unsynced files (`docs/crash-safety.md`, "Images of the tree in memory": as
-/// read, no bytes, or bytes of value 255).
+/// How many crash images of a tree are checked: for each map of names that a number picks, three
+/// images, in which unsynced files have their bytes as read, no bytes, or bytes of value 255
+/// (`docs/crash-safety.md`, "Images of the tree in memory").
 pub fn images_of(tree: &MemoryTree) -> u64 {
     tree.picks().saturating_mul(3)
 }
 
-/// The image of a tree that a number picks, or None if it is the image of the same map of names
-/// with all files as read, which a smaller number picks.
+/// The crash image of a tree that the number `choice` picks. None if this image equals the one with
+/// the same map of names and all files as read, which a smaller number picks.
 pub fn new_image(
     alloc: Global,
     tree: &MemoryTree,
@@ -116,6 +116,7 @@ pub fn new_image(
     if picks == 0 || choice < picks {
         return Ok(Some(image));
     }
+    // The image with the same map of names, and all files as read.
     let as_read = tree.pick_image(alloc, choice % picks)?;
     if are_equal(alloc, &image, &as_read)? {
         return Ok(None);
@@ -131,6 +132,7 @@ fn recovered<P: Program>(
     tree: MemoryTree,
 ) -> Result<MemoryTree, RowFault> {
     let mut tree = tree;
+    // `first` is the tree after the first of two recoveries.
     let went_well = program.recover(alloc, &mut tree);
     let first = copy_of(alloc, &tree)?;
     let went_well = went_well && program.recover(alloc, &mut tree);

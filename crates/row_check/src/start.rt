@@ -1,5 +1,5 @@
-//! Trees in memory: the tree that a row begins with, copies, and comparisons. The rules are in
-//! `tests/rows.md`, "Lines": `from`, `file`, and what a command line begins on.
+//! Trees in memory: the tree that a row begins with, copies of trees, and comparisons of two trees.
+//! The rules are in `tests/rows.md`, "Lines": the lines `from` and `file`, and the last paragraph.
 use crate::check::Program;
 use crate::differences::{RowFault, differs};
 use base_core::Name;
@@ -58,7 +58,8 @@ fn put<P: Program>(
     Ok(())
 }
 
-/// The bytes of a content: its bytes, or those of the container that is written of its dump text.
+/// The bytes of a content of a row: the bytes that the row gives, or those of the container that
+/// the program writes of the dump text. If the text is no dump text, the row fails.
 pub fn bytes_of<P: Program>(
     alloc: Global,
     program: &P,
@@ -97,7 +98,7 @@ pub fn are_equal(alloc: Global, one: &MemoryTree, other: &MemoryTree) -> Result<
     Ok(has_all_of(alloc, one, other, true)? && has_all_of(alloc, other, one, true)?)
 }
 
-/// Whether a tree has all files of another, with the same bytes. `with_scratch` says whether files
+/// Whether `tree` has each file of `other`, with the same bytes. `with_scratch` says whether files
 /// under scratch names count.
 fn has_all_of(
     alloc: Global,
@@ -108,6 +109,7 @@ fn has_all_of(
     let names = other.names(alloc)?;
     for i in 0..names.len() {
         let name = names.get(i);
+        // Whether the file of this name is compared.
         let counts = with_scratch || !is_scratch(name);
         if counts && tree.file(name) != other.file(name) {
             return Ok(false);

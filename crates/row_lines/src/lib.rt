@@ -50,9 +50,11 @@ fn run_lines<S: Subject>(
     text: &[u8],
     report: &mut Vec<u8>,
 ) -> Result<bool, AllocError> {
+    // How many rows were run, and how many of them failed.
     let mut rows = 0u64;
     let mut failed = 0u64;
     for line in text.split(|byte| *byte == b'\n') {
+        // Empty lines and comments are no rows.
         if !line.is_empty() && !line.starts_with(b"#") {
             rows = rows.saturating_add(1);
             if !run_line(alloc, subject, line, report)? {
@@ -67,7 +69,8 @@ fn run_lines<S: Subject>(
     Ok(failed == 0)
 }
 
-/// Runs the row of a line, and returns whether it passes. If it fails, it is reported.
+/// Runs the row of a line, and returns whether the row passes. If it fails, the row and the answer
+/// are added to the report.
 fn run_line<S: Subject>(
     alloc: Global,
     subject: &mut S,
@@ -78,6 +81,7 @@ fn run_line<S: Subject>(
         add_failure(report, line, b"no row")?;
         return Ok(false);
     };
+    // The words of the question, and the expected answer, both without escapes.
     let words = words_of(alloc, question)?;
     let wanted = bytes_of(alloc, wanted)?;
     let mut answer = Vec::new(alloc);
@@ -120,7 +124,7 @@ pub fn add_yes_or_no(text: &mut Vec<u8>, holds: bool) -> Result<(), AllocError> 
     text.extend_from_slice(if holds { b"yes" } else { b"no" })
 }
 
-/// Adds a word to a text, and a space before it if the text is not empty.
+/// Adds a word to a text, and a space before the word if the text is not empty.
 pub fn add_word(text: &mut Vec<u8>, word: &[u8]) -> Result<(), AllocError> {
     if !text.is_empty() {
         text.push(b' ')?;
@@ -128,7 +132,7 @@ pub fn add_word(text: &mut Vec<u8>, word: &[u8]) -> Result<(), AllocError> {
     text.extend_from_slice(word)
 }
 
-/// Adds a word `NAME=BYTES` to a text, and a space before it if the text is not empty.
+/// Adds a word `NAME=BYTES` to a text, and a space before the word if the text is not empty.
 pub fn add_named(text: &mut Vec<u8>, name: &[u8], bytes: &[u8]) -> Result<(), AllocError> {
     add_word(text, name)?;
     text.push(b'=')?;

@@ -29,7 +29,7 @@ pub fn word_at(words: &Words, i: usize) -> &[u8] {
     b""
 }
 
-/// The words from the index `first` on, counted from 0.
+/// A copy of the words from the index `first` on, counted from 0.
 pub fn words_behind(alloc: Global, words: &Words, first: usize) -> Result<Words, AllocError> {
     let mut rest = Words::new(alloc);
     for i in first..words.len() {
@@ -40,7 +40,8 @@ pub fn words_behind(alloc: Global, words: &Words, first: usize) -> Result<Words,
     Ok(rest)
 }
 
-/// The value that a table has for a word, or None if the table does not have the word.
+/// The value that a table of pairs (a word and its value) has for this word, or None if the table
+/// does not have the word.
 pub fn value_named<T: Copy>(table: &[(&[u8], T)], word: &[u8]) -> Option<T> {
     for (name, value) in table {
         if *name == word {
@@ -50,8 +51,8 @@ pub fn value_named<T: Copy>(table: &[(&[u8], T)], word: &[u8]) -> Option<T> {
     None
 }
 
-/// The number that a word is, in decimal digits, or in hexadecimal digits after `0x`. None if it is
-/// no such number.
+/// The number that a word gives in decimal digits, or in hexadecimal digits after `0x`. None if the
+/// word is no such number.
 pub fn number_of(word: &[u8]) -> Option<u128> {
     match word.strip_prefix(b"0x") {
         Some(digits) => number_in(digits, 16),
@@ -59,8 +60,8 @@ pub fn number_of(word: &[u8]) -> Option<u128> {
     }
 }
 
-/// The number that digits are in a base. None if there are no digits, if a byte is no digit of the
-/// base, or if the number has more than 128 bits.
+/// The number that digits form in the base `base`. None if there are no digits, if a byte is no
+/// digit of the base, or if the number has more than 128 bits.
 fn number_in(digits: &[u8], base: u8) -> Option<u128> {
     if digits.is_empty() {
         return None;
@@ -78,7 +79,7 @@ fn number_in(digits: &[u8], base: u8) -> Option<u128> {
     Some(number)
 }
 
-/// What the next byte of a text belongs to: no escape, or an escape that has begun.
+/// Which part of an escape, if any, the next byte of a text belongs to.
 #[derive(Clone, Copy)]
 enum Place {
     /// No escape has begun.
@@ -98,7 +99,7 @@ enum Place {
 struct Unescaped {
     /// The denoted bytes so far.
     bytes: Vec<u8>,
-    /// What the next byte of the text belongs to.
+    /// Which part of an escape, if any, the next byte of the text belongs to.
     place: Place,
 }
 
@@ -143,7 +144,7 @@ impl Unescaped {
         }
     }
 
-    /// Repeats the last byte, so that it is there `times` times in all.
+    /// Repeats the last byte, so that the bytes end with it `times` times, and ends the escape.
     fn repeat(&mut self, times: usize) -> Result<(), AllocError> {
         match self.bytes.pop() {
             Some(byte) => self.add_times(times, byte),

@@ -16,9 +16,10 @@ use std::alloc::{AllocError, Global};
 use std::marker::PhantomData;
 use tree_memory::MemoryTree;
 
-/// The front (header and first block) of the package in a file, or None if the package is bad. The
-/// file is put into a tree in memory, from which the front is read.
+/// The front (header and first block) of the package with the bytes `file`, or None if the package
+/// is bad. The bytes are put into a tree in memory as a file, from which the front is read.
 pub fn front_of(alloc: Global, file: &[u8]) -> Result<Option<Front>, AllocError> {
+    // The name of the file in the tree; any name would do.
     let Some(name) = Name::read(alloc, b"p")? else {
         return Ok(None);
     };
@@ -90,8 +91,10 @@ fn add_contents<'a>(
     Ok(true)
 }
 
-/// The name of a package that is read in pieces. `_mark` is as in `name_at`.
+/// The name of a package that is read in pieces. `_mark` names the type of the view in the
+/// signature, which only the borrow checker needs.
 fn name_of<'a>(contents: &Contents<'a>, _mark: PhantomData<PackageView<'a>>) -> &'a [u8]
+    // The result is the name of this package.
     ensures { result.now ≡ package_name (value_of_contents contents.now) }
 {
     let info = contents.view().info();

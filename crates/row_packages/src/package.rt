@@ -8,8 +8,8 @@
 //! - `h:` and the id, which is empty after a bare `h:`; all packages without an `h:` have the same
 //!   id.
 //!
-//! The README of `solver_tests` has the same form; the fields are those of `docs/formats.md`,
-//! "Schemas", table 3, but the numbers here count from 0.
+//! The README of `solver_tests` describes the same form. The fields are those of `docs/formats.md`,
+//! "Schemas", table 3 (package information); their numbers count from 0 here.
 use crate::row::number_of;
 use adb_view::Val;
 use adb_write::Writer;
@@ -28,8 +28,8 @@ enum Form {
     Bytes,
 }
 
-/// For the prefix of a part: the number of its field in the table of package information, counted
-/// from 0, and how the value of the field is written.
+/// For each prefix of a part: the number, counted from 0, of its field in the package information,
+/// and how the value of the field is written.
 const FIELDS: [(&[u8], (usize, Form)); 5] = [
     // Depends.
     (b"d:", (14, Form::Dependencies)),
@@ -60,13 +60,14 @@ pub(crate) fn index_payload(alloc: Global, text: &[u8]) -> Result<Vec<u8>, Alloc
     }
 }
 
-// Adds a package to a list, as often as its text says (`N*` before it).
+// Adds the package of a text to a list, as often as the text says by `N*` at its start (else once).
 fn add_packages(
     alloc: Global,
     writer: &mut Writer,
     packages: &mut Vec<Val>,
     part: &[u8],
 ) -> Result<(), AllocError> {
+    // How often the package is added, and the text of the package.
     let (count, text) = match part.iter().position(|byte| *byte == b'*') {
         Some(at) => (number_of(&part[..at]), &part[at + 1..]),
         None => (1, part),
@@ -81,8 +82,9 @@ fn add_packages(
     Ok(())
 }
 
-// The value of a package, or null if the text has no name. It has the first 18 fields, counted from
-// 0: 0 is the name, 1 the version, and 2 the id, which is always the same if the text has none.
+// The value of the information of a package, or null if the text has no name. It has the first 18
+// fields: field 0 is the name, 1 the version, and 2 the id, which is the same for all texts without
+// one.
 fn package_value(alloc: Global, writer: &mut Writer, part: &[u8]) -> Result<Val, AllocError> {
     let mut fields = [Val::of(0); 18];
     if part.is_empty() {
@@ -99,15 +101,17 @@ fn package_value(alloc: Global, writer: &mut Writer, part: &[u8]) -> Result<Val,
     writer.obj(&fields)
 }
 
-// Writes a field of a package; a word without a known prefix is its name and version.
+// Writes the field of a package that a word gives. A word without a known prefix gives the name and
+// the version.
 fn add_field(
     alloc: Global,
     writer: &mut Writer,
     fields: &mut [Val; 18],
     word: &[u8],
 ) -> Result<(), AllocError> {
-    let (front, rest) = word.split_at(word.len().min(2));
-    let Some((place, form)) = value_named(&FIELDS, front) else {
+    // The prefix of the word, such as `d:`, and what follows it; then the number of the field.
+    let (prefix, rest) = word.split_at(word.len().min(2));
+    let Some((place, form)) = value_named(&FIELDS, prefix) else {
         return add_name(writer, fields, word);
     };
     let value = value_of(alloc, writer, form, rest)?;
@@ -173,6 +177,7 @@ fn version_value(writer: &mut Writer, dep: &Dep<'_>) -> Result<Val, AllocError> 
 // "Dependencies").
 fn matching_value(writer: &mut Writer, dep: &Dep<'_>) -> Result<Val, AllocError> {
     let bits = u64::from(dep.op.bits());
+    // By whether the dependency is a conflict, and whether it has a version.
     let number = match (dep.conflict, dep.version.is_some()) {
         (false, false) => 0,
         (false, true) => bits,

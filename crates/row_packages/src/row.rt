@@ -1,5 +1,5 @@
 //! A row of the tests of the solver: the packages to choose from, world, and the names that a
-//! command upgrades. It borrows its text. The lines are in the README of `solver_tests`.
+//! command upgrades. A row borrows its text. The README of `solver_tests` describes the lines.
 use crate::package::index_payload;
 use std::alloc::{AllocError, Global};
 
@@ -15,7 +15,7 @@ pub struct Repository<'t> {
     pub payload: Vec<u8>,
 }
 
-/// A row: what the lines between one line that begins a row and the next one say.
+/// A row: what its lines say, from the line that begins the row up to the next such line.
 #[derive(Drop)]
 pub struct Row<'t> {
     /// The name of the row.
@@ -48,6 +48,7 @@ impl<'t> Row<'t> {
     /// Adds a repository with the packages of a text. The text may begin with `@TAG`, the tag of
     /// the repository, or with `/N`, its number.
     pub fn add_repository(&mut self, alloc: Global, text: &'t [u8]) -> Result<(), AllocError> {
+        // The number of the repository unless the text states one, and the first word of the text.
         let next = (self.repositories.len() as u64).saturating_add(1);
         let (word, rest) = split_word(text);
         let (number, tag, packages) = match word {
@@ -79,12 +80,13 @@ pub fn split_word<'t>(line: &'t [u8]) -> (&'t [u8], &'t [u8]) {
     }
 }
 
-/// The number that the decimal digits of a text are. Other bytes are skipped, and a number above
-/// 2^64 - 1 counts as 2^64 - 1.
+/// The number that the decimal digits of a text form. Bytes that are no digits are skipped, and a
+/// number above 2^64 - 1 counts as 2^64 - 1.
 pub fn number_of(text: &[u8]) -> u64 {
     let mut number = 0u64;
     for byte in text {
         if byte.is_ascii_digit() {
+            // The low four bits of an ASCII digit are its value.
             let digit = u64::from(*byte % 16);
             number = number.saturating_mul(10).saturating_add(digit);
         }

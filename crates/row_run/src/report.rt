@@ -1,4 +1,4 @@
-//! A whole text of rows, and what is printed of each: that it passed, or what differs and where.
+//! Runs a whole text of rows, and reports of each row that it passed, or what differs and where.
 //! The lines are in `tests/rows.md`, "What runs them" and "A text that is none".
 use crate::run::run_row;
 use row_check::{Fault, MemoryTree, Program, Row, RowFault, add_number, read_rows};
@@ -34,6 +34,7 @@ fn run_rows<P: Program>(
     let mut left = Vec::new(alloc);
     let mut failed = 0u64;
     for row in rows {
+        // The tree that the row leaves, or None if the row failed.
         let end = run_and_report(alloc, program, row, &left, report)?;
         if end.is_none() {
             failed = failed.saturating_add(1);
@@ -53,6 +54,7 @@ fn run_and_report<P: Program>(
     left: &[Option<MemoryTree>],
     report: &mut Vec<u8>,
 ) -> Result<Option<MemoryTree>, AllocError> {
+    // The line is `ok NAME`, or `FAILED NAME: ..`.
     match run_row(alloc, program, row, left) {
         Ok(tree) => {
             add_line(report, b"ok ", &row.name, b"")?;
@@ -65,7 +67,8 @@ fn run_and_report<P: Program>(
     }
 }
 
-// Adds the number of the line of a text that is not spelled as rows are, and what is wrong there.
+// Adds the report of a text that is not spelled as rows are: the number of its first bad line, and
+// what is wrong there.
 fn add_fault(alloc: Global, report: &mut Vec<u8>, fault: Fault) -> Result<(), AllocError> {
     report.extend_from_slice(b"line ")?;
     add_number(alloc, report, fault.line)?;
@@ -81,7 +84,7 @@ fn add_failure(report: &mut Vec<u8>, name: &[u8], fault: &RowFault) -> Result<()
     }
 }
 
-// Adds three texts and a line end.
+// Adds three texts, one after the other, and a line end.
 fn add_line(report: &mut Vec<u8>, one: &[u8], two: &[u8], three: &[u8]) -> Result<(), AllocError> {
     report.extend_from_slice(one)?;
     report.extend_from_slice(two)?;

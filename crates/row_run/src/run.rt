@@ -1,6 +1,6 @@
 //! Runs one row: its command lines, one after the other, each over a tree and two sinks in memory.
-//! What a row expects is in `tests/rows.md`, "Lines"; what it expects of further runs, in which
-//! something fails, is in "What goes wrong".
+//! What a row expects of a run is in `tests/rows.md`, "Lines"; what it expects of further runs, in
+//! which something fails, is in "What goes wrong".
 use crate::sweep::Swept;
 use row_check::{
     MemorySink, MemoryTree, Program, Row, RowFault, Run, Sides, SinkPlan, Step, TreePlan,
@@ -8,8 +8,8 @@ use row_check::{
 };
 use std::alloc::Global;
 
-/// After how many bytes the two streams fail. If a field is None, the stream fails as the row
-/// plans.
+/// After how many bytes the two streams of a further run fail. A stream whose field is None fails
+/// only as the row plans (`ends after N`).
 #[derive(Clone, Copy)]
 pub(crate) struct StreamEnds {
     /// After how many bytes standard output fails.
@@ -26,8 +26,8 @@ impl StreamEnds {
     };
 }
 
-/// Runs the command lines of a row, each over the tree that the one before it left, and returns the
-/// tree that the last one leaves. `left` has the trees that earlier rows left.
+/// Runs the command lines of a row, each over the tree that the command line before it left, and
+/// returns the tree that the last command line leaves. `left` has the trees that earlier rows left.
 pub(crate) fn run_row<P: Program>(
     alloc: Global,
     program: &P,
@@ -41,8 +41,8 @@ pub(crate) fn run_row<P: Program>(
     Ok(tree)
 }
 
-/// Runs a command line with all failures that the row plans for it, checks it, and returns the tree
-/// that it leaves.
+/// Runs a command line over the tree `before`, compares the results with those that the row
+/// expects, and returns the tree that the command line leaves.
 fn run_step<P: Program>(
     alloc: Global,
     program: &P,
@@ -55,7 +55,7 @@ fn run_step<P: Program>(
     Ok(copy_of(alloc, &run.tree)?)
 }
 
-/// A copy of the tree that a command line finds, in which the calls fail that the row lists.
+/// A copy of the tree that a command line finds, with the failures of a line `fail N N ..` planned.
 fn planned_tree(alloc: Global, step: &Step, before: &MemoryTree) -> Result<MemoryTree, RowFault> {
     let mut tree = copy_of(alloc, before)?;
     if let TreePlan::Fail(calls) = &step.tree {
@@ -64,8 +64,8 @@ fn planned_tree(alloc: Global, step: &Step, before: &MemoryTree) -> Result<Memor
     Ok(tree)
 }
 
-/// Compares a run with all that the row expects of the command line, and makes the further runs
-/// that the row plans.
+/// Compares the first run of a command line with all that the row expects, and makes the further
+/// runs that the row plans. `before` is the tree that the command line found.
 fn check_step<P: Program>(
     alloc: Global,
     program: &P,
@@ -75,7 +75,7 @@ fn check_step<P: Program>(
 ) -> Result<(), RowFault> {
     check_run(alloc, program, step, before, run)?;
     if !matches!(&step.tree, TreePlan::Fail(_)) {
-        // Each crash image of the tree has the files of the tree.
+        // After a run without failed calls, a crash must leave all files as they are.
         check_images(alloc, step, &run.tree)?;
     }
     if is_swept(step) {
@@ -84,12 +84,14 @@ fn check_step<P: Program>(
     Ok(())
 }
 
-/// Whether further runs are planned of a command line.
+/// Whether the row plans further runs of a command line (`fail each`, `stop each`, `ends after
+/// each`).
 fn is_swept(step: &Step) -> bool {
     matches!(&step.tree, TreePlan::Each(_)) || step.out_plan.each || step.err_plan.each
 }
 
-/// Makes the further runs that the row plans. `run` is the first run, in which no call failed.
+/// Makes the further runs that the row plans for a command line. `before` is the tree that the
+/// command line found, and `run` is the first run, in which no call failed.
 fn sweep<P: Program>(
     alloc: Global,
     program: &P,
@@ -99,6 +101,7 @@ fn sweep<P: Program>(
 ) -> Result<(), RowFault> {
     let sides = Sides::new(alloc, program, step, before, &run.tree)?;
     sides.check_images(alloc, program, step, &run.tree)?;
+    // A second run, over the files that the first run left. Repetitions are compared with it.
     let left = copy_of(alloc, &run.tree)?;
     let again = run_once(alloc, program, step, left, StreamEnds::NONE);
     let swept = Swept {
@@ -111,8 +114,8 @@ fn sweep<P: Program>(
     swept.run_all(alloc)
 }
 
-/// Runs a command line once, over this tree and two new sinks, as standard output and standard
-/// error.
+/// Runs a command line once, over this tree. Standard output and standard error are two new sinks,
+/// which fail as `ends` or the row says.
 pub(crate) fn run_once<P: Program>(
     alloc: Global,
     program: &P,

@@ -1,6 +1,7 @@
-//! Further runs of a command line: one for each call of the tree, in which this call fails or after
-//! which all calls fail, and one for each number of bytes after which a stream ends. The rules are
-//! in `tests/rows.md`, "What goes wrong", its table and what follows.
+//! Makes and checks the further runs of a command line: one for each call of the tree, in which
+//! this call fails or after which all calls fail, and one for each number of bytes after which a
+//! stream fails. The rules are in `tests/rows.md`, "What goes wrong" and "Crash images and
+//! repetitions". A repetition is here called a *second run*.
 use crate::run::{StreamEnds, run_once};
 use row_check::{
     Found, MemoryTree, Program, RowFault, Run, Sides, Step, TreePlan, add_number, bytes_of,
@@ -8,8 +9,8 @@ use row_check::{
 };
 use std::alloc::{AllocError, Global};
 
-/// The most calls of the tree that a run may make if each of them fails in turn. A run of a row
-/// makes far fewer; the bound makes the loop end.
+/// The most calls of the tree that a command line with `fail each` or `stop each` may make. The
+/// command lines of rows make far fewer; the bound makes the loop end.
 const MOST_CALLS: u64 = 10_000;
 
 /// The status of a run whose tree failed (`docs/commands.md`, "Answers and statuses").
@@ -18,10 +19,11 @@ const TREE_FAULT: u64 = 2;
 // What a run whose tree failed prints on standard error.
 const TREE_FAULT_TEXT: &[u8] = b"ERROR: the tree failed\n";
 
-/// The status of a run of which a stream failed (`docs/commands.md`, the same table).
+/// The status of a run of which a stream failed (`docs/commands.md`, "Answers and statuses").
 const STREAM_FAULT: u64 = 3;
 
-/// A command line with further runs, the files that it finds, and what it leaves if nothing fails.
+/// A command line with further runs, the files that it finds, and the files that it leaves if
+/// nothing fails.
 #[derive(Drop)]
 pub(crate) struct Swept<'a, P: Program> {
     /// The program that is run.
@@ -30,7 +32,8 @@ pub(crate) struct Swept<'a, P: Program> {
     pub(crate) step: &'a Step,
     /// The files that the command line finds.
     pub(crate) before: &'a MemoryTree,
-    /// The files that the command line finds and those that it leaves, both after a recovery.
+    /// The files that the command line finds and those that it leaves if nothing fails, both after
+    /// a recovery.
     pub(crate) sides: &'a Sides,
     /// A second run of the command line, over the files that the first run left.
     pub(crate) again: &'a Run,
@@ -59,20 +62,21 @@ impl<'a, P: Program> Swept<'a, P> {
             }
         }
         if self.step.out_plan.each {
-            // `true`: standard output ends.
+            // `true`: standard output is the stream that fails.
             self.end_each(alloc, true)?;
         }
         if self.step.err_plan.each {
-            // `false`: standard error ends.
+            // `false`: standard error is the stream that fails.
             self.end_each(alloc, false)?;
         }
         Ok(())
     }
 
-    /// Lets each call fail in turn (`fail each`). After a recovery, the tree that is left and each
-    /// of its crash images has the files that the command line finds or those that it leaves if
-    /// nothing fails. A second run from there is checked too.
+    /// Lets each call fail in turn (`fail each`). After a recovery, the tree that is left, and each
+    /// of its crash images, must have the old files (which the command line finds) or the new files
+    /// (which it leaves if nothing fails). A second run over each of these trees is checked too.
     fn fail_each(&self, alloc: Global) -> Result<(), RowFault> {
+        // Whether a run without calls that write was checked already.
         let mut run_without_writes_seen = false;
         for call in 1..MOST_CALLS {
             let failed = self.run_failing(alloc, call)?;
@@ -102,10 +106,12 @@ impl<'a, P: Program> Swept<'a, P> {
     }
 
     /// Lets all calls fail after each number of calls in turn (`stop each`). After a recovery, each
-    /// crash image has the files that the command line finds or those that it leaves if nothing
-    /// fails. If these differ, some image has to have the latter. A second run from there is
-    /// checked too.
+    /// crash image must have the old files (which the command line finds) or the new files (which
+    /// it leaves if nothing fails). If these differ, some image must have the new files. A second
+    /// run over each image is checked too.
     fn stop_each(&self, alloc: Global) -> Result<(), RowFault> {
+        // Whether some crash image so far had the files that the command line leaves, and whether a
+        // run without calls that write was checked already.
         let mut new_files_seen = false;
         let mut run_without_writes_seen = false;
         for calls in 0..MOST_CALLS {
@@ -135,8 +141,8 @@ impl<'a, P: Program> Swept<'a, P> {
         Ok(self.run_over(alloc, tree))
     }
 
-    /// Checks the last run, in which no call failed. If the command line changes files, some image
-    /// of an earlier run has to have the new ones.
+    /// Checks the last run, in which no call failed. If the command line changes files, some crash
+    /// image of an earlier run has to have the new files; `new_files_seen` says whether one had.
     fn check_end_of_stops(
         &self,
         alloc: Global,
@@ -150,7 +156,7 @@ impl<'a, P: Program> Swept<'a, P> {
         self.check_whole(alloc, run)
     }
 
-    /// Runs the command line over a tree.
+    /// Runs the command line over this tree, without failures of the streams.
     fn run_over(&self, alloc: Global, tree: MemoryTree) -> Run {
         run_once(alloc, self.program, self.step, tree, StreamEnds::NONE)
     }
@@ -168,6 +174,7 @@ impl<'a, P: Program> Swept<'a, P> {
     /// Checks that a run whose tree failed reports this by its status and on standard error, and
     /// prints nothing on standard output.
     fn check_fault(&self, alloc: Global, call: u64, run: &Run) -> Result<(), RowFault> {
+        // The name of this run in a report.
         let what = at_call(alloc, call, b", what is seen")?;
         let wanted = Seen {
             status: TREE_FAULT,
@@ -177,7 +184,8 @@ impl<'a, P: Program> Swept<'a, P> {
         self.check_seen(alloc, &what, run, wanted)
     }
 
-    /// Compares what is seen of a run with what is wanted.
+    /// Compares the status and the streams of a run with those that are wanted. `what` names the
+    /// run in a report.
     fn check_seen(
         &self,
         alloc: Global,
@@ -191,15 +199,16 @@ impl<'a, P: Program> Swept<'a, P> {
         compare(alloc, line, what, run.err.bytes(), wanted.err)
     }
 
-    /// Checks each image that a crash may leave of a tree: it has the files that the command line
-    /// finds or those that it leaves, and a second run from there is checked. Returns whether some
-    /// image has the files that it leaves.
+    /// Checks each crash image of a tree: it has the files that the command line finds or those
+    /// that the command line leaves, and a second run from there is checked. Returns whether some
+    /// image has the files that the command line leaves. `call` is the failed call, for reports.
     fn try_images(&self, alloc: Global, call: u64, tree: &MemoryTree) -> Result<bool, RowFault> {
         let mut new_files_seen = false;
         for choice in 0..images_of(tree) {
             let Some(image) = new_image(alloc, tree, choice)? else {
                 continue;
             };
+            // The name of this image in a report.
             let place = at_image(alloc, call, choice)?;
             let found = self.run_again_from(alloc, call, image, &place)?;
             new_files_seen = new_files_seen || found.after;
@@ -207,9 +216,11 @@ impl<'a, P: Program> Swept<'a, P> {
         Ok(new_files_seen)
     }
 
-    /// Checks the tree that a run left whose call failed, without a crash: it has the files that
-    /// the command line finds or those that it leaves, and a second run from there is checked.
+    /// Checks the tree that a run with a failed call left, without a crash: it has the files that
+    /// the command line finds or those that the command line leaves, and a second run from there is
+    /// checked.
     fn go_on_from(&self, alloc: Global, call: u64, failed: Run) -> Result<(), RowFault> {
+        // The name of this tree in a report.
         let place = at_call(alloc, call, b", what is left")?;
         let Run { mut tree, .. } = failed;
         // No call fails from now on.
@@ -218,9 +229,9 @@ impl<'a, P: Program> Swept<'a, P> {
         Ok(())
     }
 
-    /// Returns whether a tree, recovered, has the files that the command line finds or those that
-    /// it leaves, and checks a second run of the command line over this tree. `place` names the
-    /// tree in a report.
+    /// Returns whether a tree, after a recovery, has the files that the command line finds, or
+    /// those that the command line leaves, and checks a second run of the command line over this
+    /// tree. `place` names the tree in a report.
     fn run_again_from(
         &self,
         alloc: Global,
@@ -237,8 +248,9 @@ impl<'a, P: Program> Swept<'a, P> {
         Ok(found)
     }
 
-    /// Checks a second run. If it found the files that the first run found, it ends as the row
-    /// says. Otherwise it ends as a run that finds what the command line leaves.
+    /// Checks a second run. If it began with the files that the command line finds, it has to end
+    /// as the row says. Otherwise it has to end as a run over the files that the command line
+    /// leaves.
     fn check_second(
         &self,
         alloc: Global,
@@ -249,9 +261,10 @@ impl<'a, P: Program> Swept<'a, P> {
         if found.before {
             check_streams(alloc, self.program, self.step, second)?;
         } else {
-            // The second run found the files that the command line leaves.
+            // The second run began with the files that the command line leaves.
             self.check_again(alloc, call, second)?;
         }
+        // In both cases, each crash image after the second run must have the new files.
         self.sides
             .check_images(alloc, self.program, self.step, &second.tree)
     }
@@ -268,10 +281,11 @@ impl<'a, P: Program> Swept<'a, P> {
         self.check_seen(alloc, &what, second, wanted)
     }
 
-    /// Lets a stream end after each number of bytes in turn (`ends after each`): standard output if
-    /// `is_out`, and else standard error. It has to have these bytes, and the tree the files that
-    /// the command line leaves.
+    /// Lets a stream fail after each number of bytes in turn (`ends after each`): standard output
+    /// if `is_out`, and else standard error. The stream has to get these bytes, and the tree has to
+    /// have the files that the command line leaves.
     fn end_each(&self, alloc: Global, is_out: bool) -> Result<(), RowFault> {
+        // All bytes that the command line prints on this stream.
         let whole = self.wanted_text(alloc, is_out)?;
         for count in 0..whole.len() {
             self.end_after(alloc, is_out, &whole[..count])?;
@@ -288,7 +302,7 @@ impl<'a, P: Program> Swept<'a, P> {
         }
     }
 
-    /// Runs the command line with a stream that ends after these bytes: standard output if
+    /// Runs the command line with a stream that fails after these bytes: standard output if
     /// `is_out`, and else standard error.
     fn end_after(&self, alloc: Global, is_out: bool, bytes: &[u8]) -> Result<(), RowFault> {
         let count = bytes.len();
@@ -301,8 +315,8 @@ impl<'a, P: Program> Swept<'a, P> {
         self.check_end(alloc, is_out, bytes, &ended)
     }
 
-    /// Checks that the stream which ended has these bytes, and that each crash image of the tree
-    /// has the files that the command line leaves.
+    /// Checks that the stream which failed got exactly these bytes, that the exit status says so,
+    /// and that each crash image of the tree has the files that the command line leaves.
     fn check_end(
         &self,
         alloc: Global,
@@ -319,8 +333,8 @@ impl<'a, P: Program> Swept<'a, P> {
     }
 }
 
-/// Whether a run made no call that writes. Then it left the tree that it found, with all files
-/// synced, and each crash image of it is that tree.
+/// Whether a run made no call that writes. Then it left the tree that it found, in which all files
+/// are synced, so that each crash image of this tree has the same files.
 fn leaves_no_trace(run: &Run) -> bool {
     run.tree.writes() == 0
 }

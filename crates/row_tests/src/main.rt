@@ -2,10 +2,10 @@
 //! The faults are in `tests/rows.md`, "A text that is none", and what is compared in "Lines" and
 //! "What goes wrong".
 //!
-//! Standard input has texts of rows, each after a line `==== NAME`. The rows of each run with a
-//! program that prints each word on a line, and returns the status 1 if there is no word. Some
-//! words make it do what no program should. If the last line of a text is `\`, the line before it
-//! has no line end.
+//! Standard input has texts of rows, each after a line `==== NAME`. The rows of each text run with
+//! the program `Echo`, which prints each word on a line, and returns the status 1 if there is no
+//! word. Some words make this program do what no program should do. If the last line of a text is
+//! `\`, the line before it has no line end.
 #![tactic(auto)]
 
 use base_core::{Disk, Name, Tree, Words, write_all};
@@ -15,12 +15,13 @@ use std::io;
 use std::io::{Read, Write};
 use tree_memory::{MemorySink, MemoryTree};
 
-/// A program that prints its words. Some words also make it change the tree (`act`).
+/// A program for these tests, which prints its words. Some words also make it change the tree
+/// (`act`).
 struct Echo;
 
 impl Program for Echo {
-    /// Does with the tree what the words say, and prints the words. With some words it fails to
-    /// report a fault, on purpose.
+    /// Does with the tree what the words say, and prints the words. With some words, this program
+    /// does not report a fault, on purpose.
     fn run(
         &self,
         alloc: Global,
@@ -68,7 +69,7 @@ impl Program for Echo {
     }
 }
 
-/// Does with the tree what a word says. Any other word does nothing.
+/// Does with the tree what a word says. A word without an arm here does nothing.
 fn act(alloc: Global, word: &[u8], tree: &mut MemoryTree) -> Result<(), Disk> {
     match word {
         // makes the file `made` under its final name, and syncs it only afterwards
@@ -76,7 +77,7 @@ fn act(alloc: Global, word: &[u8], tree: &mut MemoryTree) -> Result<(), Disk> {
             make(alloc, tree, b"made")?;
             settle(alloc, tree, b"made")
         }
-        // makes the file under another name, and renames it to its final name when it is synced
+        // makes and syncs the file under another name, and then renames it to `made`
         b"careful" => {
             make(alloc, tree, b"waiting")?;
             settle(alloc, tree, b"waiting")?;
@@ -90,7 +91,7 @@ fn act(alloc: Global, word: &[u8], tree: &mut MemoryTree) -> Result<(), Disk> {
             let _ = tree.sync_names();
             Ok(())
         }
-        // puts the file `made` without a call of the tree
+        // puts the file `made` into the tree in memory without a counted call
         b"hidden" => put(alloc, tree, b"made"),
         // reads two bytes of the file `made`
         b"read" => tree.read_at(&named(alloc, b"made")?, 0, &mut [0u8; 2]),
@@ -106,7 +107,7 @@ fn named(alloc: Global, bytes: &[u8]) -> Result<Name, Disk> {
     }
 }
 
-/// Puts a file with one byte, without a call of the tree.
+/// Puts a file with one byte into the tree in memory, without a counted call.
 fn put(alloc: Global, tree: &mut MemoryTree, name: &[u8]) -> Result<(), Disk> {
     let name = named(alloc, name)?;
     if tree.can_put(&name) && tree.put(&name, b"x").is_ok() {
@@ -144,20 +145,20 @@ fn recover(alloc: Global, tree: &mut MemoryTree) -> Result<(), Disk> {
     Ok(())
 }
 
-/// The state after some lines of standard input: the lines of the case that has begun, and the
-/// report.
+/// The state after some lines of standard input: the lines of the current case (one text of rows),
+/// and the report.
 #[derive(Drop)]
 struct Cases {
     /// Where memory is taken.
     alloc: Global,
-    /// The lines so far of the case that has begun.
+    /// The lines of the current case so far.
     text: Vec<u8>,
     /// The reports of all cases so far.
     report: Vec<u8>,
 }
 
 impl Cases {
-    /// Adds a line to the case. A line `==== NAME` ends the case before it and begins the next one.
+    /// Adds a line to the current case. A line `==== NAME` ends this case and begins the next one.
     fn add(&mut self, line: &[u8]) -> Result<(), AllocError> {
         match line.strip_prefix(b"==== ") {
             Some(name) => {
@@ -172,7 +173,7 @@ impl Cases {
         }
     }
 
-    /// Runs the rows of the case, and adds their report.
+    /// Ends the current case: runs its rows, and adds their report.
     fn end(&mut self) -> Result<(), AllocError> {
         if !self.text.is_empty() {
             let text = case_text(&self.text);
@@ -191,7 +192,7 @@ fn case_text(text: &[u8]) -> &[u8] {
     }
 }
 
-/// Prints the report of each case of standard input.
+/// Runs each case of standard input, and prints the reports.
 fn main(rt: HostRuntime) -> io::Result<()> {
     let alloc = rt.alloc();
     let mut text = Vec::new(alloc);

@@ -1,6 +1,6 @@
 //! Reads the lines of a row about files before and after a command line, and about planned
-//! failures. The lines are in `tests/rows.md`, "Lines" (`in memory`, `file`, `then`, `\`) and "What
-//! goes wrong"; the faults of lines are in "A text that is none".
+//! failures; `reader` calls these functions. The forms of lines are in `tests/rows.md`, "Lines" and
+//! "What goes wrong"; what is wrong with a line is in "A text that is none".
 use crate::reader::{Form, Reader, Target, first_word};
 use crate::row::{Content, NamedFile, SinkPlan, Sweeps, TreePlan, Trouble};
 use crate::words::{add_hex, number};
@@ -8,8 +8,8 @@ use base_core::Name;
 use row_lines::value_named;
 use std::alloc::Global;
 
-// How the bytes of a file or of an output are written in the lines `|`, by the last word of the
-// line that begins it.
+// For each word that ends a line `file`, `then` or `out`: how the bytes of the file or of the
+// output are written in the lines `|` that follow.
 #[rattlefmt::skip]
 const FORMS: [(&[u8], Form); 3] = [
     (b"text", Form::Text),
@@ -19,25 +19,28 @@ const FORMS: [(&[u8], Form); 3] = [
 
 /// Files.
 impl Reader {
-    /// Takes `in memory`: the row runs only over a tree in memory, not in a folder of the host. All
-    /// rows that are read here run in memory, so that the line has no effect.
+    /// Reads the rest of a line `in memory`: the row runs only on a tree in memory, not in a folder
+    /// of the host. All rows that are read here run in memory, so that the line has no effect.
     pub(crate) fn keep_in_memory(&mut self, rest: &[u8]) -> Result<(), Trouble> {
         if rest != b"memory".as_slice() {
             return Err(Trouble::BadShape);
         }
         match &self.row {
+            // The line is within a row.
             Some(_) => Ok(()),
             None => Err(Trouble::NoRow),
         }
     }
 
-    /// Takes `file PATH ..`: a file that is there before the first command line.
+    /// Reads the rest of a line `file PATH FORM`: before the first command line, a file is at PATH.
     pub(crate) fn add_given(&mut self, rest: &[u8]) -> Result<(), Trouble> {
+        // Such a line may not follow a command line of its row.
         if self.step.is_some() {
             return Err(Trouble::OutOfPlace);
         }
-        let (path, kind) = first_word(rest);
-        let form = form_of(kind)?;
+        // The path, and the word after it, such as `text`.
+        let (path, word) = first_word(rest);
+        let form = form_of(word)?;
         let file = NamedFile {
             name: name_of(self.alloc, path)?,
             content: Some(empty_content(self.alloc, form, self.line)),
@@ -50,17 +53,19 @@ impl Reader {
         Ok(())
     }
 
-    /// Takes `then PATH ..`: what is expected at a path after the command line.
+    /// Reads the rest of a line `then PATH FORM` or `then PATH absent`: what is expected at PATH
+    /// after the command line.
     pub(crate) fn add_wanted(&mut self, rest: &[u8]) -> Result<(), Trouble> {
-        let (path, kind) = first_word(rest);
+        // The path, and the word after it, such as `text` or `absent`.
+        let (path, word) = first_word(rest);
         let name = name_of(self.alloc, path)?;
-        if kind == b"absent".as_slice() {
+        if word == b"absent".as_slice() {
             return self.push_wanted(NamedFile {
                 name,
                 content: None,
             });
         }
-        let form = form_of(kind)?;
+        let form = form_of(word)?;
         let content = Some(empty_content(self.alloc, form, self.line));
         self.push_wanted(NamedFile { name, content })?;
         self.target = Target::Wanted(form);
@@ -76,7 +81,8 @@ impl Reader {
         Ok(())
     }
 
-    /// Takes `| LINE`: a line of the file or of the output that was named last.
+    /// Reads the rest of a line `| LINE`: `piece` is the next line of the file or of the output
+    /// that was named last.
     pub(crate) fn add_piece(&mut self, piece: &[u8]) -> Result<(), Trouble> {
         match self.target {
             Target::Given(form) => {
@@ -97,17 +103,22 @@ impl Reader {
                 };
                 add_to(&mut step.out, form, piece)
             }
+            // No text was named last to which a line `|` may add.
             _ => Err(Trouble::OutOfPlace),
         }
     }
 
-    /// Takes `\`: the last line of the file or of the stream before has no line end.
+    /// Reads the rest of a line `\`: the file or the stream that was written last has no line end
+    /// after its last line.
     pub(crate) fn cut_line_end(&mut self, rest: &[u8]) -> Result<(), Trouble> {
+        // Nothing may follow the `\` in its line.
         if !rest.is_empty() {
             return Err(Trouble::BadShape);
         }
+        // After this line, no line may add to the same text.
         let target = self.target;
         self.target = Target::Nothing;
+        // The text is that of the last file of the row or of the command line, or of a stream.
         match target {
             Target::Given(Form::Text) => match &mut self.row {
                 Some(row) => cut_last(&mut row.files),
@@ -125,12 +136,13 @@ impl Reader {
                 Some(step) => cut(&mut step.err),
                 None => Err(Trouble::OutOfPlace),
             },
+            // Hexadecimal digits and dump texts have no line end to remove.
             _ => Err(Trouble::OutOfPlace),
         }
     }
 }
 
-/// The name of a path. A text that is no path of a file is a fault.
+/// The path as a name. A text that is no valid path of a file is a fault.
 pub(crate) fn name_of(alloc: Global, path: &[u8]) -> Result<Name, Trouble> {
     match Name::read(alloc, path)? {
         Some(name) => Ok(name),
@@ -138,16 +150,17 @@ pub(crate) fn name_of(alloc: Global, path: &[u8]) -> Result<Name, Trouble> {
     }
 }
 
-/// How the lines of a file are read, by the word after its path.
+/// The form in which the bytes of a file are written, by the word after its path.
 fn form_of(word: &[u8]) -> Result<Form, Trouble> {
     match value_named(&FORMS, word) {
         Some(form) => Ok(form),
+        // The word is none of `text`, `hex` and `dump`.
         None => Err(Trouble::UnknownWord),
     }
 }
 
-/// An empty content, to which lines in this form can be added. A dump text keeps `line`, the number
-/// of the line at which it begins, for reports.
+/// An empty content, to which lines in this form can be added. With a dump text, the content keeps
+/// `line`, the number of the line of the text of rows at which the dump text begins, for reports.
 fn empty_content(alloc: Global, form: Form, line: u64) -> Content {
     match form {
         Form::Text | Form::Hex => Content::Bytes(Vec::new(alloc)),
@@ -170,7 +183,8 @@ fn add_to_last(files: &mut Vec<NamedFile>, form: Form, piece: &[u8]) -> Result<(
     }
 }
 
-/// Adds a line to a content: the bytes of hexadecimal digits, or the line itself with a line end.
+/// Adds the line `piece` to a content: the bytes that hexadecimal digits denote, or the line itself
+/// with a line end.
 fn add_to(content: &mut Content, form: Form, piece: &[u8]) -> Result<(), Trouble> {
     match (content, form) {
         (Content::Bytes(bytes), Form::Hex) => add_hex(bytes, piece),
@@ -179,7 +193,7 @@ fn add_to(content: &mut Content, form: Form, piece: &[u8]) -> Result<(), Trouble
     }
 }
 
-/// Adds a line to a text, followed by a line end.
+/// Adds the line `piece` and a line end to a text.
 pub(crate) fn add_line(text: &mut Vec<u8>, piece: &[u8]) -> Result<(), Trouble> {
     text.extend_from_slice(piece)?;
     text.push(b'\n')?;
@@ -209,23 +223,27 @@ fn cut_content(content: &mut Content) -> Result<(), Trouble> {
 fn cut(text: &mut Vec<u8>) -> Result<(), Trouble> {
     match text.pop() {
         Some(_) => Ok(()),
+        // Without a line before the line `\`, there is no line end to remove.
         None => Err(Trouble::OutOfPlace),
     }
 }
 
 /// Standard output.
 impl Reader {
-    /// Takes `out ..`: in which form the expected output of the last command line follows, or how
-    /// many bytes standard output takes of the next command line.
+    /// Reads the rest of a line `out ..`. With `hex` or `dump`, the expected output of the last
+    /// command line follows in this form. Otherwise the line plans how many bytes standard output
+    /// takes of the next command line.
     pub(crate) fn read_out(&mut self, rest: &[u8]) -> Result<(), Trouble> {
         match value_named(&FORMS, rest) {
             Some(Form::Hex) => self.print_hex(),
             Some(Form::Dump) => self.print_dump(),
+            // There is no line `out text`: the expected text is in lines that begin with `>`.
             Some(Form::Text) | None => self.plan_out(rest),
         }
     }
 
-    /// Takes `out hex`: bytes of the expected output follow, in lines `|` with hexadecimal digits.
+    /// Reads a line `out hex`: bytes of the expected output follow in lines `|`, as hexadecimal
+    /// digits.
     fn print_hex(&mut self) -> Result<(), Trouble> {
         let Some(step) = &self.step else {
             return Err(Trouble::NoCommand);
@@ -239,12 +257,14 @@ impl Reader {
         }
     }
 
-    /// Takes `out dump`: the expected output is a container, whose dump text follows in lines `|`.
+    /// Reads a line `out dump`: the expected output is a container, whose dump text follows in
+    /// lines `|`.
     fn print_dump(&mut self) -> Result<(), Trouble> {
         let Some(step) = &mut self.step else {
             return Err(Trouble::NoCommand);
         };
         match &step.out {
+            // No output is expected so far.
             Content::Bytes(bytes) if bytes.is_empty() => {}
             _ => return Err(Trouble::SaidTwice),
         }
@@ -256,7 +276,8 @@ impl Reader {
 
 /// Planned failures of the next command line.
 impl Reader {
-    /// Takes `fail N ..` or `fail each`: the calls of the tree that fail.
+    /// Reads the rest of a line `fail N N ..` (the calls of the tree with these numbers fail) or
+    /// `fail each` (each call fails in a further run of its own).
     pub(crate) fn plan_failures(&mut self, rest: &[u8]) -> Result<(), Trouble> {
         if rest == b"each".as_slice() {
             let (fail, stop) = (true, false);
@@ -269,8 +290,8 @@ impl Reader {
         self.plan_tree(TreePlan::Fail(calls))
     }
 
-    /// Takes `stop each`: in further runs, all calls of the tree fail after each number of calls in
-    /// turn.
+    /// Reads the rest of a line `stop each`: there are further runs, in each of which all calls of
+    /// the tree after some number of calls fail.
     pub(crate) fn plan_stops(&mut self, rest: &[u8]) -> Result<(), Trouble> {
         if rest != b"each".as_slice() {
             return Err(Trouble::BadShape);
@@ -279,9 +300,11 @@ impl Reader {
         self.plan_sweeps(Sweeps { fail, stop })
     }
 
-    /// Plans further runs of the next command line, in addition to those that are already planned.
+    /// Plans the further runs `more` of the next command line, besides those that are planned
+    /// already.
     fn plan_sweeps(&mut self, more: Sweeps) -> Result<(), Trouble> {
         if let TreePlan::Each(sweeps) = &mut self.plan.tree {
+            // The row has the same line twice for this command line.
             if (sweeps.fail && more.fail) || (sweeps.stop && more.stop) {
                 return Err(Trouble::SaidTwice);
             }
@@ -298,6 +321,7 @@ impl Reader {
             return Err(Trouble::NoRow);
         }
         match self.plan.tree {
+            // No failures of the tree are planned yet.
             TreePlan::Whole => {
                 self.plan.tree = plan;
                 Ok(())
@@ -306,26 +330,28 @@ impl Reader {
         }
     }
 
-    /// Takes `out ends after ..` or `out takes ..`: how many bytes standard output takes of the
-    /// next command line.
+    /// Reads the rest of a line `out ends after ..` or `out takes ..`: how many bytes standard
+    /// output takes of the next command line.
     fn plan_out(&mut self, rest: &[u8]) -> Result<(), Trouble> {
         self.plan.out = sink_plan(self.plan.out, rest)?;
         Ok(())
     }
 
-    /// Takes `err ends after ..` or `err takes ..`: how many bytes standard error takes of the next
-    /// command line.
+    /// Reads the rest of a line `err ends after ..` or `err takes ..`: how many bytes standard
+    /// error takes of the next command line.
     pub(crate) fn plan_err(&mut self, rest: &[u8]) -> Result<(), Trouble> {
         self.plan.err = sink_plan(self.plan.err, rest)?;
         Ok(())
     }
 }
 
-/// The plan of a stream with one more line: `ends after N` (bytes), `ends after each` (number of
-/// bytes in turn), or `takes N at most` (bytes of one write).
+/// The plan of a stream after one more line, given the plan before and what follows `out` or `err`:
+/// `ends after N` (bytes), `ends after each` (number of bytes, in further runs), or `takes N at
+/// most` (bytes of one write).
 fn sink_plan(before: SinkPlan, rest: &[u8]) -> Result<SinkPlan, Trouble> {
     let mut plan = before;
     if let Some(count) = rest.strip_prefix(b"ends after ") {
+        // `each` means a further run for each number of bytes; otherwise there is one number.
         plan.each = count == b"each".as_slice();
         plan.end = if plan.each { None } else { Some(size(count)?) };
         return Ok(plan);
@@ -333,6 +359,7 @@ fn sink_plan(before: SinkPlan, rest: &[u8]) -> Result<SinkPlan, Trouble> {
     let Some(count) = rest.strip_prefix(b"takes ") else {
         return Err(Trouble::BadShape);
     };
+    // The most bytes that the stream takes in one write.
     let most = number_at_most(count)? as usize;
     if most == 0 {
         return Err(Trouble::BadNumber);
@@ -349,7 +376,7 @@ pub(crate) fn number_at_most(text: &[u8]) -> Result<u64, Trouble> {
     }
 }
 
-/// The decimal number that a text is, as a number of bytes.
+/// The decimal number in a text, as a number of bytes.
 fn size(text: &[u8]) -> Result<usize, Trouble> {
     Ok(number(text)? as usize)
 }

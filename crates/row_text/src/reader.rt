@@ -1,31 +1,32 @@
-//! Reads a text of rows line by line: rows, their command lines, and what is expected of these.
-//! Each line belongs to the row, the command line or the file that is last before it. The lines are
-//! in `tests/rows.md`, "Lines", and the faults in "A text that is none".
+//! Reads a text of rows line by line: rows, their command lines, and the results that are expected
+//! of these. Each line belongs to the last row, command line or file before it. The forms of lines
+//! are in `tests/rows.md`, "Lines"; what is wrong with a line is in "A text that is none".
 use crate::parts::{add_line, name_of, number_at_most};
 use crate::row::{Content, Fault, Row, SinkPlan, Step, TreePlan, Trouble};
 use crate::words::{number, words_of};
 use row_lines::value_named;
 use std::alloc::{AllocError, Global};
 
-/// The text that a line `|` adds to, and whose last line end a line `\` removes.
+/// To which text the next line `|` adds a line, and of which text a line `\` removes the last line
+/// end.
 #[derive(Clone, Copy)]
 pub(crate) enum Target {
     /// Neither a line `|` nor a line `\` may come next.
     Nothing,
-    /// A file that is there before the first command line, in this form.
+    /// The last file that exists before the first command line (`file`), written in this form.
     Given(Form),
-    /// A file that is expected after the command line, in this form.
+    /// The last file that is expected after the command line (`then`), written in this form.
     Wanted(Form),
     /// The expected standard output of the command line, in lines that begin with `>`.
     Out,
-    /// The expected standard output of the command line, in lines that begin with `|`, in this
-    /// form.
+    /// The expected standard output of the command line, in lines that begin with `|` (`out hex`,
+    /// `out dump`), written in this form.
     Printed(Form),
     /// The expected standard error of the command line, in lines that begin with `!`.
     Err,
 }
 
-/// How the bytes of a file are written.
+/// How the bytes of a file, or of standard output, are written in the lines of a row.
 #[derive(Clone, Copy)]
 pub(crate) enum Form {
     /// As they are, line by line.
@@ -36,8 +37,8 @@ pub(crate) enum Form {
     Dump,
 }
 
-/// The first word of a line that begins with a word. The table in `tests/rows.md`, "Lines", says
-/// what a line with this word says.
+/// The first word of a line that begins with a word. The tables in `tests/rows.md`, "Lines" and
+/// "What goes wrong", say what a line with each word means.
 #[derive(Clone, Copy)]
 enum Word {
     Row,
@@ -56,7 +57,7 @@ enum Word {
     Err,
 }
 
-// The words that lines begin with.
+// For each word that a line may begin with: its bytes, and its variant of `Word`.
 #[rattlefmt::skip]
 const WORDS: [(&[u8], Word); 14] = [
     (b"row", Word::Row),
@@ -75,23 +76,23 @@ const WORDS: [(&[u8], Word); 14] = [
     (b"err", Word::Err),
 ];
 
-/// The state after some lines of a text: the complete rows, and the row and the command line that
-/// are not complete yet.
+/// The state of the reader after some lines of a text: the complete rows, and the last row and its
+/// last command line, which may have further lines.
 #[derive(Drop)]
 pub(crate) struct Reader {
     /// Where memory is taken.
     pub(crate) alloc: Global,
-    /// The number of the last line that was begun, counted from 1.
+    /// The number of the line that is being read, counted from 1.
     pub(crate) line: u64,
     /// The complete rows.
     rows: Vec<Row>,
-    /// The row that has begun, and may have further lines.
+    /// The last row, which may have further lines; None before the first row.
     pub(crate) row: Option<Row>,
-    /// The last command line of the row that has begun; it may have further lines.
+    /// The last command line of this row, which may have further lines; None before its first one.
     pub(crate) step: Option<Step>,
     /// The planned failures of the next command line.
     pub(crate) plan: Plans,
-    /// The text that a line `|` adds to, and whose last line end a line `\` removes.
+    /// To which text a line `|` adds a line, and of which a line `\` removes the last line end.
     pub(crate) target: Target,
 }
 
@@ -146,8 +147,8 @@ impl Reader {
     /// Reads all lines of a text. After a fault, `self.line` is the number of the line with the
     /// fault.
     fn read_text(&mut self, text: &[u8]) -> Result<(), Trouble> {
-        // The part of the text before this one, which is a line once a line end follows it. The
-        // last part is no line, and has to be empty.
+        // The previous part of the text. It is read as a line only when the next part shows that a
+        // line end follows it. The last part is no line, and has to be empty.
         let mut rest = None;
         for line in text.split(|byte| *byte == b'\n') {
             if let Some(line) = rest {
@@ -162,15 +163,15 @@ impl Reader {
         }
     }
 
-    /// Reads a line by its first byte, or else by its first word. After an empty line no line adds
-    /// to the text before it.
+    /// Reads a line. Its first byte, or else its first word, says what kind of line it is. After an
+    /// empty line, no line may add to the text before it.
     fn read_line(&mut self, line: &[u8]) -> Result<(), Trouble> {
         let Some((first, rest)) = line.split_first() else {
             self.target = Target::Nothing;
             return Ok(());
         };
         match *first {
-            // A remark.
+            // A comment, which is skipped.
             b'#' => Ok(()),
             // A line of the file or of the output that was named last.
             b'|' => self.add_piece(text_after_blank(rest)?),
@@ -178,7 +179,7 @@ impl Reader {
             b'>' => self.add_out(text_after_blank(rest)?),
             // A line that standard error is expected to have.
             b'!' => self.add_err(text_after_blank(rest)?),
-            // The last line of the text before has no line end.
+            // The text that was written last has no line end after its last line.
             b'\\' => self.cut_line_end(rest),
             // A command line.
             b'$' => self.begin_step(text_after_blank(rest)?),
@@ -196,7 +197,7 @@ impl Reader {
         }
     }
 
-    /// Reads what follows the word of a line.
+    /// Reads the rest of a line, which follows its first word.
     fn read_word(&mut self, word: Word, rest: &[u8]) -> Result<(), Trouble> {
         match word {
             Word::Row => self.begin_row(rest),
@@ -209,6 +210,7 @@ impl Reader {
             Word::Stop => self.plan_stops(rest),
             Word::Out => self.read_out(rest),
             Word::Err => self.plan_err(rest),
+            // The rest of the line is `N at most`, and of the next three kinds of lines `N`.
             Word::Reads => self.add_count(word, number_at_most(rest)),
             Word::Status | Word::Calls | Word::Writes => self.add_count(word, number(rest)),
         }
@@ -220,6 +222,7 @@ fn text_after_blank(rest: &[u8]) -> Result<&[u8], Trouble> {
     match rest.split_first() {
         None => Ok(rest),
         Some((b' ', text)) => Ok(text),
+        // Another byte than a blank follows the first byte of the line.
         Some(_) => Err(Trouble::UnknownWord),
     }
 }
@@ -237,6 +240,7 @@ impl Reader {
     /// Begins a row, given what follows the word `row` in its line: `NAME: SENTENCE`.
     fn begin_row(&mut self, rest: &[u8]) -> Result<(), Trouble> {
         self.end_row()?;
+        // What is before the first `:`, and what follows it.
         let (name, sentence) = match rest.iter().position(|byte| *byte == b':') {
             Some(at) => (&rest[..at], &rest[at + 1..]),
             None => (rest, b"".as_slice()),
@@ -247,6 +251,7 @@ impl Reader {
         if self.number_of(name).is_some() {
             return Err(Trouble::TwoOfOneName);
         }
+        // The sentence is a blank and at least one more byte.
         if sentence.len() < 2 {
             return Err(Trouble::NoSentence);
         }
@@ -265,10 +270,12 @@ impl Reader {
         self.rows.iter().position(|row| row.name.as_slice() == name)
     }
 
-    /// Ends the row that has begun, if there is one. A row without a command line is a fault.
+    /// Ends the last row, if there is one: adds it to the complete rows. A row without a command
+    /// line is a fault.
     fn end_row(&mut self) -> Result<(), Trouble> {
         self.end_step()?;
         if let Some(row) = self.row.take() {
+            // The row has no command line.
             if row.steps.is_empty() {
                 return Err(Trouble::NothingRun);
             }
@@ -278,12 +285,13 @@ impl Reader {
         Ok(())
     }
 
-    /// Takes `from NAME`: the row begins with the files that an earlier row leaves. No line `file`
-    /// of the row may be before this line.
+    /// Reads the rest of a line `from NAME`: the row begins with the files that the earlier row
+    /// NAME leaves. No line `file` of the row may be before this line.
     fn begin_with(&mut self, rest: &[u8]) -> Result<(), Trouble> {
         let Some(number) = self.number_of(rest) else {
             return Err(Trouble::NoSuchRow);
         };
+        // The line may follow neither a command line of its row, nor a line `from` or `file`.
         if self.step.is_some() {
             return Err(Trouble::OutOfPlace);
         }
@@ -307,7 +315,9 @@ impl Reader {
         }
         self.end_step()?;
         let command = words_of(self.alloc, text)?;
+        // No line may add to a text of the command line before.
         self.target = Target::Nothing;
+        // The planned failures of this command line; for the next one, none are planned yet.
         let plan = std::mem::replace(&mut self.plan, Plans::none());
         let Plans { tree, out, err } = plan;
         self.step = Some(Step {
@@ -328,7 +338,7 @@ impl Reader {
         Ok(())
     }
 
-    /// Adds the last command line, if there is one, to the others of its row.
+    /// Ends the last command line, if there is one: adds it to the command lines of its row.
     fn end_step(&mut self) -> Result<(), AllocError> {
         if let Some(step) = self.step.take()
             && let Some(row) = &mut self.row
@@ -338,7 +348,7 @@ impl Reader {
         Ok(())
     }
 
-    /// Takes `> LINE`: a line that standard output is expected to have.
+    /// Reads the rest of a line `> LINE`: standard output is expected to have the line `piece`.
     fn add_out(&mut self, piece: &[u8]) -> Result<(), Trouble> {
         let Some(step) = &mut self.step else {
             return Err(Trouble::NoCommand);
@@ -346,11 +356,12 @@ impl Reader {
         self.target = Target::Out;
         match &mut step.out {
             Content::Bytes(bytes) => add_line(bytes, piece),
+            // After a line `out dump`, no other output may be expected.
             Content::Dump { .. } => Err(Trouble::OutOfPlace),
         }
     }
 
-    /// Takes `! LINE`: a line that standard error is expected to have.
+    /// Reads the rest of a line `! LINE`: standard error is expected to have the line `piece`.
     fn add_err(&mut self, piece: &[u8]) -> Result<(), Trouble> {
         let Some(step) = &mut self.step else {
             return Err(Trouble::NoCommand);
@@ -359,9 +370,9 @@ impl Reader {
         add_line(&mut step.err, piece)
     }
 
-    /// Adds an expected number to the command line. `word` says which: the exit status, the number
-    /// of calls of the tree, the number of calls that write, or the most bytes that one read may
-    /// ask for.
+    /// Adds an expected number to the command line. `word` says which number: the exit status, the
+    /// number of calls of the tree, the number of calls that write, or the most bytes that one read
+    /// may ask for.
     fn add_count(&mut self, word: Word, number: Result<u64, Trouble>) -> Result<(), Trouble> {
         let number = number?;
         let Some(step) = &mut self.step else {
@@ -376,7 +387,8 @@ impl Reader {
         }
     }
 
-    /// Takes `names PATH ..`: the names of all files after the command line, in byte order.
+    /// Reads the rest of a line `names PATH PATH ..`: after the command line, the tree has exactly
+    /// the files at these paths.
     fn add_names(&mut self, rest: &[u8]) -> Result<(), Trouble> {
         let mut names = Vec::new(self.alloc);
         if !rest.is_empty() {
@@ -387,6 +399,7 @@ impl Reader {
         let Some(step) = &mut self.step else {
             return Err(Trouble::NoCommand);
         };
+        // The command line has such a line already.
         if step.names.is_some() {
             return Err(Trouble::SaidTwice);
         }
@@ -395,7 +408,7 @@ impl Reader {
     }
 }
 
-/// Sets an expected number, which the lines of a command line may state only once.
+/// Sets an expected number of a command line, which its lines may state only once.
 fn set_once(place: &mut Option<u64>, number: u64) -> Result<(), Trouble> {
     if place.is_some() {
         return Err(Trouble::SaidTwice);

@@ -1,5 +1,6 @@
-//! The results of reading a text: rows, each with its files, its command lines and what is expected
-//! of these, or the first fault, with its line. `tests/rows.md` describes the lines.
+//! The results of reading a text of rows: the rows, each with its files, its command lines and the
+//! results that are expected of these; or the first fault of the text, with its line.
+//! `tests/rows.md` describes the lines.
 use base_core::{Name, Words};
 use std::alloc::{AllocError, AllocFailed};
 
@@ -10,21 +11,21 @@ pub struct Row {
     pub name: Vec<u8>,
     /// The number of the line at which the row begins, counted from 1.
     pub line: u64,
-    /// The number of the earlier row, counted from 0, with whose files this row begins, if it names
-    /// one.
+    /// The earlier row with whose files this row begins, if there is a line `from`: its index among
+    /// all rows, counted from 0.
     pub from: Option<usize>,
-    /// The files that are there before the first command line, besides those of the earlier row.
+    /// The files that exist before the first command line, besides those of the earlier row.
     pub files: Vec<NamedFile>,
     /// The command lines of the row, in order.
     pub steps: Vec<Step>,
 }
 
-/// A path, and the file that is there before a row, or is expected there after a command line.
+/// A path, and the file that exists there before a row, or is expected there after a command line.
 #[derive(Drop)]
 pub struct NamedFile {
     /// The path.
     pub name: Name,
-    /// The file's bytes; none if there is no file.
+    /// The bytes of the file; None if no file is expected at the path.
     pub content: Option<Content>,
 }
 
@@ -33,7 +34,7 @@ pub struct NamedFile {
 pub enum Content {
     /// These bytes.
     Bytes(Vec<u8>),
-    /// The container of this dump text, which begins at this line.
+    /// The container of the dump text `text`, which begins at line `line` of the text of rows.
     Dump { text: Vec<u8>, line: u64 },
 }
 
@@ -54,11 +55,12 @@ pub struct Step {
     pub out: Content,
     /// The expected bytes of standard error.
     pub err: Vec<u8>,
-    /// The expected exit status, if the row states it; otherwise 0 is expected.
+    /// The expected exit status, if the row states one; otherwise 0 is expected.
     pub status: Option<u64>,
-    /// What is expected at these paths afterwards. All other files are expected to be as before.
+    /// What is expected at these paths after the command line. All other files are expected to be
+    /// unchanged.
     pub files: Vec<NamedFile>,
-    /// The expected names of all files afterwards, if the row states them.
+    /// The expected names of all files after the command line, if the row states them.
     pub names: Option<Vec<Name>>,
     /// The expected number of calls of the tree, if the row states it.
     pub calls: Option<u64>,
@@ -75,16 +77,16 @@ pub enum TreePlan {
     Whole,
     /// The calls with these numbers fail, counted from 1.
     Fail(Vec<u64>),
-    /// Each call in turn: the command line is run once for each of its calls.
+    /// In the first run no call fails. Further runs, in which calls fail, are made for each call.
     Each(Sweeps),
 }
 
 /// Which further runs are made of a command line, one for each of its calls.
 #[derive(Clone, Copy)]
 pub struct Sweeps {
-    /// Whether there are runs in which this call alone fails.
+    /// Whether there are runs in which this call alone fails (`fail each`).
     pub fail: bool,
-    /// Whether there are runs in which all calls after this one fail.
+    /// Whether there are runs in which all calls after this call fail (`stop each`).
     pub stop: bool,
 }
 
@@ -93,7 +95,7 @@ pub struct Sweeps {
 pub struct SinkPlan {
     /// How many bytes the stream takes before it fails, if it is to fail.
     pub end: Option<usize>,
-    /// Whether the stream fails after each number of bytes in turn, in one run for each number.
+    /// Whether there are further runs, one for each number of bytes after which the stream fails.
     pub each: bool,
     /// How many bytes the stream takes in one write at most, if there is a limit.
     pub most: Option<usize>,
@@ -108,10 +110,10 @@ impl SinkPlan {
     };
 }
 
-/// The first fault of a text.
+/// The first fault of a text of rows.
 #[derive(Clone, Copy)]
 pub struct Fault {
-    /// The line, counted from 1.
+    /// The number of the line with the fault, counted from 1.
     pub line: u64,
     /// What is wrong with the line.
     pub trouble: Trouble,
@@ -142,11 +144,11 @@ pub enum Trouble {
     BadDump,
     /// The line has no decimal number where its word takes one.
     BadNumber,
-    /// A quotation of the command line does not end.
+    /// A quotation in the command line does not end.
     BadQuotation,
     /// The line states an expectation, and no command line is before it.
     NoCommand,
-    /// The row before it runs no command line.
+    /// The row before this line has no command line.
     NothingRun,
     /// The line may not follow the lines before it.
     OutOfPlace,
@@ -159,7 +161,7 @@ pub enum Trouble {
 }
 
 impl Trouble {
-    /// The text that is reported.
+    /// The text that a report has for this fault (`tests/rows.md`, "A text that is none").
     pub fn text(self) -> &'static str {
         match self {
             Trouble::UnknownWord => "unknown word",

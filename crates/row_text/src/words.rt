@@ -1,11 +1,12 @@
-//! Reads parts of a line: the words of a command line, as a shell reads them; bytes in groups of
-//! hexadecimal digits, which a count may repeat, as in `4144422e 2049*00000000`; and numbers. The
-//! forms are in `tests/rows.md`, "Lines".
+//! Reads parts of a line, for `reader` and `parts`: the words of a command line, as a shell reads
+//! them; bytes in groups of hexadecimal digits, which a count may repeat, as in `4144422e
+//! 2049*00000000`; and numbers. The forms are in `tests/rows.md`, "Lines".
 use crate::row::Trouble;
 use base_core::Words;
 use std::alloc::Global;
 
-/// The most words that a command line may have: 2^32 - 2, as `Words` of `base_core` holds.
+/// The most words that a command line may have: 2^32 - 2, the most that `Words` of `base_core` can
+/// have.
 const MOST_WORDS: usize = 4_294_967_294;
 
 /// Where the next byte of a command line is.
@@ -24,7 +25,7 @@ enum Place {
 struct Line {
     /// The complete words.
     words: Words,
-    /// The bytes so far of the word that has begun.
+    /// The bytes of the last word so far, if the line is within a word.
     word: Vec<u8>,
     /// Where the next byte of the line is.
     place: Place,
@@ -36,6 +37,7 @@ pub(crate) fn words_of(alloc: Global, text: &[u8]) -> Result<Words, Trouble> {
     let Some(rest) = text.strip_prefix(b"apk") else {
         return Err(Trouble::UnknownWord);
     };
+    // The name of the program only begins with `apk`.
     if !rest.is_empty() && !rest.starts_with(b" ") {
         return Err(Trouble::UnknownWord);
     }
@@ -53,6 +55,8 @@ pub(crate) fn words_of(alloc: Global, text: &[u8]) -> Result<Words, Trouble> {
 impl Line {
     /// Takes the next byte of the line.
     fn add(&mut self, byte: u8) -> Result<(), Trouble> {
+        // The arms, in their order: the end and the begin of a quotation, a blank between words, a
+        // blank that ends a word, any byte in a quotation, and any other byte of a word.
         match (self.place, byte) {
             (Place::Quotation, b'\'') => self.place = Place::Word,
             (_, b'\'') => self.place = Place::Quotation,
@@ -67,7 +71,7 @@ impl Line {
         Ok(())
     }
 
-    /// Ends the word that was begun, and adds it to the words. An empty quotation makes an empty
+    /// Ends the last word, and adds it to the complete words. An empty quotation makes an empty
     /// word.
     fn end_word(&mut self) -> Result<(), Trouble> {
         if self.words.len() >= MOST_WORDS {
@@ -99,8 +103,8 @@ pub(crate) fn add_hex(out: &mut Vec<u8>, line: &[u8]) -> Result<(), Trouble> {
     Ok(())
 }
 
-/// Adds the bytes of a group: an even number of digits, such as `4144`, or such digits after a
-/// count and `*`, such as `2049*00`, which adds their bytes so many times.
+/// Adds the bytes of a group: an even number of hexadecimal digits, such as `4144`, or such digits
+/// after a count and `*`, as in `2049*00`, which adds their bytes 2049 times.
 fn add_group(out: &mut Vec<u8>, group: &[u8]) -> Result<(), Trouble> {
     match group.iter().position(|byte| *byte == b'*') {
         None => add_digits(out, group),
@@ -116,6 +120,7 @@ fn add_group(out: &mut Vec<u8>, group: &[u8]) -> Result<(), Trouble> {
 
 /// Adds a byte for each two hexadecimal digits. An odd number of digits is a fault.
 fn add_digits(out: &mut Vec<u8>, digits: &[u8]) -> Result<(), Trouble> {
+    // The value of the first digit of a pair, until its second digit is read.
     let mut high = None;
     for digit in digits {
         let value = digit_value(*digit)?;
@@ -147,7 +152,7 @@ fn digit_value(digit: u8) -> Result<u8, Trouble> {
     }
 }
 
-/// The decimal number that a text is.
+/// The decimal number in a text. A text with other bytes than digits, or without bytes, is a fault.
 pub(crate) fn number(text: &[u8]) -> Result<u64, Trouble> {
     if text.is_empty() {
         return Err(Trouble::BadNumber);
@@ -164,6 +169,7 @@ pub(crate) fn number(text: &[u8]) -> Result<u64, Trouble> {
 
 /// The number with one more decimal digit at its end. A number above 2^64 - 1 is a fault.
 fn next_number(number: u64, digit: u8) -> Result<u64, Trouble> {
+    // Ten times the number.
     let Some(tens) = number.checked_mul(10) else {
         return Err(Trouble::BadNumber);
     };

@@ -1,4 +1,4 @@
--- What a pattern without its first piece has to match. Serves the proofs of `src/pattern.rt`.
+-- What a pattern after its first star has to match. Serves the contracts and proofs of `src/pattern.rt`.
 use Rattle.std.specs.Prelude.{ℕ, ◌==◌, Bool, List}
 use Rattle.std.specs.List.{list_any}
 use Rattle.star_patterns.specs.Patterns.{is_whole_text_matched, star, suffixes_of}

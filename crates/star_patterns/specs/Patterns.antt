@@ -1,4 +1,4 @@
--- What a pattern matches: each `*` stands for any bytes, none too, and each other byte for itself.
+-- What a pattern matches: each `*` stands for any bytes, or for none, and each other byte for itself.
 -- The rule is in `docs/formats.md`, "Patterns".
 use Rattle.std.specs.Prelude.{ℕ, ◌==◌, Bool, false, ◌&&◌, if◌then◌else◌, List, [], ◌∷◌, ◌++◌, length}
 use Rattle.std.specs.List.{list_any}
@@ -12,7 +12,7 @@ abbrev pub suffixes_of : List ℕ → List (List ℕ)
 suffixes_of [] = [] ∷ []
 suffixes_of (b ∷ text) = (b ∷ text) ∷ suffixes_of text
 
--- whether a text begins with this byte, and its rest passes a test
+-- whether a text begins with the byte `p`, and what follows this byte passes the test `is_rest`
 abbrev pub starts_with_byte_then : ℕ → (List ℕ → Bool) → List ℕ → Bool
 starts_with_byte_then p is_rest [] = false
 starts_with_byte_then p is_rest (b ∷ text) = (p == b) && is_rest text

@@ -8,7 +8,7 @@ use Rattle.tree_memory.specs.declared.store.Change.{Change}
 use Rattle.tree_memory.specs.declared.store.Change.TheVariants.{Put, Create, Append, Sync, Rename, Remove, SyncNames, Stay}
 use Rattle.tree_memory.specs.declared.store.Stored.{Stored}
 
--- what a state has under each file number for which no file was made: no bytes, not synced
+-- the file that a state has under each number for which no file was made: no bytes, not synced
 abbrev pub no_file : File
 no_file = record { bytes = []; synced = false }
 
@@ -16,8 +16,8 @@ no_file = record { bytes = []; synced = false }
 abbrev pub empty_state : TreeState
 empty_state = record { files = λ n. no_file; made = 0; names = no_names; older = [] }
 
--- the state after a put: a new synced file under the name, even if the name led to another, and the
--- names synced
+-- the state after a put: a new synced file with these bytes is under the name, even if the name led to another file,
+-- and the names are synced
 abbrev pub after_put : List ℕ → List ℕ → TreeState → TreeState
 after_put name bytes v = record {
   files = set_file v.files v.made (record { bytes = bytes; synced = true });
@@ -34,8 +34,8 @@ contents_of files = map (λ file. file.bytes.items) files
 abbrev pub synced_flags : List Stored → List Bool
 synced_flags files = map (λ file. file.synced) files
 
--- The first bytes of a file, this many of them. A file only grows at its end, so what it held after a
--- change is a prefix of its current bytes.
+-- The first `len` bytes of the file with the number `file`, given the current bytes of all files. A file only grows at
+-- its end, so its bytes after an earlier change are a prefix of its current bytes.
 abbrev pub first_bytes_of_file : List (List ℕ) → ℕ → ℕ → List ℕ
 first_bytes_of_file contents file len = take len (slice_index_or contents file [])
 
@@ -67,13 +67,14 @@ earlier_states contents v earlier (c ∷ cs) = earlier_states contents (step con
 
 -- ---- which changes may be recorded
 
--- whether a file was made, and has at least this many bytes: a record keeps a length for each change,
--- and the bytes once
+-- whether a file with the number `file` was made and has at least `len` bytes. A recorded change has only a length:
+-- the bytes are the first bytes of the file
 abbrev pub is_stored_prefix : List (List ℕ) → ℕ → ℕ → Bool
 is_stored_prefix contents file len =
     nat_lt file (length contents) && nat_le len (length (slice_index_or contents file []))
 
--- whether a change of a state may be recorded: its bytes are kept, and its names are present
+-- whether a change may be recorded at the state `v`: the file has the bytes that the change needs, and a name that is
+-- renamed or removed is present
 abbrev pub can_record_change : List (List ℕ) → Change → TreeState → Bool
 can_record_change contents (Put name file len) v = is_stored_prefix contents file len
 can_record_change contents (Create name) v = true
@@ -84,7 +85,7 @@ can_record_change contents (Remove name) v = is_some (v.names name)
 can_record_change contents SyncNames v = true
 can_record_change contents Stay v = true
 
--- whether each of some changes may be recorded at the state to which those before it lead
+-- whether each change of a list may be recorded at the state to which the changes before it lead from `v`
 abbrev pub can_record_changes : List (List ℕ) → TreeState → List Change → Bool
 can_record_changes contents v [] = true
 can_record_changes contents v (c ∷ cs) =

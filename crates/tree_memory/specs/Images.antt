@@ -23,11 +23,10 @@ abbrev pub is_bit_set_at : ℕ → ℕ → Bool
 is_bit_set_at n zero = n % 2 == 1
 is_bit_set_at n (suc place) = is_bit_set_at (n / 2) place
 
--- Whether a change of names is undone, given how many there are since the names were last synced, the
--- number that picks, and the number of the change, counted from the oldest as 0. Of few changes each
--- subset has its number, with one binary digit for each change, the lowest for the newest. Of more
--- changes the numbers up to their count undo so many of the newest ones, and each further number
--- undoes one change alone, the oldest first.
+-- Whether the change with the number `number` (the oldest is 0) is undone in the map of names that `pick` picks, if
+-- `changes` changes of names followed the last sync of the names. Of few changes, each has a binary digit of `pick`,
+-- the newest the lowest; it is undone if the digit is 1. Of more changes, a `pick` of at most their count undoes so
+-- many of the newest changes, and each further `pick` undoes one change alone, the oldest first.
 abbrev pub is_change_undone : ℕ → ℕ → ℕ → Bool
 is_change_undone changes pick number =
     if nat_le changes most_changes_with_all_subsets then is_bit_set_at pick (changes - number - 1)
@@ -40,8 +39,8 @@ abbrev pub crash_image_count : ℕ → ℕ
 crash_image_count changes =
     if nat_le changes most_changes_with_all_subsets then 2 ^ changes else min (changes * 2 + 1) (2 ^ 64 - 1)
 
--- the map of names that a crash leaves that undoes these changes, given the newest map and the older
--- ones. A change has as its number how many there are before it.
+-- the map of names that a crash leaves if it undoes the changes for whose number `undone` is true, given the newest map
+-- and the older ones. The number of a change is how many changes are before it.
 abbrev pub map_without : (ℕ → Bool) → NameMap → List NameMap → NameMap
 map_without undone new [] = new
 map_without undone new (old ∷ older) =
@@ -54,8 +53,8 @@ picked_crash_map pick v = map_without (is_change_undone (length v.older) pick) v
 
 -- ---- the image that a number picks
 
--- the contents of a file after a crash: those of a synced file. An unsynced file has, as `way`
--- chooses, its bytes as read (0), nothing (1), or as many bytes of value 255 (any other number)
+-- the bytes of a file after a crash. A synced file keeps its bytes. For an unsynced file, `way` chooses its bytes as
+-- read (0), no bytes (1), or as many bytes of value 255 (any other number)
 abbrev pub crash_bytes : ℕ → File → List ℕ
 crash_bytes way file = if file.synced || way == 0 then file.bytes else
     (if way == 1 then [] else replicate (length file.bytes) 255)
@@ -64,22 +63,22 @@ crash_bytes way file = if file.synced || way == 0 then file.bytes else
 abbrev pub crash_image_count_of : TreeState → ℕ
 crash_image_count_of v = crash_image_count (length v.older)
 
--- the map of names of the image that a number picks: the picked one, or the current one of the state
--- if the picked one has a file as a folder, which no tree has
+-- `map` is the map of names of the image that the number `pick` picks: the picked map, or the current map of the state
+-- `v` if in the picked map a file is a folder of another, which no tree has
 pub record IsPickedImageMap (pick : ℕ) (v : TreeState) (map : NameMap) : Type 0 where
   -- if in the picked map no name is a folder of another, the map is the picked one
   pub fits : HasNoFileAsFolder (picked_crash_map pick v) → map ≡ picked_crash_map pick v
   -- otherwise the map is the current one of the state
   pub as_read : (HasNoFileAsFolder (picked_crash_map pick v) → ⊥) → map ≡ v.names
 
--- the files after the crash that a number chooses: its remainder by the count of the numbers that pick
--- a map picks the map, and the quotient modulo 3 the contents of unsynced files
+-- `image` are the files after the crash that the number `choice` picks. The number is divided by how many numbers
+-- pick a map of names: the remainder picks the map, and the quotient modulo 3 the bytes of unsynced files
 abbrev pub IsImageOf : ℕ → TreeState → Files → Type 0
 IsImageOf choice v image = (map : NameMap) × IsPickedImageMap (choice % crash_image_count_of v) v map
     × ((q : List ℕ) → image q
     ≡ option_map (λ n. crash_bytes ((choice / crash_image_count_of v) % 3) (v.files n)) (map q))
 
--- a table has the names of the image that a number picks
+-- the entries of a table are the map of names of the image that the number `pick` picks
 pub record HasImageNames (pick : ℕ) (v : TreeState) (entries : List NameAndFile) : Type 0 where
   -- the table is the map of names of the image that the number picks
   pub map : IsPickedImageMap pick v (lookup entries)
@@ -105,7 +104,7 @@ syncs_names (Remove name) = false
 syncs_names SyncNames = true
 syncs_names Stay = false
 
--- how many maps of names there are after a change, given how many there were before
+-- how many maps of names (the current one and the older ones) a state has after a change, if it had `maps` before
 abbrev pub map_count_after_change : Change → ℕ → ℕ
 map_count_after_change (Put name file len) maps = 1
 map_count_after_change (Create name) maps = maps + 1

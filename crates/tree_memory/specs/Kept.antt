@@ -1,4 +1,4 @@
--- What a store keeps beside its record of changes: the names and the files after all changes. The invariant
+-- What a store has besides its record of changes: the names and the files after all changes. The invariant
 -- of `Store` uses *IsConsistentStore*, and the contract of `put` uses *CanPut*. `docs/crash-safety.md`, "A tree
 -- at one moment", says when a state is sound.
 use Rattle.std.specs.Prelude.{◌≡◌, ℕ, true, false, List, [], ◌∷◌, length, slice_index_or, All}
@@ -43,7 +43,7 @@ pub record IsConsistentStore (changes : List Change) (entries : List NameAndFile
   pub sound : All IsSoundState (state_after_changes (contents_of files) empty_state changes ∷ earlier_states
       (contents_of files) empty_state [] changes)
 
--- a file may be put under this name: no present name becomes a folder of another
+-- a file may be put under this name in the state `v`: no present name becomes a folder of another
 pub record CanPut (name : List ℕ) (v : TreeState) : Type 0 where
   -- after the put no name is a folder of another
   pub folders : HasNoFileAsFolder (put_name v.names name v.made)

@@ -1,4 +1,4 @@
--- The definitions of this crate. Each file names the place of its rule.
+-- The definitions of this crate. The head of each file names the document and section with its rule.
 -- what the contract of `apk` says: nothing
 -- what only inner contracts and proofs use
 pub mod Changes

@@ -35,7 +35,7 @@ counts_by calls = record {
   fallible = has_later_failure calls.plan;
 }
 
--- how often the tree failed, was misused, and was out of memory
+-- the counts of a tree in memory: its failed calls, its misuses, and its calls that ran out of memory
 abbrev pub counts_of : MemoryTree → Counts
 counts_of tree = counts_by tree.calls
 
@@ -71,14 +71,15 @@ pub record IsReadCall {T E : Type 0} (old new : MemoryTree) (result : Result T E
 
 -- ---- a call that writes
 
--- a call that has no reason to fail: no failure is planned for it, and it is no misuse
+-- the next call has no reason to fail: no failure is planned for it, and it is no misuse. `can` says which states allow
+-- the call
 pub record HasNoReasonToFail (can : TreeState → Type 0) (old : MemoryTree) : Type 0 where
   -- no failure of the call is planned
   pub unplanned : is_next_call_to_fail (plan_of old) ≡ false
   -- the state allows the call, so that it is no misuse
   pub proper : can (tree_state old)
 
--- a call failed because that was planned, or because it was a misuse
+-- a call failed because its failure was planned, or because it was a misuse (`can` says which states allow the call)
 pub record FailedByPlanOrMisuse (can : TreeState → Type 0) (old new : MemoryTree) : Type 0 where
   -- the failure is planned, or the state does not allow the call
   pub reason : (is_next_call_to_fail (plan_of old) ≡ true) ⊎ (can (tree_state old) → ⊥)
@@ -93,7 +94,7 @@ pub record FailedForMemory (can : TreeState → Type 0) (old new : MemoryTree) :
   pub memory_faults : (counts_of new).memory_faults ≡ saturating_increment (counts_of old).memory_faults
 
 -- a call that writes: it is counted, and the plan of failures is then counted from the call after it. An error is
--- counted as a fault, has one of the two reasons above, and adds no state to the history
+-- counted as a fault, is due to the plan, a misuse or a lack of memory, and adds no state to the history
 pub record IsWriteCall {T E : Type 0} (can : TreeState → Type 0) (old new : MemoryTree)
     (result : Result T E) : Type 0 where
   -- the call is counted

@@ -5,8 +5,8 @@ use Rattle.std.specs.Prelude.{ℕ, zero, suc, ◌-◌, ◌==◌, nat_lt, Bool, f
 use Rattle.std.specs.List.{list_any, filter}
 use Rattle.std.specs.Option.{option_map}
 
--- a plan: each call whose number is in `listed` fails, and, if `stop` is Some n, every call after
--- the next n
+-- a plan of failures: each call whose number is in `listed` fails, and, if `stop` is Some n, each call after the next n
+-- calls. The next call is number 1
 pub record PlanState : Type 0 where
   -- the numbers of the calls that fail, counted from 1 from now on
   pub listed : List ℕ
@@ -19,11 +19,11 @@ no_plan = record { listed = []; stop = None }
 
 -- ---- whether the next call is to fail
 
--- whether the next call is on the list: its number is 1
+-- whether the next call, number 1, is in this list of calls that fail
 abbrev pub is_next_call_listed : List ℕ → Bool
 is_next_call_listed listed = list_any (λ n. n == 1) listed
 
--- whether no call is left before the planned stop, so that the next call fails
+-- whether no call is left before the planned stop (Some 0), so that the next call fails; false without a planned stop
 abbrev pub is_stop_reached : Option ℕ → Bool
 is_stop_reached None = false
 is_stop_reached (Some n) = n == 0
@@ -32,22 +32,22 @@ is_stop_reached (Some n) = n == 0
 abbrev pub is_next_call_to_fail : PlanState → Bool
 is_next_call_to_fail plan = is_next_call_listed plan.listed || is_stop_reached plan.stop
 
--- whether the next call or a later one is to fail
+-- whether the plan makes any call fail, the next one or a later one. A listed number 0 is no call
 abbrev pub has_later_failure : PlanState → Bool
 has_later_failure plan = list_any (λ n. nat_lt 0 n) plan.listed || is_some plan.stop
 
 -- ---- the plan after the next call
 
--- the listed numbers after one call: each is one less, and a number that reaches 0 is dropped
+-- the list of calls that fail, counted from the call after the next one: each number is one less, and 0 is dropped
 abbrev pub listed_calls_after_one_call : List ℕ → List ℕ
 listed_calls_after_one_call listed = filter (λ n. nat_lt 0 n) (map (λ n. n - 1) listed)
 
--- the plan after one call, with each number counted from the call after it
+-- the plan after one call: its numbers are then counted from the call after this call
 abbrev pub plan_after_one_call : PlanState → PlanState
 plan_after_one_call plan =
     record { listed = listed_calls_after_one_call plan.listed; stop = option_map (λ n. n - 1) plan.stop }
 
--- the plan after this many calls (first argument), with each number counted from the call after them
+-- the plan after this many calls (first argument): its numbers are then counted from the call after these calls
 abbrev pub plan_after_calls : ℕ → PlanState → PlanState
 plan_after_calls zero plan = plan
 plan_after_calls (suc k) plan = plan_after_calls k (plan_after_one_call plan)

@@ -5,7 +5,7 @@ use Rattle.std.specs.Prelude.{◌≡◌, ◌⊎◌, ℕ, ◌-◌, ◌<◌, min, 
 use Rattle.std.specs.Option.{option_map}
 use Rattle.base_core.specs.Faults.{Counts, saturating_increment}
 
--- a sink in memory: its bytes, its planned end and limit, and how many of its writes failed
+-- a sink in memory: its bytes, how many more bytes it takes, the limit of one write, and how many of its writes failed
 pub record SinkState : Type 0 where
   -- all bytes that were written
   pub bytes : List ℕ
@@ -47,7 +47,7 @@ len_within_write_limit (Some n) len = min len (max n 1)
 abbrev pub accepted_len : SinkState → List ℕ → ℕ
 accepted_len sink piece = len_within_write_limit sink.most (len_that_fits sink.room (length piece))
 
--- a write takes this many bytes of the piece: as many as it can
+-- a write takes the first `n` bytes of the piece, as many as the sink accepts: `old` is the sink before, `new` after it
 pub record Takes (old : SinkState) (piece : List ℕ) (n : ℕ) (new : SinkState) : Type 0 where
   -- the write takes as many bytes as the sink accepts
   pub taken : n ≡ accepted_len old piece

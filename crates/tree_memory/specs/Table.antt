@@ -22,14 +22,14 @@ abbrev pub lookup : List NameAndFile → List ℕ → Option ℕ
 lookup [] q = None
 lookup (e ∷ es) q = if bytes_eq q e.name then Some e.file else lookup es q
 
--- this name is at this place of a table, counted from 0
+-- the entry at the place `i` of a table, counted from 0, has this name
 pub record IsNameAtPlace (entries : List NameAndFile) (i : ℕ) (name : List ℕ) : Type 0 where
   -- the place is one of the table
   pub within : i < length entries
   -- the entry at this place has this name
   pub here : HoldsAt (λ e. e.name ≡ name) entries i
 
--- this name is absent from a table, and would be inserted at this place, counted from 0
+-- this name is absent from a table, and its entry would be inserted at the place `i`, counted from 0
 pub record IsInsertionPlace (entries : List NameAndFile) (i : ℕ) (name : List ℕ) : Type 0 where
   -- the place is one of the table, or the end of the table
   pub within : i ≤ length entries
@@ -38,8 +38,8 @@ pub record IsInsertionPlace (entries : List NameAndFile) (i : ℕ) (name : List 
   -- each entry from this place on has a name that is greater, in byte order
   pub behind : AllWithin (λ e. slice_cmp nat_cmp e.name name ≡ Greater) entries i (length entries)
 
--- the names below this folder begin, or would begin, at this place of a table, counted from 0; 47 is
--- the `/` after the folder
+-- the names below this folder begin, or would begin, at the place `i` of a table, counted from 0; 47 is the byte `/`,
+-- which follows the folder's name in a name below it
 pub record IsStartOfFolder (entries : List NameAndFile) (i : ℕ) (folder : List ℕ) : Type 0 where
   -- the place is one of the table, or the end of the table
   pub within : i ≤ length entries
@@ -49,7 +49,7 @@ pub record IsStartOfFolder (entries : List NameAndFile) (i : ℕ) (folder : List
   pub behind : AllWithin (λ e. slice_cmp nat_cmp e.name (folder ++ 47 ∷ []) ≢ Less) entries i
       (length entries)
 
--- exactly the names of a table below this folder, in byte order
+-- `names` are exactly the names of a table that are below this folder, at any depth, in byte order
 pub record AreTableNamesBelow (entries : List NameAndFile) (folder : List ℕ)
     (names : List (List ℕ)) : Type 0 where
   -- the names are in byte order, each once
@@ -71,8 +71,8 @@ HasNameBelowOtherThan entries folder but =
     (name : List ℕ) × IsFolderOf folder name
     × (IsSome (lookup entries name) × (bytes_eq name but ≡ false))
 
--- no name of the table other than `but` is a folder of this name or below it. `but` is the name
--- that a rename removes, or the name itself
+-- no name of the table, other than `but`, is a folder of `name` or is below `name`. `but` is the name that a rename
+-- removes; otherwise it is `name` itself
 pub record MakesNoFolderOfAnother (entries : List NameAndFile) (name but : List ℕ) : Type 0 where
   -- no folder of this name is a name of the table other than `but`
   pub above : HasFolderOtherThan entries name but → ⊥

@@ -9,7 +9,7 @@ use Rattle.tree_memory.specs.declared.calls.Tally.{Tally}
 abbrev pub no_calls : Tally
 no_calls = record { calls = 0; writes = 0; faults = 0; misuses = 0; memory_faults = 0 }
 
--- the counts with one more call, up to 2^64 - 1
+-- the counts with one more call; no count exceeds 2^64 - 1
 abbrev pub with_call : Tally → Tally
 with_call t = record t { calls = saturating_increment t.calls }
 
@@ -30,16 +30,16 @@ with_memory_fault t = record t {
       t.memory_faults;
 }
 
--- the counts after the start of a call. The arguments say whether the state allows the call
--- (otherwise it is a misuse), and whether its failure is planned. A misuse whose failure is planned
--- counts as a misuse alone
+-- the counts after the start of a call, given those before it. The first argument says whether the state allows the
+-- call (otherwise it is a misuse), the second whether its failure is planned. A misuse whose failure is planned counts
+-- as a misuse alone
 abbrev pub with_begun_call : Bool → Bool → Tally → Tally
 with_begun_call false planned t = with_misuse (with_call t)
 with_begun_call true true t = with_fault (with_call t)
 with_begun_call true false t = with_call t
 
--- whether a call continues after its start: the state allows it (first argument), and its failure
--- is not planned (second argument)
+-- whether a call goes on after its start: the state allows it (first argument), and its failure is not planned (second
+-- argument)
 abbrev pub goes_on : Bool → Bool → Bool
 goes_on false planned = false
 goes_on true true = false

@@ -1,5 +1,5 @@
 -- The proof that each state of a tree in memory is well formed (*IsWellFormed*), as `docs/crash-safety.md`, "A tree
--- at one moment", says. It is here and not in `proofs/`, since the field `whole` of `Tree` is this proof.
+-- at one moment", says. This proof is here and not in `proofs/`, since the trait `Tree` has it as its field `whole`.
 use Rattle.std.specs.Prelude.{◌≡◌, ℕ, ◌+◌, ◌<◌, ◌≤◌, Bool, true, false, if◌then◌else◌, ◌||◌, List, [], ◌∷◌, Option, Some, None, IsSome, All, refl}
 use Rattle.std.proofs.Common.{inl, inr, sym, ap, subst, arith}
 use Rattle.std.specs.Str.{bytes_eq}
@@ -30,12 +30,14 @@ pub record AreMapsFiniteOfMadeFiles (v : TreeState) : Type 0 where
 bounded_empty : AreMapsFiniteOfMadeFiles empty_state
 bounded_empty = record { each = λ map is. record { finite = finite map is; below = made map is } }
   where
+    -- each map of names of the empty state has no name, so that the empty list has all its names
     finite : (map : NameMap) → IsCurrentOrOlderMap empty_state map → (names : List (List ℕ))
         × HasNamesAmong names map
     finite map (inl is) =
         ([], λ q some. let none : map q ≡ None = ap (λ (m : NameMap). m q) is in cc (none, some))
     finite map (inr other) = absurd other
 
+    -- no name leads to a file, so that nothing is to be proved of the file's number
     made : (map : NameMap) → IsCurrentOrOlderMap empty_state map → (q : List ℕ) (n : ℕ) → map q ≡ Some n
         → n < 0
     made map (inl is) q n at = let none : map q ≡ None =
@@ -67,12 +69,14 @@ bounded_put made name k map under old = record {
   below = λ q n at. lower n (bytes_eq q name) (map q) (old.below q n) at;
 }
   where
+    -- a name `q` of the new map is in the old list of names, or is the added name (`b` is true)
     within : (names : List (List ℕ)) (q : List ℕ) (b : Bool)
         → (IsSome (map q) → list_any (bytes_eq q) names ≡ true)
         → IsSome (if b then Some k else map q) → (b || list_any (bytes_eq q) names) ≡ true
     within names q true was some = refl
     within names q false was some = was some
 
+    -- a name of the new map leads to a file below `made`: to k if it is the added name (`b` is true), else where it led
     lower : (n : ℕ) (b : Bool) (was : Option ℕ) → (was ≡ Some n → n < made)
         → (if b then Some k else was) ≡ Some n → n < made
     lower n true was small at = let same : k ≡ n = cc (at) in omega (arith, under)
@@ -86,11 +90,13 @@ bounded_drop made name map old = record {
   below = λ q n at. lower n (bytes_eq q name) (map q) (old.below q n) at;
 }
   where
+    -- a name `q` of the new map is a name of the old map, since it is not the removed name (`b` is false)
     within : (q : List ℕ) (b : Bool) → (IsSome (map q) → list_any (bytes_eq q) old.finite.0 ≡ true)
         → IsSome (if b then None else map q) → list_any (bytes_eq q) old.finite.0 ≡ true
     within q true was some = absurd (cc (some))
     within q false was some = was some
 
+    -- a name of the new map leads where it led, which is a file below `made`
     lower : (n : ℕ) (b : Bool) (was : Option ℕ) → (was ≡ Some n → n < made)
         → (if b then None else was) ≡ Some n → n < made
     lower n true was small at = absurd (cc (at))
@@ -108,6 +114,7 @@ bounded-after_put : (name bytes : List ℕ) (v : TreeState) → AreMapsFiniteOfM
     → AreMapsFiniteOfMadeFiles (after_put name bytes v)
 bounded-after_put name bytes v whole = record { each = each }
   where
+    -- the state after a put has only its current map of names, to which the name was added
     each : (map : NameMap) → IsCurrentOrOlderMap (after_put name bytes v) map
         → IsFiniteMapOfMadeFiles (v.made + 1) map
     each map (inl is) =
@@ -121,6 +128,7 @@ bounded-after_create : (name : List ℕ) (v : TreeState) → AreMapsFiniteOfMade
     → AreMapsFiniteOfMadeFiles (after_create name v)
 bounded-after_create name v whole = record { each = each }
   where
+    -- a map is the current one, to which the name was added, or one of the maps before
     each : (map : NameMap) → IsCurrentOrOlderMap (after_create name v) map
         → IsFiniteMapOfMadeFiles (v.made + 1) map
     each map (inl is) =
@@ -136,12 +144,13 @@ bounded-with_file_changed : (change : File → File) (v : TreeState) (o : Option
 bounded-with_file_changed change v None whole = whole
 bounded-with_file_changed change v (Some n) whole = record { each = whole.each }
 
--- with a new current map that is finite and leads only to made files, so does each map of names
+-- if a state gets a new map of names that is finite and leads only to made files, this holds of each of its maps
 bounded-with_names : (v : TreeState) (new : NameMap) → AreMapsFiniteOfMadeFiles v
     → IsFiniteMapOfMadeFiles v.made new
     → AreMapsFiniteOfMadeFiles (with_names v new)
 bounded-with_names v new whole small = record { each = each }
   where
+    -- a map is the new one, or one of the maps before
     each : (map : NameMap) → IsCurrentOrOlderMap (with_names v new) map → IsFiniteMapOfMadeFiles v.made map
     each map (inl is) = same_map v.made map new is small
     each map (inr old) = whole.each map old
@@ -169,6 +178,7 @@ bounded-after_sync_names : (v : TreeState) → AreMapsFiniteOfMadeFiles v
     → AreMapsFiniteOfMadeFiles (after_sync_names v)
 bounded-after_sync_names v whole = record { each = each }
   where
+    -- the state after a sync of the names has only its current map
     each : (map : NameMap) → IsCurrentOrOlderMap (after_sync_names v) map
         → IsFiniteMapOfMadeFiles v.made map
     each map (inl is) = same_map v.made map v.names is (whole.each v.names (inl refl))

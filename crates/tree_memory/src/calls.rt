@@ -41,7 +41,7 @@ impl Plan {
         }
     }
 
-    /// The plan by which the calls with these numbers are to fail.
+    /// The plan by which the calls with these numbers are to fail; the next call is number 1.
     pub fn at(alloc: Global, calls: &[u64]) -> Result<Plan, AllocError>
         // On success the plan has these numbers, and no stop.
         ensures { OnOk result (result ≡ Ok (record { listed = calls.now; stop = None })) }
@@ -50,7 +50,7 @@ impl Plan {
         Ok(Plan { listed, stop: None })
     }
 
-    /// The plan by which all calls after the next n are to fail.
+    /// The plan by which all calls after the next n calls are to fail.
     pub fn after(alloc: Global, n: u64) -> Plan
         ensures { result ≡ record { listed = []; stop = Some n } }
     {
@@ -60,14 +60,17 @@ impl Plan {
         }
     }
 
-    /// Whether the next call is to fail. Afterwards the plan counts from the call after it.
+    /// Takes the next call: returns whether the plan makes it fail. Afterwards the numbers of the
+    /// plan are counted from the call after it.
     pub fn pass(&mut self) -> bool
         // True exactly if the next call is to fail.
         ensures planned { result ≡ is_next_call_to_fail self.old }
         // The plan is then counted from the call after this one.
         ensures nearer { self.new ≡ plan_after_one_call self.old }
     {
+        // Whether the list makes this call fail; the list is then counted from the next call.
         let listed = pass(&mut self.listed);
+        // A planned stop is one call nearer; without calls before it, this call fails too.
         match self.stop {
             None => listed,
             Some(n) => {
@@ -78,8 +81,8 @@ impl Plan {
     }
 }
 
-// Whether the next call is listed to fail. Then the list is counted from the call after it: each
-// number is one less, and 0 is dropped.
+// Takes the next call: returns whether it is in the list of calls that fail. Afterwards the list is
+// counted from the call after it: each number is one less, and 0 is dropped.
 fn pass(plan: &mut Vec<u64>) -> bool
     // True exactly if the next call is on the list.
     ensures planned { result ≡ is_next_call_listed plan.old.items }
@@ -194,8 +197,8 @@ impl Calls {
         }
     }
 
-    /// Counts a call, at its start. It fails if it is a misuse (`can` is false), or if its failure
-    /// is planned.
+    /// Counts a call of the tree, at its start. The call fails if it is a misuse (`can` is false),
+    /// or if its failure is planned.
     pub fn begin(&mut self, can: bool) -> Result<(), Disk>
         // The plan of failures is then counted from the call after this one.
         ensures plan { self.new.plan ≡ plan_after_one_call self.old.plan }
@@ -204,10 +207,11 @@ impl Calls {
             (is_next_call_to_fail self.old.plan) self.old.tally }
         // No count of failures falls.
         ensures grown { HasNotFallen self.old.tally self.new.tally }
-        // The call continues exactly if it is no misuse and no failure is planned for it.
+        // The result is Ok exactly if the call is no misuse and no failure is planned for it.
         ensures when { is_ok result ≡ goes_on can (is_next_call_to_fail self.old.plan) }
     {
         self.tally.call();
+        // Whether the plan makes this call fail; the plan then counts from the next call.
         let planned = self.plan.pass();
         if !can {
             self.tally.misuse();
@@ -220,8 +224,8 @@ impl Calls {
         Ok(())
     }
 
-    /// Counts a call that writes, at its start. It fails if it is a misuse (`can` is false), or if
-    /// its failure is planned.
+    /// Counts a call of the tree that writes, at its start. The call fails if it is a misuse (`can`
+    /// is false), or if its failure is planned.
     pub fn begin_write(&mut self, can: bool) -> Result<(), Disk>
         // The plan of failures is then counted from the call after this one.
         ensures plan { self.new.plan ≡ plan_after_one_call self.old.plan }
@@ -230,7 +234,7 @@ impl Calls {
             (record self.old.tally { writes = saturating_increment self.old.tally.writes }) }
         // No count of failures falls.
         ensures grown { HasNotFallen self.old.tally self.new.tally }
-        // The call continues exactly if it is no misuse and no failure is planned for it.
+        // The result is Ok exactly if the call is no misuse and no failure is planned for it.
         ensures when { is_ok result ≡ goes_on can (is_next_call_to_fail self.old.plan) }
     {
         self.tally.write();
@@ -260,8 +264,8 @@ impl Calls {
     }
 }
 
-/// A law: if no failure of a tree in memory is planned and a fault was counted, misuses or lacks of
-/// memory were counted too, or their count was at its last value.
+/// A law: if no failure of a tree in memory is planned and a fault was counted, a misuse or a lack
+/// of memory was counted too, or one of these two counts was at its greatest value.
 pub fn an_unplanned_fault_has_its_reason()
     ensures { (before now : MemoryTree) → has_later_failure (plan_of before) ≡ false
         → IsFaultCountedWithCause (counts_of before) (counts_of now)
@@ -269,16 +273,16 @@ pub fn an_unplanned_fault_has_its_reason()
         ⊎ RoseOrIsSaturated (counts_of before).memory_faults (counts_of now).memory_faults }
 {}
 
-/// A law: if no end of a sink in memory is planned, a fault means that the sink is out of memory,
-/// or that the count of these was at its last value.
+/// A law: if no end of a sink in memory is planned, each of its faults is a lack of memory, and is
+/// counted as one unless this count was at its greatest value.
 pub fn an_endless_sink_runs_out_of_memory()
     ensures { (before now : SinkState) → before.room ≡ None
         → IsFaultCountedWithCause (sink_counts before) (sink_counts now)
         → RoseOrIsSaturated before.memory_faults now.memory_faults }
 {}
 
-/// A law: the failure of call k + 1 from now on is planned exactly if this number is listed, or if
-/// the call is after the stop.
+/// A law: after k calls, the next call is to fail exactly if the plan makes call k + 1 fail: it is
+/// listed, or it is after the stop.
 pub fn a_call_fails_where_it_is_planned()
     ensures { (plan : PlanState) (k : ℕ) → is_next_call_to_fail (plan_after_calls k plan)
         ≡ is_call_to_fail plan (k + 1) }

@@ -1,4 +1,5 @@
-//! The images of a store: the stores that a crash may leave, each picked by a number.
+//! The images of a store: the stores that a crash may leave, each picked by a number (`choice`, of
+//! which the part `pick` picks the map of names).
 //! The rule is in `docs/crash-safety.md`, "Images of the tree in memory".
 ghost use Rattle.std.specs.Prelude.{◌≡◌, ◌+◌, ◌-◌, ◌<◌, ◌≤◌, ◌^◌, ℕ, [], List, true, false, if◌then◌else◌, IfOk, OnOk, length, take};
 ghost use Rattle.std.specs.List.{AllWithin};
@@ -29,6 +30,8 @@ impl Store {
         // The count is not 0.
         ensures some { 0 < result }
     {
+        // An empty tree has one map of names. Each recorded change adds a map, keeps the maps, or
+        // leaves only one.
         let mut maps = 1;
         for change in &self.changes {
             maps = maps_after(maps, change);
@@ -53,11 +56,14 @@ impl Store {
         ensures crash { IfOk result (λ image.
             IsAfterCrash (store_state self.now) (store_state image)) }
     {
+        // How many changes of names a crash may undo.
         let changes = self.maps() - 1;
+        // How many numbers pick a map of names.
         let picks = crash_image_count(changes);
         // What unsynced files contain: as read (0), no bytes (1), or bytes of value 255 (2).
         let way = choice / picks % 3;
         let names = self.image_names(alloc, changes, choice % picks)?;
+        // The image is a new store, into which each file of the picked map is put as synced.
         let mut image = Store::new(alloc);
         for entry in &names.entries {
             let bytes = crash_bytes(alloc, &self.files[entry.file], way)?;
@@ -79,6 +85,7 @@ impl Store {
         if picked.has_no_folder() {
             return Ok(picked);
         }
+        // The current names: those after all recorded changes.
         let Replayed { names, .. } = names_after(alloc, &self.changes)?;
         Ok(names)
     }
@@ -94,6 +101,7 @@ impl Store {
     {
         // Both tables begin with the names at the last sync. `names` then gets each later change,
         // and `picked` only those that are not undone.
+        // How many of the recorded changes come up to the last sync of the names.
         let start = last_sync(&self.changes);
         let first = names_after(alloc, &self.changes[..start])?;
         let second = names_after(alloc, &self.changes[..start])?;
@@ -105,6 +113,7 @@ impl Store {
             mut names,
             mut made,
         } = second;
+        // How many maps of names there are so far; a change of names has the number `maps - 1`.
         let mut maps = 1;
         for i in start..self.changes.len() {
             let change = &self.changes[i];
@@ -124,9 +133,12 @@ fn crash_image_count(changes: u64) -> u64
     // The count is not 0.
     ensures some { 0 < result }
 {
+    // One number for each subset of few changes.
     if changes <= FEW_CHANGES {
         return 1 << changes;
     }
+    // Of more changes: a number for each count of newest changes that are undone, from 0 to all,
+    // and a number for each change that is undone alone.
     changes.saturating_mul(2).saturating_add(1)
 }
 
@@ -135,12 +147,15 @@ fn crash_image_count(changes: u64) -> u64
 fn is_change_undone(changes: u64, pick: u64, number: u64) -> bool
     ensures { result ≡ is_change_undone changes pick number }
 {
+    // Of few changes, each has one binary digit of `pick`, the newest the lowest digit.
     if changes <= FEW_CHANGES {
         return is_bit_set_at(pick, changes.saturating_sub(number).saturating_sub(1));
     }
+    // Otherwise a small `pick` undoes so many of the newest changes.
     if pick <= changes {
         return changes - pick <= number;
     }
+    // A larger `pick` undoes one change alone.
     pick - changes - 1 == number
 }
 
@@ -148,6 +163,7 @@ fn is_change_undone(changes: u64, pick: u64, number: u64) -> bool
 fn is_bit_set_at(n: u64, place: u64) -> bool
     ensures { result ≡ is_bit_set_at n place }
 {
+    // `n` without its lowest digits, and how many more of the digits are to be removed.
     let mut left = n;
     let mut places = place;
     while places > 0 {
@@ -191,7 +207,8 @@ fn syncs_names(change: &Change) -> bool
     }
 }
 
-// How many of these changes are up to the last one that synced the names, this one included.
+// How many of these changes come up to the last change that synced the names, with this change. The
+// result is 0 if no change synced the names.
 fn last_sync(changes: &[Change]) -> usize
     // Not more than there are changes.
     ensures within { result ≤ length changes.now }
@@ -212,7 +229,7 @@ fn last_sync(changes: &[Change]) -> usize
     n
 }
 
-// The names after the first changes of a record, and how many files these changes made.
+// The names to which some changes, replayed on an empty tree, lead, and how many files they made.
 #[derive(Drop)]
 struct Replayed {
     // The names after the changes.
@@ -221,7 +238,7 @@ struct Replayed {
     made: usize,
 }
 
-// The names after the first changes of a record.
+// Replays changes on an empty tree: the names after them, and how many files they made.
 fn names_after(alloc: Global, changes: &[Change]) -> Result<Replayed, AllocError>
     // The table has the names of the state after these changes, and `made` its number of files.
     ensures names { IfOk result (λ replayed. (contents : List (List ℕ))
@@ -302,8 +319,8 @@ fn keep_change(
     }
 }
 
-// Lets a picked name lead to a file, or removes it if `file` is None. If the name leads there in
-// `names` already, the picked names are unchanged.
+// Lets a picked name lead to a file, or removes this name if `file` is None. If the name leads to
+// the same file in `names` already, the picked names are unchanged.
 fn lead(
     alloc: Global,
     picked: &mut NameTable,
@@ -311,13 +328,14 @@ fn lead(
     name: &Name,
     file: Option<usize>,
 ) -> Result<(), AllocError>
-    // The name is changed so in the picked names, and all other picked names are as before.
+    // Only this name is changed in the picked names, and only if it leads elsewhere in `names`.
     ensures { OnOk result ((q : List ℕ) → lookup picked.new.entries.items q
         ≡ (if bytes_eq q name.now then
         (if lead_to_same_file (lookup names.now.entries.items name.now) file then
         lookup picked.old.entries.items q else file)
         else lookup picked.old.entries.items q)) }
 {
+    // The change does not move this name: it leads to the same file, or to none, in `names`.
     if names.find(name.as_bytes()) == file {
         return Ok(());
     }
@@ -395,7 +413,7 @@ pub fn each_map_of_few_changes_is_picked()
         → (pick : ℕ) × (pick < crash_image_count_of v) × (picked_crash_map pick v ≡ map) }
 {}
 
-/// A law: the number 0 picks the current map of names.
+/// A law: the number 0 picks the current map of names, in which no change is undone.
 pub fn no_change_is_undone_by_0()
     ensures { (v : TreeState) → picked_crash_map 0 v ≡ v.names }
 {}

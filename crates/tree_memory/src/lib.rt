@@ -1,5 +1,5 @@
-//! A tree and a sink in memory, with everything observable. Tests and generated runs fill them,
-//! plan their failures, and read them back.
+//! A tree and a sink in memory, whose states contracts can see. Tests and the command `demo` fill
+//! them, plan their failures, and read them back.
 //!
 //! Names and bytes are copied in and lent out. The contracts cite of `specs/`: `Memory` (the states
 //! of a tree, its counts and its plan, and why a call fails), `Changes` (what a put does to a

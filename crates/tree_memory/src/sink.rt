@@ -1,4 +1,4 @@
-//! A sink in memory.
+//! A sink in memory, which tests use as standard output or standard error.
 //! The contract is that of `Sink` of `base_core`; the counts are described in
 //! `docs/crash-safety.md`, "Misuses, faults and counts".
 ghost use Rattle.std.specs.Prelude.{◌≡◌, ◌≤◌, List, Option, Some, take, IfOk, OnErr, [], IsOk};
@@ -21,7 +21,7 @@ pub struct MemorySink {
     most: Option<usize>,
     // How many writes failed.
     faults: u64,
-    // How many of these failed because the sink was out of memory.
+    // How many of the failed writes failed because the sink was out of memory.
     memory_faults: u64,
 }
 
@@ -70,6 +70,7 @@ impl MemorySink {
 
     /// Takes at most this many bytes in each write, as a pipe may.
     pub fn take_at_most(&mut self, n: usize)
+        // The limit is at least one byte, so that each write makes progress.
         requires { 1 ≤ n }
         ensures { self.new ≡ record self.old { most = Some n } }
     {
@@ -140,7 +141,7 @@ impl Sink for MemorySink {
     // The counts of a sink: its failed calls, and those that ran out of memory.
     ghost counts = { λ sink. sink_counts sink };
 
-    /// Takes a prefix of a piece, as long as it can, and returns how many bytes that is.
+    /// Appends a prefix of `piece`, as long as the sink takes, and returns its length in bytes.
     fn write(&mut self, piece: &[u8]) -> Result<usize, SinkFault>
         // The returned number is at most the length of the piece, and not 0 unless the piece is
         // empty.
@@ -158,12 +159,13 @@ impl Sink for MemorySink {
         // On success the sink takes as many bytes as it can: all that fit, or the most that a
         // write takes.
         ensures ok { IfOk result (λ n. Takes self.old piece.now n self.new) }
-        // It fails only if no byte fits, or if the sink is out of memory.
+        // The write fails only if no byte fits, or if the sink is out of memory.
         ensures err { OnErr result (Refuses self.old piece.now self.new) }
     {
         if piece.is_empty() {
             return Ok(0);
         }
+        // How many bytes of the piece this write takes: none if no room is left.
         let n = len_within_write_limit(self.most, len_that_fits(self.room, piece.len()));
         if n == 0 {
             return Err(self.fault());

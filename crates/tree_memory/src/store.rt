@@ -56,10 +56,11 @@ impl Store {
         }
     }
 
-    /// Fills a buffer with the file's bytes from an offset on.
+    /// Fills the buffer `into` with the file's bytes from the offset `at` on.
     pub fn read_at(&self, name: &Name, at: u64, into: &mut [u8])
         // The file must be present, and have as many bytes after the offset as the buffer.
         requires { CanRead name.now at (length into.old) (store_state self.now) }
+        // The buffer has the bytes of the file from the offset on.
         ensures { IfSome (files_of (store_state self.now) name.now)
             (λ bytes. into.new ≡ take (length into.old) (drop at bytes)) }
     {
@@ -82,7 +83,7 @@ impl Store {
         self.names.list_below(alloc, folder.as_bytes())
     }
 
-    // ---- which calls the state allows: any other call is a misuse
+    // ---- whether the current state allows a call; a call that it does not allow is a misuse
 
     /// Whether the file is present, and has at least `len` bytes from the offset `at` on.
     pub fn can_read(&self, name: &Name, at: u64, len: usize) -> bool
@@ -133,7 +134,7 @@ impl Store {
         self.names.fits(to.as_bytes(), from.as_bytes())
     }
 
-    // ---- changes; a refused change changes nothing
+    // ---- changes; a change that runs out of memory changes nothing
 
     /// Puts a new synced file under the name, and syncs the names.
     pub fn put(&mut self, name: &Name, bytes: Vec<u8>) -> Result<(), AllocError>
@@ -148,8 +149,10 @@ impl Store {
         // All memory is reserved before the first change, so that a refused put changes nothing.
         self.changes.reserve(1)?;
         self.files.reserve(1)?;
+        // The number of the new file.
         let file = self.files.len();
         let len = bytes.len();
+        // Two copies of the name: one for the record of changes, one for the table of names.
         let recorded = name.copy(self.alloc)?;
         let named = name.copy(self.alloc)?;
         self.names.set(named, file)?;
@@ -184,7 +187,9 @@ impl Store {
         // Memory for the record of this change, so that nothing fails after the first change.
         self.changes.reserve(1)?;
         self.files.reserve(1)?;
+        // The number of the new file.
         let file = self.files.len();
+        // Two copies of the name: one for the record of changes, one for the table of names.
         let recorded = name.copy(self.alloc)?;
         let named = name.copy(self.alloc)?;
         self.names.set(named, file)?;
@@ -251,6 +256,7 @@ impl Store {
         if let Some(file) = self.names.find(from.as_bytes()) {
             // Memory for the record of this change, so that nothing fails after the first change.
             self.changes.reserve(1)?;
+            // Copies of the names: two for the record of changes, one for the table of names.
             let recorded_from = from.copy(self.alloc)?;
             let recorded_to = to.copy(self.alloc)?;
             let named = to.copy(self.alloc)?;
@@ -267,7 +273,7 @@ impl Store {
         Ok(())
     }
 
-    /// Removes the name; removing an absent name adds one more state that is the same.
+    /// Removes the name. If it is absent, one more state is added that equals the newest state.
     pub fn remove(&mut self, name: &Name) -> Result<(), AllocError>
         // On success one state is added to the history, that after this call.
         ensures ok { OnOk result (store_history self.new
@@ -304,17 +310,18 @@ impl Store {
     }
 }
 
-// Adds an element for which there is room.
+// Adds an element to a list, whose memory was reserved before.
 fn add<X: Drop>(list: &mut Vec<X>, x: X)
     // The list must have room for one more element.
     requires { vec_len list.old < vec_capacity list.old }
+    // The element is added at the end of the list.
     ensures { list.new.items ≡ list.old.items ++ x ∷ [] }
 {
-    // There is room, so that it cannot fail.
+    // There is room, so that the push cannot fail.
     let _ = list.push(x);
 }
 
-/// Whether at least `len` bytes follow the offset `at`.
+/// Whether `bytes` has at least `len` bytes from the offset `at` on.
 fn has_range(bytes: &[u8], at: u64, len: usize) -> bool
     ensures { IsTrue result ↔ (at + len ≤ length bytes.now) }
 {
@@ -325,8 +332,9 @@ fn has_range(bytes: &[u8], at: u64, len: usize) -> bool
     len <= have - at as usize
 }
 
-/// Copies bytes from an offset on, as many as the buffer has.
+/// Fills the buffer `into` with the bytes from the offset `start` on.
 fn copy_from(bytes: &[u8], start: usize, into: &mut [u8])
+    // There are enough bytes from the offset on to fill the buffer.
     requires { start + length into.old ≤ length bytes.now }
     ensures { into.new ≡ take (length into.old) (drop start bytes.now) }
 {

@@ -90,9 +90,8 @@ impl NameTable {
         }
     }
 
-    /// Whether the name may be made: it is no folder of a name of the table other than `but`, and
-    /// has none of them as its folder. `but` is the name that a rename removes; for a put it is the
-    /// name itself.
+    /// Whether the name may be added: no name of the table, other than `but`, is a folder of this
+    /// name or is below it. `but` is the name that a rename removes; for a put it is `name` itself.
     pub fn fits(&self, name: &[u8], but: &[u8]) -> bool
         ensures { IsTrue result ↔ MakesNoFolderOfAnother self.now.entries.items name.now but.now }
     {
@@ -115,7 +114,7 @@ impl NameTable {
         true
     }
 
-    // Whether a folder of the name is itself a name of the table, other than `but`.
+    // Whether a folder of the path `name` is itself a name of the table, other than `but`.
     fn has_folder_of(&self, name: &[u8], but: &[u8]) -> bool
         ensures { IsTrue result ↔ HasFolderOtherThan self.now.entries.items name.now but.now }
     {
@@ -142,6 +141,7 @@ impl NameTable {
     fn has_below(&self, folder: &[u8], but: &[u8]) -> bool
         ensures { IsTrue result ↔ HasNameBelowOtherThan self.now.entries.items folder.now but.now }
     {
+        // The names below the folder are next to each other in the table, from this place on.
         let start = self.start(folder);
         for i in start..self.entries.len() {
             let name = self.entries[i].name.as_bytes();
@@ -180,6 +180,7 @@ impl NameTable {
         ensures { IfOk result (AreTableNamesBelow self.now.entries.items folder.now) }
     {
         let mut names = Names::new(alloc);
+        // The names below the folder are next to each other in the table, from this place on.
         let start = self.start(folder);
         for i in start..self.entries.len() {
             let name = &self.entries[i].name;
@@ -192,7 +193,7 @@ impl NameTable {
     }
 }
 
-// Whether a name is, in byte order, before the text of the folder's name and a slash.
+// Whether a name is, in byte order, before the text `FOLDER/`, with which the names below begin.
 fn is_before(name: &[u8], folder: &[u8]) -> bool
     ensures { result ≡ is_lt (slice_cmp nat_cmp name.now (folder.now ++ 47 ∷ [])) }
 {
@@ -203,7 +204,7 @@ fn is_before(name: &[u8], folder: &[u8]) -> bool
     }
 }
 
-// How a name compares, in byte order, with the text of the folder's name and a slash.
+// How a name compares, in byte order, with the text `FOLDER/`.
 fn against_folder(name: &[u8], folder: &[u8]) -> Ordering
     ensures { result ≡ slice_cmp nat_cmp name.now (folder.now ++ 47 ∷ []) }
 {

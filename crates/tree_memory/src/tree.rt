@@ -1,4 +1,5 @@
-//! A tree of files in memory: its own calls, and those of the trait `Tree`.
+//! A tree of files in memory: its own calls, by which tests fill, break and read it, and those of
+//! the trait `Tree`.
 //! The contracts are those of `Tree` of `base_core`; the rules are in `docs/crash-safety.md`,
 //! "What each call does" and "Misuses, faults and counts".
 ghost use Rattle.std.specs.Prelude.{◌≡◌, ◌↔◌, [], ◌∷◌, List, Some, None, IsTrue, IsOk, IfOk, IfSome, IsErrOf, OnOk, OnErr, false, true, length, max, take, drop, if◌then◌else◌};
@@ -64,9 +65,10 @@ impl MemoryTree {
         self.store.can_put(name)
     }
 
-    /// Puts a synced file, and syncs the names. It is no call of `Tree` and is not counted. A
-    /// refused put changes nothing.
+    /// Puts a synced file, and syncs the names. A put is no call of `Tree` and is not counted. If
+    /// out of memory, nothing changes.
     pub fn put(&mut self, name: &Name, bytes: &[u8]) -> Result<(), AllocError>
+        // No name may become a folder of another.
         requires { CanPut name.now (tree_state self.old) }
         // On success one state is added: the file is new and synced, and the names are synced.
         ensures ok { OnOk result (history_of self.new
@@ -105,8 +107,8 @@ impl MemoryTree {
         self.store.names(alloc)
     }
 
-    /// Makes the calls with these numbers fail, counted from 1 from now on; this replaces the
-    /// earlier plan. A refused plan changes nothing.
+    /// Plans that the calls of `Tree` with these numbers fail; the next call is number 1. This
+    /// replaces the earlier plan. If out of memory, nothing changes.
     pub fn fail_at(&mut self, calls: &[u64]) -> Result<(), AllocError>
         // On success the plan is this list of calls, and has no stop.
         ensures ok { OnOk result (plan_of self.new ≡ record { listed = calls.now; stop = None }) }
@@ -128,7 +130,7 @@ impl MemoryTree {
         Ok(())
     }
 
-    /// Makes every call after the next n fail; this replaces the earlier plan.
+    /// Plans that each call of `Tree` after the next n calls fails; this replaces the earlier plan.
     pub fn stop_after(&mut self, n: u64)
         // The plan is this stop alone, without listed calls.
         ensures plan { plan_of self.new ≡ record { listed = []; stop = Some n } }
@@ -244,7 +246,7 @@ impl Tree for MemoryTree {
     // The proof that each state of a tree so far is well formed.
     ghost whole = { λ tree. well_formed_history tree };
 
-    // A tree in memory takes a file under each name, and allows each name to be removed.
+    // True of each source and each name: no folder of a tree in memory refuses a rename or removal.
     ghost accepts = { λ source name. Unit {0} };
 
     /// The length of a file in bytes, or None if the name is absent.
@@ -254,14 +256,14 @@ impl Tree for MemoryTree {
         // How the counts change; each state allows the call, so that it is no misuse.
         ensures counts { IsCounted IsAlwaysAllowed (history_of self.old) (counts_of self.old)
             (counts_of self.new) result }
-        // What is returned, if the history is observable.
+        // On success the result is the length of the file under the name, or None if it is absent.
         ensures value { IfOk result (λ size.
             IfObservable (history_of self.old)
             (λ v. size ≡ option_map length (files_of v name.now))) }
 
         // The call fails exactly if its failure is planned.
         ensures when { IsOk result ↔ (is_next_call_to_fail (plan_of self.old) ≡ false) }
-        // What is counted of the call, and why it fails.
+        // One more call that only reads is counted; an error is counted as a fault.
         ensures call { IsReadCall self.old self.new result }
         // The greatest length that a `read_at` asked for is unchanged.
         ensures longest { longest_read_of self.new ≡ longest_read_of self.old }
@@ -274,14 +276,14 @@ impl Tree for MemoryTree {
         }
     }
 
-    /// Fills a buffer with the file's bytes from an offset on.
+    /// Fills the buffer `into` with the file's bytes from the offset `at` on.
     fn read_at(&mut self, name: &Name, at: u64, into: &mut [u8]) -> Result<(), Disk>
         // The call adds no state to the history.
         ensures same { history_of self.new ≡ history_of self.old }
         // How the counts change; the call is a misuse in the states that do not allow it.
         ensures counts { IsCounted (CanRead name.now at (length into.old)) (history_of self.old)
             (counts_of self.old) (counts_of self.new) result }
-        // What is returned, if the history is observable.
+        // On success the buffer has the bytes of the file from the offset on.
         ensures value { OnOk result (IfObservable (history_of self.old)
             (λ v. IfSome (files_of v name.now) (λ bytes.
             into.new ≡ take (length into.old) (drop at bytes)))) }
@@ -291,13 +293,14 @@ impl Tree for MemoryTree {
             × CanRead name.now at (length into.old) (tree_state self.old)) }
         // An error leaves the buffer as it was.
         ensures unchanged_after_failed_call { OnErr result (into.new ≡ into.old) }
-        // What is counted of the call, and why it fails.
+        // One more call that only reads is counted; an error is counted as a fault.
         ensures call { IsReadCall self.old self.new result }
-        // The greatest length that a `read_at` asked for: as before, or the length of this buffer.
+        // The greatest length that a `read_at` asked for, this call included.
         ensures longest { longest_read_of self.new
             ≡ max (longest_read_of self.old) (length into.old) }
     {
         self.longest = self.longest.max(into.len() as u64);
+        // Whether the file is present and long enough; otherwise the call is a misuse.
         let can = self.store.can_read(name, at, into.len());
         // Counts the call; ends it if it is a misuse, or if its failure is planned.
         self.calls.begin(can)?;
@@ -307,7 +310,7 @@ impl Tree for MemoryTree {
 
     /// Makes an empty file under an absent name.
     fn create(&mut self, name: &Name) -> Result<(), Disk>
-        // Which state is added to the history: on success, and on an error.
+        // Success adds the state with the new empty file; an error adds the same state, or none.
         ensures moves { ChangesHistory (CanCreate name.now) (after_create name.now) (after_create
             name.now)
             (history_of self.old) (history_of self.new) result }
@@ -319,6 +322,7 @@ impl Tree for MemoryTree {
         // the tree is out of memory. If it fails, the history is unchanged.
         ensures call { IsWriteCall (CanCreate name.now) self.old self.new result }
     {
+        // Whether the name is absent, and makes no name a folder of another.
         let can = self.store.can_create(name);
         // Counts the call; ends it if it is a misuse, or if its failure is planned.
         self.calls.begin_write(can)?;
@@ -328,15 +332,17 @@ impl Tree for MemoryTree {
 
     /// Adds a piece at the end of a file.
     fn append(&mut self, name: &Name, piece: &[u8]) -> Result<(), Disk>
-        // Which state is added to the history: on success, and on an error.
+        // Success adds the state with the piece at the file's end; an error adds a state in which
+        // the file is unsynced, or none.
         ensures moves { ChangesHistory (HasName name.now) (after_append name.now piece.now)
             (after_failed_append name.now) (history_of self.old) (history_of self.new) result }
         // How the counts change; the call is a misuse in the states that do not allow it.
         ensures counts { IsCounted (HasName name.now) (history_of self.old) (counts_of self.old)
             (counts_of self.new) result }
-        // What is counted of the call, and why it fails.
+        // One more call that writes is counted. An error has its cause, and adds no state.
         ensures call { IsWriteCall (HasName name.now) self.old self.new result }
     {
+        // Whether the name is present; otherwise the call is a misuse.
         let can = self.store.has(name);
         // Counts the call; ends it if it is a misuse, or if its failure is planned.
         self.calls.begin_write(can)?;
@@ -346,16 +352,17 @@ impl Tree for MemoryTree {
 
     /// Makes the bytes of a file durable.
     fn sync(&mut self, name: &Name) -> Result<(), Disk>
-        // Which state is added to the history: on success, and on an error.
+        // Success adds the state with the synced file; an error adds the old state again, or none.
         ensures moves { ChangesHistory (HasName name.now)
             (after_sync name.now) unchanged_after_failed_call
             (history_of self.old) (history_of self.new) result }
         // How the counts change; the call is a misuse in the states that do not allow it.
         ensures counts { IsCounted (HasName name.now) (history_of self.old) (counts_of self.old)
             (counts_of self.new) result }
-        // What is counted of the call, and why it fails.
+        // One more call that writes is counted. An error has its cause, and adds no state.
         ensures call { IsWriteCall (HasName name.now) self.old self.new result }
     {
+        // Whether the name is present; otherwise the call is a misuse.
         let can = self.store.has(name);
         // Counts the call; ends it if it is a misuse, or if its failure is planned.
         self.calls.begin_write(can)?;
@@ -363,17 +370,18 @@ impl Tree for MemoryTree {
         self.calls.finish(done)
     }
 
-    /// Moves the file of one name to another.
+    /// Moves the file of the name `from` to the name `to`.
     fn rename(&mut self, from: &Name, to: &Name) -> Result<(), Disk>
-        // Which state is added to the history: on success, and on an error.
+        // Success adds the state with the file under `to`; an error adds the same state, or none.
         ensures moves { ChangesHistory (CanRename from.now to.now) (after_rename from.now to.now)
             (after_rename from.now to.now) (history_of self.old) (history_of self.new) result }
         // How the counts change; the call is a misuse in the states that do not allow it.
         ensures counts { IsCounted (CanRename from.now to.now) (history_of self.old)
             (counts_of self.old) (counts_of self.new) result }
-        // What is counted of the call, and why it fails.
+        // One more call that writes is counted. An error has its cause, and adds no state.
         ensures call { IsWriteCall (CanRename from.now to.now) self.old self.new result }
     {
+        // Whether `from` is present, and `to` makes no name a folder of another.
         let can = self.store.can_rename(from, to);
         // Counts the call; ends it if it is a misuse, or if its failure is planned.
         self.calls.begin_write(can)?;
@@ -381,16 +389,16 @@ impl Tree for MemoryTree {
         self.calls.finish(done)
     }
 
-    /// Removes a name; an absent one is no fault.
+    /// Removes a name; an absent name is no fault.
     fn remove(&mut self, name: &Name) -> Result<(), Disk>
-        // Which state is added to the history: on success, and on an error.
+        // Success adds the state without the name; an error adds the same state, or none.
         ensures moves { ChangesHistory IsAlwaysAllowed (after_remove name.now) (after_remove
             name.now)
             (history_of self.old) (history_of self.new) result }
         // How the counts change; each state allows the call, so that it is no misuse.
         ensures counts { IsCounted IsAlwaysAllowed (history_of self.old) (counts_of self.old)
             (counts_of self.new) result }
-        // What is counted of the call, and why it fails.
+        // One more call that writes is counted. An error has its cause, and adds no state.
         ensures call { IsWriteCall IsAlwaysAllowed self.old self.new result }
     {
         // Counts the call, which each state allows; ends it if its failure is planned.
@@ -399,15 +407,16 @@ impl Tree for MemoryTree {
         self.calls.finish(done)
     }
 
-    /// Makes all names durable.
+    /// Makes all changes of names durable.
     fn sync_names(&mut self) -> Result<(), Disk>
-        // Which state is added to the history: on success, and on an error.
+        // Success adds the state without older maps of names; an error adds the state before the
+        // call again, or none.
         ensures moves { ChangesHistory IsAlwaysAllowed after_sync_names unchanged_after_failed_call
             (history_of self.old) (history_of self.new) result }
         // How the counts change; each state allows the call, so that it is no misuse.
         ensures counts { IsCounted IsAlwaysAllowed (history_of self.old) (counts_of self.old)
             (counts_of self.new) result }
-        // What is counted of the call, and why it fails.
+        // One more call that writes is counted. An error has its cause, and adds no state.
         ensures call { IsWriteCall IsAlwaysAllowed self.old self.new result }
     {
         // Counts the call, which each state allows; ends it if its failure is planned.
@@ -416,8 +425,8 @@ impl Tree for MemoryTree {
         self.calls.finish(done)
     }
 
-    /// The present names below a folder, in byte order. Out of memory for the answer is no fault of
-    /// the tree.
+    /// The present names below a folder, at any depth, in byte order. Out of memory for the answer
+    /// is no fault of the tree.
     fn list(&mut self, alloc: Global, folder: &Name) -> Result<Names, TreeFault>
         // The call adds no state to the history.
         ensures same { history_of self.new ≡ history_of self.old }
@@ -433,15 +442,15 @@ impl Tree for MemoryTree {
             → CountsNoNewFault (counts_of self.old) (counts_of self.new) }
         // The call is no misuse.
         ensures proper { (counts_of self.new).misuses ≡ (counts_of self.old).misuses }
-        // What is returned, if the history is observable.
+        // The answer has exactly the present names below the folder, in byte order.
         ensures value { IfOk result (λ names.
             IfObservable (history_of self.old) (λ v. IsSortedListingOfFolder folder.now v names)) }
-        // The answer has only names below the folder, in byte order.
+        // Each element of the answer is a valid name below the folder.
         ensures order { IfOk result (λ names. AreSortedNamesBelowFolder folder.now names) }
 
         // The call fails with an I/O error exactly if its failure is planned.
         ensures when { IsErrOf result DiskFault ↔ (is_next_call_to_fail (plan_of self.old) ≡ true) }
-        // The plan of failures is counted from the next call on.
+        // The numbers of the plan are then counted from the call after this call.
         ensures plan { plan_of self.new ≡ plan_after_one_call (plan_of self.old) }
         // One more call was made.
         ensures calls { calls_of self.new ≡ saturating_increment (calls_of self.old) }
@@ -466,7 +475,7 @@ impl Tree for MemoryTree {
         Ok(names)
     }
 
-    /// Returns Ok unless a failure is planned: a tree in memory has no folders that refuse.
+    /// Returns Ok unless a failure is planned: no folder of a tree in memory refuses a name.
     fn check_target(&mut self, name: &Name, source: Option<&Name>) -> Result<(), Disk>
         // The call adds no state to the history.
         ensures same { history_of self.new ≡ history_of self.old }
@@ -476,7 +485,7 @@ impl Tree for MemoryTree {
 
         // The call fails exactly if its failure is planned.
         ensures when { IsOk result ↔ (is_next_call_to_fail (plan_of self.old) ≡ false) }
-        // What is counted of the call, and why it fails.
+        // One more call that only reads is counted; an error is counted as a fault.
         ensures call { IsReadCall self.old self.new result }
         // The greatest length that a `read_at` asked for is unchanged.
         ensures longest { longest_read_of self.new ≡ longest_read_of self.old }

@@ -1,5 +1,5 @@
 -- The grammar of a version, after apk-package(5):
--- `number{.number}{letter}{_suffix{number}}{~hash}{-r#}`. It is defined here by the parts of a version:
+-- `number{.number}{letter}{_suffix{number}}{~hash}{-r#}`. The grammar is defined here by the parts of a version:
 -- how they are spelled, and which tokens they have. The rules are in `docs/formats.md`, "Versions": of
 -- the grammar the paragraph "A version is a number", of the tokens "A version is compared by its
 -- tokens". Byte values: 46 `.`, 95 `_`, 126 `~`, 45 `-`, 114 `r`.
@@ -17,20 +17,19 @@ pub record SuffixPart : Type 0 where
   -- the digits after the word
   pub number : Option (List ℕ)
 
--- the parts of a version: the digits of its first component and of each later one, then what may follow
--- them (a letter, suffixes, the digits of a hash and those of a revision)
+-- the parts of a version, as bytes: the components, then what may follow them (a letter, suffixes, a hash, a revision)
 pub record Parts : Type 0 where
   -- the digits of the first component
   pub first : List ℕ
   -- the digits of each later component
   pub later : List (List ℕ)
-  -- the letter after them
+  -- the letter after the components, if there is one
   pub letter : Option ℕ
   -- the suffixes in their order
   pub suffixes : List SuffixPart
-  -- the hexadecimal digits of the hash
+  -- the hexadecimal digits of the hash, if there is one
   pub hash : Option (List ℕ)
-  -- the digits of the revision
+  -- the digits of the revision, if there is one
   pub revision : Option (List ℕ)
 
 -- whether an optional part is absent or passes a test
@@ -78,12 +77,12 @@ suffixes_text [] = []
 suffixes_text (suffix ∷ rest) =
     95 ∷ (suffix.name ++ (number_text suffix.number ++ suffixes_text rest))
 
--- the text of the hash: `~` and its digits
+-- the text of the hash: `~` and its digits; empty if there is none
 abbrev pub hash_text : Option (List ℕ) → List ℕ
 hash_text None = []
 hash_text (Some digits) = 126 ∷ digits
 
--- the text of the revision: `-r` and its digits
+-- the text of the revision: `-r` and its digits; empty if there is none
 abbrev pub revision_text : Option (List ℕ) → List ℕ
 revision_text None = []
 revision_text (Some digits) = 45 ∷ 114 ∷ digits
@@ -138,7 +137,7 @@ tokens_of parts =
     ∷ (later_component_tokens parts.later ++ (letter_tokens parts.letter ++ (suffix_tokens parts.suffixes
     ++ (hash_tokens parts.hash ++ (revision_tokens parts.revision ++ token_without_value End ∷ [])))))
 
--- a text is spelled after the grammar: some parts of a version spell it
+-- a text is a version by the grammar: some parts that follow the grammar spell it
 pub record IsSpelledVersion (text : List ℕ) : Type 0 where
   -- the parts of the version
   pub parts : Parts

@@ -9,15 +9,15 @@ use Rattle.version_core.specs.Op.{EQUAL, LESS, GREATER, FUZZY, is_operator_bits}
 use Rattle.version_core.specs.Order.{is_last_token_class, token_cmp, tokens, version_cmp}
 use Rattle.version_core.specs.Token.{Token}
 
--- the operator with these match bits, if they are those of an operator
+-- these match bits if they are those of an operator, else None
 abbrev pub operator_if_bits : ℕ → Option ℕ
 operator_if_bits bits = if is_operator_bits bits then Some bits else None
 
--- whether this match bit is set in the match bits of an operator
+-- whether the match bit `bit` is set in the match bits of an operator
 abbrev pub has_bit : ℕ → ℕ → Bool
 has_bit bits bit = not (bit_and bits bit == 0)
 
--- whether the text of a found component begins with the text of the wanted one
+-- whether the text `found` of a component begins with the text `wanted`
 abbrev pub is_prefix_of : List ℕ → List ℕ → Bool
 is_prefix_of wanted found = bytes_eq wanted (take (length wanted) found)
 
@@ -27,8 +27,8 @@ abbrev pub is_zero_component : Class → Bool
 is_zero_component ZeroComponent = true
 is_zero_component _ = false
 
--- whether a found token fits a wanted one in a fuzzy match: they are equal, after a component that is
--- compared as text is cut to the wanted one's length
+-- whether the token `found` fits the token `wanted` in a fuzzy match: both are equal. If both are components that are
+-- compared as text, it is enough that `found` begins with `wanted`
 unfoldable pub fits : Token → Token → Bool
 fits wanted found =
     if is_zero_component wanted.class && is_zero_component found.class
@@ -42,12 +42,12 @@ all_fit [] found = true
 all_fit (w ∷ ws) [] = is_last_token_class w.class
 all_fit (w ∷ ws) (f ∷ fs) = is_last_token_class w.class || (fits w f && all_fit ws fs)
 
--- the fuzzy match: whether the found version begins with the tokens of the wanted one
+-- the fuzzy match: whether the version `found` begins with the tokens of the version `wanted`
 unfoldable pub is_fuzzy_match : List ℕ → List ℕ → Bool
 is_fuzzy_match found wanted = all_fit (tokens wanted) (tokens found)
 
--- whether an operator accepts a version: one of its match bits holds for the found version against the
--- wanted one
+-- whether the operator with these match bits accepts the version `found`: one of the bits holds for `found`, compared
+-- with the version `wanted`
 unfoldable pub matches : ℕ → List ℕ → List ℕ → Bool
 matches bits found wanted =
     (has_bit bits EQUAL && is_eq (version_cmp found wanted))

@@ -20,7 +20,7 @@ GREATER = 4
 abbrev pub FUZZY : ℕ
 FUZZY = 8
 
--- whether four bits are an operator: less or greater only together with equal (so neither 6, which is 2
--- and 4, nor 14, which is 2, 4 and 8)
+-- whether a number is the match bits of an operator: four bits, in which less and greater are not both set without
+-- equal (so neither 6, which is 2 and 4, nor 14, which is 2, 4 and 8)
 abbrev pub is_operator_bits : ℕ → Bool
 is_operator_bits bits = nat_lt bits 16 && not (bits == 6) && not (bits == 14)

@@ -19,8 +19,8 @@ abbrev pub is_last_token_class : Class → Bool
 is_last_token_class End = true
 is_last_token_class class = is_stray_class class
 
--- the tokens of the rest of a version, after a token of the class `last`; None if the rest is the
--- whole version. The first `inside` bytes of the rest still belong to the token before
+-- the tokens of a text that follows a token of the class `last` in a version; None if the text is the whole version.
+-- The first `inside` bytes of the text still belong to this token
 abbrev pub tokens_after_class_skipping_bytes : Option Class → ℕ → List ℕ → List Token
 tokens_after_class_skipping_bytes last inside [] = (lexeme_at last []).token ∷ []
 tokens_after_class_skipping_bytes last (suc inside) (b ∷ rest) =
@@ -31,7 +31,8 @@ tokens_after_class_skipping_bytes last zero (b ∷ rest) =
     ∷ (if is_last_token_class found.token.class then []
     else tokens_after_class_skipping_bytes (Some found.token.class) (found.width - 1) rest)
 
--- the tokens of a text, the end included; at bytes outside the grammar they stop with a stray one
+-- the tokens of a text, with the end of the text as the last token. At bytes outside the grammar they end with a stray
+-- token
 unfoldable pub tokens : List ℕ → List Token
 tokens text = tokens_after_class_skipping_bytes None 0 text
 

@@ -7,32 +7,33 @@ use Rattle.version_core.specs.Reading.{is_hash, unread_len}
 use Rattle.version_core.specs.Token.{Lexeme}
 use Rattle.version_core.specs.declared.overlapping.Place.{Place}
 
--- how many bytes of a token are skipped at first: of a hash only its mark and one digit
+-- how many bytes of a token are skipped at first, given its lexeme: all bytes, but of a hash only its mark and one
+-- digit
 abbrev pub passed_len : Lexeme → ℕ
 passed_len found = if is_hash found.token.class then 2 else found.width
 
--- whether this text may be the rest of a version after a place, which may be between the digits of a
--- hash
+-- whether the text `rest` may be what follows this place in a version. The place has the class of the token before it,
+-- and may be between the digits of a hash
 abbrev pub is_valid_version_rest : Place → List ℕ → Bool
 is_valid_version_rest place rest =
     are_in_grammar (tokens_after_class_skipping_bytes (Some place.class)
     (unread_len (Some place.class) rest) rest)
 
--- whether the bytes between a place and an end may be the rest of a version
+-- whether the bytes between this place and the offset `end` may be the rest of a version
 abbrev pub can_rest_follow_place : List ℕ → Place → ℕ → Bool
 can_rest_follow_place bytes place end = is_valid_version_rest place (slice_range bytes place.at end)
 
--- a version may end anywhere at or after the second place: the bytes after the first place are a
--- possible rest if and only if those after the second are
+-- a reader of a version may skip from the place `from` to the place `to`: for each end at or after `to`, the bytes
+-- after `from` may be the rest of a version exactly if the bytes after `to` may be
 pub record IsSafeSkip (bytes : List ℕ) (from to : Place) : Type 0 where
   -- the second place is not before the first
   pub forth : from.at ≤ to.at
-  -- for each end after the second place, the rest is allowed after both places or after neither
+  -- for each end at or after the second place, the rest is allowed after both places or after neither
   pub same : (end : ℕ) → to.at ≤ end → can_rest_follow_place bytes from end
       ≡ can_rest_follow_place bytes to end
 
--- a version with this end that is at the first place reaches the second. So does each other version,
--- unless the second place is the end, which may be within a token of another version
+-- a reader of a version that ends at the offset `end` may go on from the place `from` to the place `to`. So may a
+-- reader of any version with another end, unless `to` is this end, which may be within a token of the other version
 pub record IsNextPlace (bytes : List ℕ) (end : ℕ) (from to : Place) : Type 0 where
   -- the second place is after the first
   pub forth : from.at < to.at
@@ -40,5 +41,5 @@ pub record IsNextPlace (bytes : List ℕ) (end : ℕ) (from to : Place) : Type 0
   pub within : to.at ≤ end
   -- the rest of a version can follow at the one place exactly if it can at the other
   pub same : can_rest_follow_place bytes from end ≡ can_rest_follow_place bytes to end
-  -- unless the second place is the end, the first leads to it for each end
+  -- unless the second place is the end, a reader may skip to it whatever the end is
   pub leads : to.at < end → IsSafeSkip bytes from to

@@ -18,8 +18,8 @@ use Rattle.version_core.specs.Token.{Token, Lexeme, lexeme, is_hex_digit, leadin
 use Rattle.version_core.specs.Matching.{all_fit}
 use Rattle.version_core.specs.Order.{token_cmp, tokens_after_class_skipping_bytes}
 
--- the token that a token of the code represents: its text ends before the first byte that is no
--- hexadecimal digit
+-- the token of the definitions for a token of the program: its text ends before the first byte that is no hexadecimal
+-- digit
 abbrev pub token_view : TokenAt → Token
 token_view token =
     record { class = token.class; number = token.number; text = leading_hex_digits token.text.now }
@@ -29,23 +29,23 @@ abbrev pub is_hash : Class → Bool
 is_hash Hash = true
 is_hash _ = false
 
--- how many bytes of the rest still belong to the token that was taken last: the digits of a hash, and
--- none of any other token
+-- how many bytes at the front of `rest` still belong to the token before it, which has the given class: all leading
+-- hexadecimal digits if it is a hash, and none otherwise
 abbrev pub unread_len : Option Class → List ℕ → ℕ
 unread_len None rest = 0
 unread_len (Some class) rest = if is_hash class then length (leading_hex_digits rest) else 0
 
--- the tokens that a reader has not taken yet
+-- the tokens that a reader of the program has not taken yet
 abbrev pub tokens_left : Tokens → List Token
 tokens_left left =
     tokens_after_class_skipping_bytes left.last (unread_len left.last left.rest.now) left.rest.now
 
--- the lexeme of the code for a token that is no hash: the reader skips all of its bytes at once
+-- the lexeme of the definitions for a lexeme of the program whose token is no hash: the reader skips all of its bytes
 abbrev pub whole_lexeme : LexemeAt → Lexeme
 whole_lexeme found = lexeme (token_view found.token) found.advance
 
--- the lexeme of the code at the front of a text. The reader skips only the mark of a hash; its digits
--- are the rest of its width
+-- the lexeme of the definitions for the lexeme of the program at the front of a text. Of a hash, the reader skips only
+-- the mark, so that the digits after it are added to the width
 abbrev pub lexeme_view : List ℕ → LexemeAt → Lexeme
 lexeme_view text found =
     lexeme (token_view found.token)
@@ -64,7 +64,7 @@ hex_digit_if_some (Some byte) = if is_hex_digit byte then Some byte else None
 abbrev pub hex_digit_at : List ℕ → ℕ → Option ℕ
 hex_digit_at text at = hex_digit_if_some (slice_get text at)
 
--- how many bytes a reader has before it, without those of a hash that it has taken
+-- how many bytes a reader has not read yet, without the remaining digits of a hash that it has taken
 abbrev pub bytes_left : Tokens → ℕ
 bytes_left left = length (drop (unread_len left.last left.rest.now) left.rest.now)
 
@@ -81,7 +81,7 @@ begins_with_mark (b ∷ rest) = is_token_mark b
 abbrev pub is_unmarked : List ℕ → Bool
 is_unmarked text = list_all (λ b. not (is_token_mark b)) text
 
--- the last byte of a text that begins a token wherever it occurs has this index
+-- the last mark of a text (a byte that begins a token wherever it occurs) has this index
 pub record IsLastMark (text : List ℕ) (at : ℕ) : Type 0 where
   -- the byte at this index begins a token
   pub mark : begins_with_mark (drop at text) ≡ true
@@ -104,33 +104,33 @@ pub record AreEqualUpTo (left right : List ℕ) (len : ℕ) : Type 0 where
   -- the first bytes are the same in both
   pub same : take len left ≡ take len right
 
--- two texts are equal up to a place, and the last mark before it is at this offset
+-- two texts are equal up to some length, and the last mark within this length is at the offset `at`
 pub record AreEqualUpToMark (left right : List ℕ) (at : ℕ) : Type 0 where
   -- the length up to which the texts are equal
   pub len : ℕ
-  -- they are equal up to it
+  -- the texts are equal up to this length
   pub equal : AreEqualUpTo left right len
-  -- the last mark before it is at this index
+  -- the last mark within this length is at this offset
   pub last : IsLastMark (take len left) at
 
--- two texts are equal up to this offset, and the last mark before it is that of a hash, `~`
+-- two texts are equal up to the length `len`, and the last mark within it is that of a hash, `~`
 pub record AreEqualUpToPlaceInHash (left right : List ℕ) (len : ℕ) : Type 0 where
   -- the index of the last mark
   pub at : ℕ
   -- the texts are equal up to the length `len`
   pub equal : AreEqualUpTo left right len
-  -- the last mark before it is at this index
+  -- the last mark within this length is at this index
   pub last : IsLastMark (take len left) at
-  -- the mark is the byte `~`
+  -- this mark is the byte `~`
   pub tilde : slice_index_or left at 0 ≡ 126
 
--- two texts are equal before the place from which they are read
+-- two texts are equal before the place from which both are read (`Parting`)
 abbrev pub AreEqualUpToParting : List ℕ → List ℕ → Parting → Type 0
 AreEqualUpToParting left right AtFront = Unit {0}
 AreEqualUpToParting left right (AtMark at) = AreEqualUpToMark left right at
 AreEqualUpToParting left right (InHash len) = AreEqualUpToPlaceInHash left right len
 
--- the order of two versions by their rests from a place within the hash of both on
+-- the order of two versions that are equal up to a place within the hash of both, given what follows this place in each
 abbrev pub hash_cmp : List ℕ → List ℕ → Ordering
 hash_cmp left right =
     ordering_then (slice_cmp nat_cmp (leading_hex_digits left) (leading_hex_digits right))
@@ -138,8 +138,8 @@ hash_cmp left right =
     (length (leading_hex_digits left)) left)
     (tokens_after_class_skipping_bytes (Some Hash) (length (leading_hex_digits right)) right))
 
--- whether a version matches a wanted one fuzzily, by their rests from a place within the hash of both
--- on
+-- whether a found version is a fuzzy match of a wanted one, if both are equal up to a place within the hash of each,
+-- given what follows this place in each
 abbrev pub hash_fits : List ℕ → List ℕ → Bool
 hash_fits wanted found =
     is_eq (slice_cmp nat_cmp (leading_hex_digits found) (leading_hex_digits wanted))

@@ -9,17 +9,16 @@ use Rattle.std.specs.Str.Parse.{digits_value}
 use Rattle.version_core.specs.declared.token.Class.{Class}
 use Rattle.version_core.specs.declared.token.Class.TheVariants.{Stray, PreRelease, End, Revision, Hash, SuffixNumber, Suffix, Letter, ZeroComponent, Component}
 
--- a part of a version as it is compared: its class, and its value, a number or a text (the other of the
--- two is 0 or empty)
+-- a part of a version as it is compared: its class, and its value, which is a number or a text
 pub record Token : Type 0 where
-  -- its class
+  -- the class of the token, such as a component or a suffix
   pub class : Class
-  -- its value as a number, else 0
+  -- the value if the token is compared by a number, else 0
   pub number : ℕ
-  -- its value as a text, else empty
+  -- the value if the token is compared as text, else empty
   pub text : List ℕ
 
--- a token that has no value besides its class, as the end
+-- the token of this class if it has no value besides its class, such as the end of a version
 abbrev pub token_without_value : Class → Token
 token_without_value class = record { class = class; number = 0; text = [] }
 
@@ -31,14 +30,14 @@ number_token class number = record { class = class; number = number; text = [] }
 abbrev pub text_token : Class → List ℕ → Token
 text_token class text = record { class = class; number = 0; text = text }
 
--- a token, and how many bytes spell it
+-- a token, and how many bytes it has in the text
 pub record Lexeme : Type 0 where
   -- the token
   pub token : Token
-  -- how many bytes spell it, with its mark, such as `.` or `-r`
+  -- how many bytes the token has in the text, with its mark, such as `.` or `-r`
   pub width : ℕ
 
--- the lexeme of a token and its width
+-- the lexeme with this token and this width in bytes
 abbrev pub lexeme : Token → ℕ → Lexeme
 lexeme token width = record { token = token; width = width }
 
@@ -62,15 +61,16 @@ leading_hex_digits text = take_while is_hex_digit text
 abbrev pub leading_letters : List ℕ → List ℕ
 leading_letters text = take_while is_ascii_lowercase text
 
--- the most digits that a number may have (own), so that each number fits into 64 bits
+-- the most digits that a number may have, so that each number fits into 64 bits (a limit of this project)
 abbrev pub MOST_DIGITS : ℕ
 MOST_DIGITS = 18
 
--- whether digits are the number of a component, a suffix or a revision: 1 to 18 of them
+-- whether these digits are as many as a number of a version may have: 1 to 18
 abbrev pub has_number_length : List ℕ → Bool
 has_number_length digits = nat_lt 0 (length digits) && nat_le (length digits) MOST_DIGITS
 
--- the lexeme of a number of this class; `mark` is how many bytes precede its digits
+-- the lexeme of a number of this class, given its digits; `mark` is how many bytes of its mark precede them. The lexeme
+-- is stray if there are no digits or too many
 unfoldable pub number_lexeme : Class → ℕ → List ℕ → Lexeme
 number_lexeme class mark digits =
     if has_number_length digits
@@ -82,15 +82,15 @@ abbrev pub begins_with_zero : List ℕ → Bool
 begins_with_zero [] = false
 begins_with_zero (b ∷ rest) = b == 48
 
--- the lexeme of a component after the first, compared as text if it begins with 0, else as a number;
--- its mark is `.`
+-- the lexeme of a component after the first, given the digits after its mark `.`. The component is compared as text if
+-- the first digit is 0, else as a number
 unfoldable pub later_component_lexeme : List ℕ → Lexeme
 later_component_lexeme digits =
     if has_number_length digits && begins_with_zero digits
     then lexeme (text_token ZeroComponent digits) (1 + length digits)
     else number_lexeme Component 1 digits
 
--- the rank of a suffix in the order of suffixes, from 0
+-- the rank of a suffix, given its word, in the order of suffixes, counted from 0; None if the word is no suffix
 unfoldable pub suffix_rank : List ℕ → Option ℕ
 suffix_rank word =
     if bytes_eq word (codes "alpha") then Some 0 else
@@ -119,42 +119,43 @@ suffix_lexeme_of_rank word (Some rank) =
 abbrev pub suffix_lexeme : List ℕ → Lexeme
 suffix_lexeme word = suffix_lexeme_of_rank word (suffix_rank word)
 
--- the lexeme of a hash by the digits after its mark; without a digit it is stray
+-- the lexeme of a hash, given the digits after its mark `~`; without a digit it is stray
 unfoldable pub hash_lexeme : List ℕ → Lexeme
 hash_lexeme digits =
     if nat_lt 0 (length digits) then lexeme (text_token Hash digits) (1 + length digits)
     else stray_lexeme
 
--- the lexeme of a revision by the text after its `-`: an `r` and a number
+-- the lexeme of a revision, given the text after its `-`, which has to begin with `r` and a number
 unfoldable pub revision_lexeme : List ℕ → Lexeme
 revision_lexeme [] = stray_lexeme
 revision_lexeme (b ∷ rest) =
     if b == 114 then number_lexeme Revision 2 (leading_digits rest) else stray_lexeme
 
--- whether a token is a component, so that another one or a letter may follow
+-- whether a token of this class is a component, so that another component or a letter may follow
 abbrev pub is_component : Class → Bool
 is_component ZeroComponent = true
 is_component Component = true
 is_component _ = false
 
--- whether a token is a suffix, so that a number without a mark may follow
+-- whether a token of this class is a suffix, so that a number without a mark may follow
 abbrev pub is_suffix : Class → Bool
 is_suffix PreRelease = true
 is_suffix Suffix = true
 is_suffix _ = false
 
--- whether a suffix or a hash may follow a token
+-- whether a suffix or a hash may follow a token of this class
 abbrev pub is_before_hash : Class → Bool
 is_before_hash Letter = true
 is_before_hash SuffixNumber = true
 is_before_hash class = is_component class || is_suffix class
 
--- whether a revision may follow a token
+-- whether a revision may follow a token of this class
 abbrev pub is_before_revision : Class → Bool
 is_before_revision Hash = true
 is_before_revision class = is_before_hash class
 
--- the first lexeme of a text, given the class `last` of the token before it
+-- the first lexeme of a text, given the class `last` of the token before the text. The first byte of the text and this
+-- class decide (46 is `.`, 95 `_`, 126 `~`, 45 `-`)
 unfoldable pub next_lexeme : Class → List ℕ → Lexeme
 next_lexeme last [] = lexeme (token_without_value End) 0
 next_lexeme last (b ∷ rest) =
@@ -167,8 +168,8 @@ next_lexeme last (b ∷ rest) =
     if (b == 45) && is_before_revision last then revision_lexeme rest else
     stray_lexeme
 
--- the first lexeme of a text. At the start of a version (None) it is the first component; otherwise
--- the class `last` of the token before it decides
+-- the first lexeme of a text. At the start of a version (None) it is the first component. Otherwise the class of the
+-- token before the text (`last`) and the first byte of the text decide
 abbrev pub lexeme_at : Option Class → List ℕ → Lexeme
 lexeme_at None text = number_lexeme Component 0 (leading_digits text)
 lexeme_at (Some last) text = next_lexeme last text

@@ -11,14 +11,15 @@ use crate::lexeme::{behind, compare_hex_digits};
 use crate::order::{Parting, parting_of, tokens_from_mark};
 use crate::token::{Class, Tokens};
 
-/// Whether a version begins with the tokens of the wanted one.
+/// Whether the version `found` begins with the tokens of the version `wanted`.
 pub fn is_fuzzy_match(found: &[u8], wanted: &[u8]) -> bool
-    // The version that is tested is valid,
+    // The text that is tested is a version.
     requires found { IsTrue (is_version found.now) }
-    // and so is the wanted one.
+    // The wanted text is a version.
     requires wanted { IsTrue (is_version wanted.now) }
     ensures { result ≡ is_fuzzy_match found.now wanted.now }
 {
+    // Both versions are equal before this place, so that only what follows has to be compared.
     match parting_of(wanted, found) {
         Parting::AtFront => all_fit(Tokens::of(wanted), Tokens::of(found)),
         Parting::AtMark(at) => all_fit(tokens_from_mark(wanted, at), tokens_from_mark(found, at)),
@@ -26,11 +27,12 @@ pub fn is_fuzzy_match(found: &[u8], wanted: &[u8]) -> bool
     }
 }
 
-/// Does the same as `is_fuzzy_match`, for the rests of two versions that are equal up to an offset
-/// within the hash of each.
+/// The same as `is_fuzzy_match`, for two versions that are equal up to an offset within the hash of
+/// each. The arguments are what follows this offset in each.
 fn fits_within_hash(wanted: &[u8], found: &[u8]) -> bool
     ensures { result ≡ hash_fits wanted.now found.now }
 {
+    // The remaining digits of both hashes have to be equal.
     if compare_hex_digits(found, wanted).is_ne() {
         return false;
     }
@@ -47,6 +49,7 @@ fn all_fit(wanted: Tokens<'_>, found: Tokens<'_>) -> bool
     let mut wanted_tokens = wanted;
     loop {
         let token = wanted_tokens.next();
+        // All tokens of the wanted version fit.
         if token.class.is_last_token_class() {
             return true;
         }

@@ -11,36 +11,39 @@ ghost use Rattle.std.specs.List.{list_all};
 ghost use Rattle.version_core.specs.Order.{is_version, tokens, version_cmp};
 ghost use Rattle.version_core.specs.Matching.{is_fuzzy_match, matches};
 
-/// The order is total and transitive: of two texts one is less, or both are equal.
+/// The order of versions is total and transitive on all texts: of two texts one is less, or both
+/// are equal.
 pub fn order_is_total()
     ensures { IsTotalOrder version_cmp }
 {}
 
-/// A text is equal to itself in the order.
+/// A text is equal to itself in the order of versions.
 pub fn order_is_reflexive()
     ensures { (version : List ℕ) → version_cmp version version ≡ Equal }
 {}
 
-/// Two texts are equal in the order if and only if their tokens are equal.
+/// Two texts are equal in the order of versions if and only if their tokens are equal.
 pub fn equal_versions_have_equal_tokens()
     ensures { (left right : List ℕ)
         → (version_cmp left right ≡ Equal) ↔ (tokens left ≡ tokens right) }
 {}
 
-/// Exactly one of `<`, `=` and `>` matches.
+/// Of the operators `<`, `=` and `>`, exactly one matches a version `found`, given a version
+/// `wanted`.
 pub fn one_of_three_matches()
     ensures { (found wanted : List ℕ) → count_by (λ holds. holds)
         (matches LESS found wanted ∷ matches EQUAL found wanted ∷ matches GREATER found wanted
         ∷ []) ≡ 1 }
 {}
 
-/// Texts that are equal in the order match fuzzily.
+/// If two texts are equal in the order of versions, one is a fuzzy match of the other.
 pub fn equal_versions_match_fuzzily()
     ensures { (found wanted : List ℕ)
         → version_cmp found wanted ≡ Equal → is_fuzzy_match found wanted ≡ true }
 {}
 
-/// Parts that follow the grammar spell a version, and it is read as the tokens of its parts.
+/// Parts that follow the grammar spell a version, and the tokens of this version are those of the
+/// parts.
 pub fn spelled_is_read()
     // The spelling of such parts is a valid version.
     ensures version { (parts : Parts)

@@ -1,7 +1,7 @@
-//! The first token of a text, and how many bytes its reader skips. The grammar of the tokens is in
-//! `docs/formats.md`, "Versions" ("A version is a number"). In the clauses `plain` says that a
-//! token is no hash, so the reader skips all of its bytes at once. `digits` and `few` say that
-//! bytes are digits, and few enough for 64 bits.
+//! Reads the first token of a text, and how many bytes the reader then skips. `token` and
+//! `overlapping` use it. The grammar of the tokens is in `docs/formats.md`, "Versions" ("A version
+//! is a number"). In the clauses `plain` says that a token is no hash, so the reader skips all of
+//! its bytes at once. `digits` and `few` say that bytes are digits, and few enough for 64 bits.
 
 ghost use Rattle.std.specs.Prelude.{◌≡◌, ◌≤◌, ◌<◌, false, length, drop, position, not};
 ghost use Rattle.std.specs.Char.{is_ascii_digit, is_ascii_lowercase};
@@ -28,10 +28,11 @@ pub struct Lexeme<'a> {
     pub advance: usize,
 }
 
-/// The lexeme of a token that is compared by a number; `advance` is how many bytes spell it.
+/// The lexeme of a token that is compared by a number; `advance` is how many bytes the token has.
 fn lexeme_of_number<'a>(class: Class, number: u64, advance: usize) -> Lexeme<'a>
     // The lexeme has a token of this class and number, and this width.
     ensures token { whole_lexeme result ≡ lexeme (number_token class number) advance }
+    // The token has this class.
     ensures class { result.token.class ≡ class }
 {
     let token = TokenAt {
@@ -47,7 +48,9 @@ fn lexeme_of_text(class: Class, text: &[u8], advance: usize) -> Lexeme<'_>
     // The lexeme has a token of this class and of the hexadecimal digits, and this width.
     ensures token { whole_lexeme result
         ≡ lexeme (text_token class (leading_hex_digits text.now)) advance }
+    // The token has this class.
     ensures class { result.token.class ≡ class }
+    // The token has the whole text, which may go on after its hexadecimal digits.
     ensures text { result.token.text.now ≡ text.now }
 {
     let token = TokenAt {
@@ -61,6 +64,7 @@ fn lexeme_of_text(class: Class, text: &[u8], advance: usize) -> Lexeme<'_>
 /// The lexeme for bytes that are no token of the grammar.
 fn stray_lexeme<'a>() -> Lexeme<'a>
     ensures token { whole_lexeme result ≡ stray_lexeme }
+    // The class of the token is that of bytes outside the grammar.
     ensures class { result.token.class ≡ Class.Stray }
 {
     lexeme_of_number(Class::Stray, 0, 0)
@@ -77,12 +81,12 @@ pub fn lexeme_at<'a>(last: Option<Class>, text: &'a [u8]) -> Lexeme<'a>
     }
 }
 
-/// The class of the first token of a text, and how many of its bytes are skipped at first: all, but
-/// of a hash only the mark and one digit.
+/// The class of the first token of a text, given the class `last` of the token before the text, and
+/// how many bytes of the token are skipped at first: all, but of a hash only `~` and one digit.
 pub fn first_token(last: Option<Class>, text: &[u8]) -> (Class, usize)
     // The first part of the result is the class of the next token.
     ensures class { result.0 ≡ (lexeme_at last text.now).token.class }
-    // The second part of the result is how many bytes the token takes.
+    // The second part of the result is how many of its bytes are skipped at first.
     ensures len { result.1 ≡ passed_len (lexeme_at last text.now) }
 {
     let lexeme = lexeme_at(last, text);
@@ -98,6 +102,7 @@ pub fn first_token(last: Option<Class>, text: &[u8]) -> (Class, usize)
 fn next_lexeme<'a>(last: Class, text: &'a [u8]) -> Lexeme<'a>
     ensures { lexeme_view text.entry.now result ≡ next_lexeme last text.entry.now }
 {
+    // `mark` is the first byte, which decides, together with `last`, the class of the token.
     let Some((mark, rest)) = text.split_first() else {
         return lexeme_of_number(Class::End, 0, 0);
     };
@@ -112,16 +117,19 @@ fn next_lexeme<'a>(last: Class, text: &'a [u8]) -> Lexeme<'a>
     }
 }
 
-/// The lexeme of a number; `mark` is how many bytes its mark has: none, `.` or `-r`.
+/// The lexeme of a number of this class, given its digits. `mark` is how many bytes are before the
+/// digits: 0 (none), 1 (`.`) or 2 (`-r`).
 #[tactic(auto, unfolding(crate::specs::Token::number_lexeme))]
 fn number(class: Class, mark: usize, digits: &[u8]) -> Lexeme<'_>
     // The bytes are decimal digits.
     requires digits { AreDigits digits.now }
+    // The longest mark, `-r`, has two bytes.
     requires small { mark ≤ 2 }
-    // The token is no hash.
+    // The class is not that of a hash.
     requires plain { is_hash class ≡ false }
     // The lexeme is that of a number after its mark (separator).
     ensures token { whole_lexeme result ≡ number_lexeme class mark digits.now }
+    // The token is no hash.
     ensures plain { is_hash result.token.class ≡ false }
 {
     if digits.is_empty() || digits.len() > MOST_DIGITS {
@@ -130,14 +138,15 @@ fn number(class: Class, mark: usize, digits: &[u8]) -> Lexeme<'_>
     lexeme_of_number(class, value_of(digits), mark + digits.len())
 }
 
-/// The lexeme of a component after the first. It is compared as text if it begins with 0, else as a
-/// number.
+/// The lexeme of a component after the first, given its digits, which follow `.`. The component is
+/// compared as text if it begins with 0, else as a number.
 #[tactic(auto, using(crate::proofs::Lexemes::component_lexeme_zero), unfolding(crate::specs::Token::later_component_lexeme))]
 fn component(digits: &[u8]) -> Lexeme<'_>
     // The bytes are decimal digits.
     requires { AreDigits digits.now }
     // The lexeme is that of a component after the first.
     ensures token { whole_lexeme result ≡ later_component_lexeme digits.now }
+    // The token is no hash.
     ensures plain { is_hash result.token.class ≡ false }
 {
     if begins_with_zero(digits) && digits.len() <= MOST_DIGITS {
@@ -157,6 +166,7 @@ fn begins_with_zero(digits: &[u8]) -> bool
 fn suffix(word: &[u8]) -> Lexeme<'_>
     // The lexeme is that of a suffix.
     ensures token { whole_lexeme result ≡ suffix_lexeme word.now }
+    // The token is no hash.
     ensures plain { is_hash result.token.class ≡ false }
 {
     match suffix_rank(word) {
@@ -165,7 +175,8 @@ fn suffix(word: &[u8]) -> Lexeme<'_>
     }
 }
 
-/// The rank of a suffix in the order of suffixes, from 0.
+/// The rank of a suffix, given its word, in the order of suffixes, counted from 0; None if the word
+/// is no suffix.
 #[tactic(auto, unfolding(crate::specs::Token::suffix_rank))]
 fn suffix_rank(word: &[u8]) -> Option<u64>
     ensures { result ≡ suffix_rank word.now }
@@ -184,7 +195,7 @@ fn suffix_rank(word: &[u8]) -> Option<u64>
     }
 }
 
-/// The class of the suffix of this rank: the first four make pre-releases.
+/// The class of the suffix of this rank: the first four suffixes make pre-releases.
 fn suffix_class(rank: u64) -> Class
     ensures { result ≡ suffix_class rank }
 {
@@ -200,9 +211,11 @@ fn suffix_class(rank: u64) -> Class
 fn hash(text: &[u8]) -> Lexeme<'_>
     // The text is not empty.
     requires { 0 < length text.now }
+    // The lexeme is that of the digits after the mark.
     ensures { lexeme_view text.now result ≡ hash_lexeme (leading_hex_digits (drop 1 text.now)) }
 {
     let digits = behind(text, 1);
+    // A hash without a digit is no token of the grammar.
     if hex_digit_at(digits, 0).is_none() {
         return stray_lexeme();
     }
@@ -214,6 +227,7 @@ fn hash(text: &[u8]) -> Lexeme<'_>
 fn revision(text: &[u8]) -> Lexeme<'_>
     // The lexeme is that of a revision.
     ensures token { whole_lexeme result ≡ revision_lexeme text.now }
+    // The token is no hash.
     ensures plain { is_hash result.token.class ≡ false }
 {
     match text.split_first() {
@@ -226,6 +240,7 @@ fn revision(text: &[u8]) -> Lexeme<'_>
 fn value_of(digits: &[u8]) -> u64
     // The bytes are decimal digits.
     requires digits { AreDigits digits.now }
+    // There are at most 18 digits.
     requires few { length digits.now ≤ MOST_DIGITS }
     ensures { result ≡ digits_value 10 digits.now }
 {
@@ -240,6 +255,7 @@ fn value_of(digits: &[u8]) -> u64
 #[tactic(auto, using(crate::proofs::Runs::run_at))]
 fn leading_digits(text: &[u8]) -> &[u8]
     ensures front { result.now ≡ leading_digits text.now }
+    // Each byte of the result is a decimal digit.
     ensures digits { AreDigits result.now }
 {
     match digits_end(text) {
@@ -248,7 +264,7 @@ fn leading_digits(text: &[u8]) -> &[u8]
     }
 }
 
-/// The index of the first byte that is not a decimal digit.
+/// The index of the first byte that is not a decimal digit; None if all bytes are.
 fn digits_end(text: &[u8]) -> Option<usize>
     ensures { result ≡ position (λ b. not (is_ascii_digit b)) text.now }
 {
@@ -266,7 +282,7 @@ fn leading_letters(text: &[u8]) -> &[u8]
     }
 }
 
-/// The index of the first byte that is not a lowercase letter.
+/// The index of the first byte that is not a lowercase letter; None if all bytes are.
 fn letters_end(text: &[u8]) -> Option<usize>
     ensures { result ≡ position (λ b. not (is_ascii_lowercase b)) text.now }
 {
@@ -284,7 +300,7 @@ pub fn leading_hex_digits(text: &[u8]) -> &[u8]
     }
 }
 
-/// The index of the first byte that is not a hexadecimal digit.
+/// The index of the first byte that is not a hexadecimal digit; None if all bytes are.
 fn hex_digits_end(text: &[u8]) -> Option<usize>
     ensures { result ≡ position (λ b. not (is_hex_digit b)) text.now }
 {
@@ -298,14 +314,15 @@ fn is_hex_digit(byte: u8) -> bool
     matches!(byte, b'0'..=b'9' | b'a'..=b'f')
 }
 
-/// The order of the hexadecimal digits that two texts begin with. It reads both only up to the
-/// first difference.
+/// The order of the hexadecimal digits that two texts begin with. Both texts are read only up to
+/// the first difference.
 pub fn compare_hex_digits(left: &[u8], right: &[u8]) -> Ordering
     ensures { result
         ≡ slice_cmp nat_cmp (leading_hex_digits left.now) (leading_hex_digits right.now) }
 {
     let mut at = 0;
     loop {
+        // The digit of the left text, or None after its last digit.
         let ours = hex_digit_at(left, at);
         let order = ours.cmp(&hex_digit_at(right, at));
         if order.is_ne() || ours.is_none() {

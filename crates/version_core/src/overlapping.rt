@@ -20,18 +20,18 @@ use std::marker::Model;
 /// read between two of them.
 const BYTES_PER_LEAP: usize = 256;
 
-/// A place after a token of a version or between the digits of its hash, and the class of that
-/// token.
+/// A place in the bytes that a reader of a version reaches: after a token, or between the digits of
+/// a hash. It has the class of this token.
 #[derive(Clone, Copy)]
 struct Place {
-    /// Its offset in the bytes.
+    /// The offset of the place in the bytes.
     at: usize,
-    /// The class of the token before it.
+    /// The class of the token before the place, or of the hash that the place is in.
     class: Class,
 }
 
-/// A known way across one block: a place in the block, and a later one to which a version gets from
-/// there.
+/// A shortcut over one block of 256 bytes: a place in the block, and a later place. A version that
+/// reaches the first place, and does not end before the second, can be read on from the second.
 #[derive(Clone, Copy)]
 struct Leap {
     /// Where the leap begins.
@@ -45,7 +45,7 @@ struct Leap {
 pub struct OverlappingVersions<'a> {
     /// The bytes that contain the versions.
     bytes: &'a [u8],
-    /// A leap for each block of the bytes; an unknown one leads nowhere.
+    /// A leap for each block of 256 bytes. A leap that is not known yet leads to its own start.
     leaps: Vec<Leap>,
 }
 
@@ -53,10 +53,12 @@ impl<'a> Model for OverlappingVersions<'a> {
     ghost use Rattle.std.specs.Prelude.{ℕ, List, All};
     ghost use Rattle.version_core.specs.Overlapping.{IsSafeSkip};
 
+    // Contracts see only the bytes; the leaps are hidden.
     ghost Value = { List ℕ };
 
     ghost view = { λ versions. versions.bytes.now };
 
+    // Each leap is safe: a version that is at its first place can go on at its second.
     ghost invariant = { λ versions.
         All (λ leap. IsSafeSkip versions.bytes.now leap.from leap.to) versions.leaps.items };
 }
@@ -72,9 +74,9 @@ impl<'a> OverlappingVersions<'a> {
         }
     }
 
-    /// Whether the bytes between two offsets are a version. Over bytes that an earlier version has
-    /// passed it takes one leap per 256 bytes. The first call allocates memory, an eighth of the
-    /// size of the bytes.
+    /// Whether the bytes between the offsets `from` and `end` are a version. Where an earlier call
+    /// has read the same bytes, it takes one leap per 256 bytes. The first call allocates memory,
+    /// an eighth of the size of the bytes.
     pub fn is_version(&mut self, from: usize, end: usize) -> Result<bool, AllocError>
         // The range does not end before it begins.
         requires order { from ≤ end }
@@ -92,7 +94,8 @@ impl<'a> OverlappingVersions<'a> {
         }
     }
 
-    /// Whether the bytes between a place and an end may be the rest of a version.
+    /// Whether the bytes between the place `first` and the offset `end` may be the rest of a
+    /// version that has reached this place.
     fn is_passed(&mut self, first: Place, end: usize) -> bool
         // The first place is not after the end.
         requires order { first.at ≤ end }
@@ -103,6 +106,7 @@ impl<'a> OverlappingVersions<'a> {
         // The bytes that are read are unchanged.
         ensures bytes { self.new ≡ self.old }
     {
+        // Where the next leap to record begins, and how far the version is read.
         let mut begun = first;
         let mut place = first;
         while place.at < end {
@@ -133,8 +137,10 @@ impl<'a> OverlappingVersions<'a> {
         }
     }
 
-    /// The place to which an earlier version leads from here, if it is later and not past the end.
+    /// The place to which a recorded leap leads from `place`, or None if there is no such leap, or
+    /// if it leads past the end.
     fn leap(&self, place: Place, end: usize) -> Option<Place>
+        // A place that is returned is one to which the first place leads.
         ensures { IfSome result (IsNextPlace self.now end place) }
     {
         let leap = self.leaps.get(place.at / BYTES_PER_LEAP)?;
@@ -150,10 +156,12 @@ impl<'a> OverlappingVersions<'a> {
         Some(to)
     }
 
-    /// Records the leap from one place to another if the second is in another block, and returns
-    /// the place where the next leap begins.
+    /// Records the leap from the place `begun` to `place` if they are in different blocks. Returns
+    /// where the next leap begins: at `place` if the leap was recorded, else at `begun`.
     fn pass(&mut self, begun: Place, place: Place) -> Place
+        // The leap is safe: a version that is at its first place can go on at its second.
         requires { IsSafeSkip self.old begun place }
+        // A leap from the result to `place` is safe too.
         ensures leads { IsSafeSkip self.old result place }
         // The bytes that are read are unchanged.
         ensures bytes { self.new ≡ self.old }
@@ -169,6 +177,7 @@ impl<'a> OverlappingVersions<'a> {
     fn remember(&mut self, from: Place, to: Place)
         // The leap is safe: a version that is at its first place can go on at its second.
         requires { IsSafeSkip self.old from to }
+        // The bytes that are read are unchanged.
         ensures { self.new ≡ self.old }
     {
         let block = from.at / BYTES_PER_LEAP;
@@ -179,9 +188,11 @@ impl<'a> OverlappingVersions<'a> {
 
     /// Allocates a leap for each block, once.
     fn make_leaps(&mut self) -> Result<(), AllocError>
+        // The bytes that are read are unchanged.
         ensures { self.new ≡ self.old }
     {
         if self.leaps.is_empty() {
+            // A leap from a place to itself stands for a block without a known leap.
             let place = Place {
                 at: 0,
                 class: Class::End,
@@ -197,8 +208,8 @@ impl<'a> OverlappingVersions<'a> {
     }
 }
 
-/// The place after the first token of a version between two offsets; None if no version begins
-/// there.
+/// The place after the first token of a version that begins at the offset `from`; None if no
+/// version begins there. `end` is where the bytes of the version end.
 fn first_place(bytes: &[u8], from: usize, end: usize) -> Option<Place>
     // The range does not end before it begins.
     requires order { from ≤ end }
@@ -211,6 +222,7 @@ fn first_place(bytes: &[u8], from: usize, end: usize) -> Option<Place>
     // Without a place, the range is no version.
     ensures none { IfNone result (is_version (slice_range bytes.now from end) ≡ false) }
 {
+    // The class of the first token, and how many of its bytes are skipped at first.
     let (class, len) = first_token(None, &bytes[from..end]);
     if class.is_last_token_class() {
         return None;
@@ -221,7 +233,8 @@ fn first_place(bytes: &[u8], from: usize, end: usize) -> Option<Place>
     })
 }
 
-/// The place after the next token, or after some more digits of a hash, at most a block of them.
+/// The place after the next token, or, within a hash, after its next digits, at most 256 of them.
+/// None if no token of a version follows.
 fn place_after_lexeme(bytes: &[u8], place: Place, end: usize) -> Option<Place>
     // Bytes are left between the place and the end.
     requires order { place.at < end }
@@ -232,6 +245,7 @@ fn place_after_lexeme(bytes: &[u8], place: Place, end: usize) -> Option<Place>
     // Without a place, the rest up to the end cannot follow in a version.
     ensures none { IfNone result (can_rest_follow_place bytes.now place end ≡ false) }
 {
+    // How many digits of a hash follow the place, of at most one block of bytes.
     let len = (end - place.at).min(BYTES_PER_LEAP);
     let digits = unread_digits(place.class, &bytes[place.at..place.at + len]);
     if digits > 0 {
@@ -243,7 +257,8 @@ fn place_after_lexeme(bytes: &[u8], place: Place, end: usize) -> Option<Place>
     place_after_token(bytes, place, end)
 }
 
-/// How many digits at the start of a text belong to a hash before it.
+/// How many digits at the start of a text belong to the token before it, which has this class: all
+/// leading hexadecimal digits if it is a hash, and otherwise none.
 fn unread_digits(class: Class, text: &[u8]) -> usize
     ensures { result ≡ unread_len (Some class) text.now }
 {
@@ -253,7 +268,8 @@ fn unread_digits(class: Class, text: &[u8]) -> usize
     leading_hex_digits(text).len()
 }
 
-/// The place after the next token, if no digit of a hash is left before it.
+/// The place after the next token, if no digit of a hash is before this token. None if no token of
+/// a version follows.
 fn place_after_token(bytes: &[u8], place: Place, end: usize) -> Option<Place>
     // Bytes are left between the place and the end.
     requires order { place.at < end }
@@ -266,6 +282,7 @@ fn place_after_token(bytes: &[u8], place: Place, end: usize) -> Option<Place>
     // Without a place, the rest up to the end cannot follow in a version.
     ensures none { IfNone result (can_rest_follow_place bytes.now place end ≡ false) }
 {
+    // The class of the next token, and how many of its bytes are skipped at first.
     let (class, len) = first_token(Some(place.class), &bytes[place.at..end]);
     if class.is_last_token_class() {
         return None;

@@ -44,7 +44,7 @@ impl Class {
         self as u8
     }
 
-    /// Whether no token follows one of this class.
+    /// Whether no token follows a token of this class.
     pub fn is_last_token_class(self) -> bool
         ensures { result ≡ is_last_token_class self }
     {
@@ -93,14 +93,16 @@ impl Class {
 pub struct TokenAt<'a> {
     /// The class of the token.
     pub class: Class,
-    /// Its value as a number; 0 if it is compared as text.
+    /// The value of the token as a number; 0 if the token is compared as text.
     pub number: u64,
-    /// Its value as a text; empty if it is compared as a number.
+    /// The slice whose leading hexadecimal digits are the value of the token as text; empty if the
+    /// token is compared as a number.
     pub text: &'a [u8],
 }
 
 impl TokenAt<'_> {
-    /// The order of two tokens, in time linear in the shorter.
+    /// The order of two tokens: first their classes, then their numbers, then their texts are
+    /// compared. It takes time linear in the shorter text.
     pub fn compare(&self, other: &TokenAt<'_>) -> Ordering
         ensures { result ≡ token_cmp (token_view self.now) (token_view other.now) }
     {
@@ -110,11 +112,12 @@ impl TokenAt<'_> {
         by_class.then(by_number).then(by_text)
     }
 
-    /// Whether a found token fits this wanted one in a fuzzy match.
+    /// Whether the token `found` fits this token, which is wanted, in a fuzzy match.
     #[tactic(auto, unfolding(crate::specs::Matching::fits))]
     pub fn fits(&self, found: &TokenAt<'_>) -> bool
         ensures { result ≡ fits (token_view self.now) (token_view found.now) }
     {
+        // Two components that are compared as text: the found text begins with the wanted one.
         if self.class == Class::ZeroComponent && found.class == Class::ZeroComponent {
             leading_hex_digits(found.text).starts_with(leading_hex_digits(self.text))
         } else {
@@ -126,7 +129,7 @@ impl TokenAt<'_> {
 /// The tokens of a text, read from the front.
 #[derive(Clone, Copy)]
 pub struct Tokens<'a> {
-    // The bytes that are not skipped yet; the digits of a hash that was taken last are among them.
+    // The bytes that are not skipped yet. If the last token is a hash, they begin with its digits.
     rest: &'a [u8],
     // The class of the token that was taken last; None before the first one.
     last: Option<Class>,
@@ -144,7 +147,8 @@ impl<'a> Tokens<'a> {
         }
     }
 
-    /// The tokens of the text after a token of some class, or between the digits of a hash.
+    /// The tokens of the text `rest`, which follows a token of this class, or some digits of a
+    /// hash.
     pub fn behind(class: Class, rest: &'a [u8]) -> Tokens<'a>
         ensures { tokens_left result
             ≡ tokens_after_class_skipping_bytes (Some class) (unread_len
@@ -167,6 +171,7 @@ impl<'a> Tokens<'a> {
         ensures shorter { is_last_token_class result.class ≡ false
             → bytes_left self.new < bytes_left self.old }
     {
+        // The text after the last token.
         let rest = self.unread_text();
         let lexeme = lexeme_at(self.last, rest);
         self.rest = behind(rest, lexeme.advance);

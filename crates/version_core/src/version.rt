@@ -36,12 +36,15 @@ impl Model for Op {
     ghost use Rattle.std.specs.Prelude.{ℕ, IsTrue};
     ghost use Rattle.version_core.specs.Op.{is_operator_bits};
 
+    // Contracts see an operator as its match bits.
     ghost Value = { ℕ };
 
     ghost view = { λ op. op.bits };
 
+    // The bits are those of an operator.
     ghost invariant = { λ op. IsTrue (is_operator_bits op.bits) };
 
+    // The operator that has these bits.
     ghost inverse = { λ bits. record { bits = bits } };
 }
 
@@ -60,6 +63,7 @@ impl Op {
     /// The match bits that the operator was made of.
     pub fn bits(self) -> u8
         ensures bits { result ≡ self }
+        // The bits are those of an operator.
         ensures op { IsTrue (is_operator_bits self) }
     {
         self.bits
@@ -84,16 +88,19 @@ impl<'a> Model for Version<'a> {
     ghost use Rattle.std.specs.Prelude.{ℕ, List, IsTrue};
     ghost use Rattle.version_core.specs.Order.{is_version};
 
+    // Contracts see a version as the bytes of its text.
     ghost Value = { List ℕ };
 
     ghost view = { λ version. version.text.now };
 
+    // The text is a version.
     ghost invariant = { λ version. IsTrue (is_version version.text.now) };
 }
 
 impl<'a> Version<'a> {
     /// The version that the text denotes. None if and only if the text is not a version.
     pub fn read(text: &'a [u8]) -> Option<Version<'a>>
+        // A version is returned exactly if the text is a version.
         ensures when { is_some result ≡ is_version text.entry.now }
         // A version that is returned is the given text.
         ensures value { IfSome result (λ version. version ≡ text.entry.now) }
@@ -117,6 +124,7 @@ impl<'a> Version<'a> {
     /// The text that the version was read from.
     pub fn text(&self) -> &'a [u8]
         ensures value { result.now ≡ self.now }
+        // The text is a version.
         ensures version { IsTrue (is_version self.now) }
     {
         self.text
@@ -131,12 +139,14 @@ impl<'a> Version<'a> {
         compare(self.text, other.text)
     }
 
-    /// Whether one of the operator's bits holds for this version against the wanted one. An
-    /// operator without bits matches nothing. It takes time linear in the shorter text.
+    /// Whether this version matches the operator `op` and the version `wanted`: one of the
+    /// operator's match bits holds for it. An operator without bits matches nothing. It takes time
+    /// linear in the shorter text.
     #[tactic(auto, unfolding(crate::specs::Matching::matches))]
     pub fn matches(&self, op: Op, wanted: &Version<'_>) -> bool
         ensures { result ≡ matches op self.now wanted.now }
     {
+        // How this version compares with the wanted version.
         let order = self.compare(wanted);
         if op.has_bit(EQUAL) && order.is_eq() {
             return true;
