@@ -6,7 +6,7 @@ use Rattle.std.proofs.lemmas.List.{take_at, drop_at, length-append, length-drop,
 use Rattle.adb_block.specs.Container.{IsHead, IsShortHead, IsLongHead, IsPadding, IsBlock, MayFollow, HasBlockBefore}
 use Rattle.adb_block.specs.Piece.{Piece, kind_number, may_be_next_kind, least_payload_len, padding_of}
 use Rattle.adb_block.specs.Header.{word_at, eight_byte_number_at}
-use Rattle.adb_block.specs.Framing.{HeadFields, block_head_fields, kind_of_number, ended, block, step_by_order, next_step}
+use Rattle.adb_block.specs.Framing.{HeadFields, block_head_fields, kind_of_number, ended, block, next_block_result_by_kind_order, next_block_result_at_offset}
 use Rattle.adb_block.specs.declared.block.BlockKind.{BlockKind}
 use Rattle.adb_block.specs.declared.block.BlockKind.TheVariants.{Adb, Signature, Contents}
 
@@ -70,7 +70,7 @@ head_again k len head more (inl h) = short_again k len head more h
 head_again k len head more (inr h) = long_again k len head more h
 
 ordered_again : (last : Option BlockKind) (at : ℕ) (bytes : List ℕ) (h len : ℕ) (k : BlockKind) → may_be_next_kind last k ≡ true → least_payload_len k ≤ len → h + len ≤ length bytes
-    → step_by_order last at bytes (says k h len) (kind_of_number (kind_number k)) ≡ block (record { kind = k; payload = take len (drop h bytes) }) (h + len + padding_of (h + len))
+    → next_block_result_by_kind_order last at bytes (says k h len) (kind_of_number (kind_number k)) ≡ block (record { kind = k; payload = take len (drop h bytes) }) (h + len + padding_of (h + len))
 ordered_again last at bytes h len k o long fits =
     let len_is : h + len - h ≡ len = omega arith in
     let a : ltb (h + len) h ≡ false = le-ltb _ _ (omega arith) in
@@ -78,8 +78,8 @@ ordered_again last at bytes h len k o long fits =
     let c : ltb len (least_payload_len k) ≡ false = le-ltb _ _ long in
     rw (kind_again k, o, a, b, len_is, c) refl
 
-not_empty : (last : Option BlockKind) (at : ℕ) (bytes : List ℕ) (h : HeadFields) → 0 < length bytes → block_head_fields bytes ≡ Some h → next_step last at bytes ≡ step_by_order last at bytes h (kind_of_number h.kind)
-unfolding next_step
+not_empty : (last : Option BlockKind) (at : ℕ) (bytes : List ℕ) (h : HeadFields) → 0 < length bytes → block_head_fields bytes ≡ Some h → next_block_result_at_offset last at bytes ≡ next_block_result_by_kind_order last at bytes h (kind_of_number h.kind)
+unfolding next_block_result_at_offset
 not_empty last at bytes h some is =
     let t : eqb (length bytes) 0 ≡ false = ne_eqb _ _ (omega arith) in
     rw (t, is) refl
@@ -101,7 +101,7 @@ skip_again head payload pad rest h len e f p =
 abbrev pub size_of : (b : Piece) (bytes rest : List ℕ) → IsBlock b bytes rest → ℕ
 size_of b bytes rest is = header_len is.is_head + length b.payload + padding_of (header_len is.is_head + length b.payload)
 
-pub step_again : (last : Option BlockKind) (at : ℕ) (bytes : List ℕ) (b : Piece) (rest : List ℕ) → MayFollow last b → IsBlock b bytes rest → (size : ℕ) × (next_step last at bytes ≡ block b size) × (drop size bytes ≡ rest)
+pub step_again : (last : Option BlockKind) (at : ℕ) (bytes : List ℕ) (b : Piece) (rest : List ℕ) → MayFollow last b → IsBlock b bytes rest → (size : ℕ) × (next_block_result_at_offset last at bytes ≡ block b size) × (drop size bytes ≡ rest)
 step_again last at bytes b rest m is =
     let len = length b.payload in
     let h : ℕ = header_len is.is_head in
@@ -117,7 +117,7 @@ step_again last at bytes b rest m is =
     let skipped = skip_again is.head b.payload is.pad rest h len head_len refl pad in
     let piece_is : record { kind = b.kind; payload = take len (drop h (is.head ++ more)) } ≡ b = ap (λ (x : List ℕ). record { kind = b.kind; payload = x }) payload in (
       h + len + padding_of (h + len),
-      ap (next_step last at) is.parts ∙ stepped ∙ passed ∙ ap (λ (p : Piece). block p (h + len + padding_of (h + len))) piece_is,
+      ap (next_block_result_at_offset last at) is.parts ∙ stepped ∙ passed ∙ ap (λ (p : Piece). block p (h + len + padding_of (h + len))) piece_is,
       ap (drop (h + len + padding_of (h + len))) is.parts ∙ skipped,
     )
   where
@@ -125,7 +125,7 @@ step_again last at bytes b rest m is =
     positive k len head more (inl h) = omega (arith, h.size, length-append head more)
     positive k len head more (inr h) = omega (arith, h.size, length-append head more)
 
-pub step_at_end : (last : Option BlockKind) (at : ℕ) → HasBlockBefore last → next_step last at [] ≡ ended
-unfolding next_step
-step_at_end None at later = absurd later
-step_at_end (Some k) at later = refl
+pub next_block_result_at_file_end : (last : Option BlockKind) (at : ℕ) → HasBlockBefore last → next_block_result_at_offset last at [] ≡ ended
+unfolding next_block_result_at_offset
+next_block_result_at_file_end None at later = absurd later
+next_block_result_at_file_end (Some k) at later = refl

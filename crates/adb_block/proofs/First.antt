@@ -7,10 +7,10 @@ use Rattle.base_core.specs.declared.Cause.TheVariants.{Truncated, BlockOrder}
 use Rattle.adb_block.specs.Piece.{Piece, may_be_next_kind, least_payload_len}
 use Rattle.adb_block.specs.Container.{IsBlock, MayFollow}
 use Rattle.adb_block.specs.Header.{schema_of_header}
-use Rattle.adb_block.specs.Framing.{HeadFields, block_head_fields, kind_of_number, Step, ended, failed, block, step_by_size, step_by_order, step_by_head, step_at_end, next_step}
+use Rattle.adb_block.specs.Framing.{HeadFields, block_head_fields, kind_of_number, NextBlockResult, ended, failed, block, next_block_result_by_size, next_block_result_by_kind_order, next_block_result_by_header, next_block_result_at_file_end, next_block_result_at_offset}
 use Rattle.adb_block.specs.FirstFraming.{BeginWithBlocks, last_kind, IsWrongSize, HaveBlockFault, IsFirstFramingFault}
-use Rattle.adb_block.specs.ReaderPosition.{first_block_position}
-use Rattle.adb_block.specs.Reading.{block_stream_after_step, block_stream_from_offset, block_stream_from}
+use Rattle.adb_block.specs.ReaderPosition.{first_block_position_of_schema_and_file}
+use Rattle.adb_block.specs.Reading.{block_stream_after_result, bounded_block_stream_from_offset, block_stream_from}
 use Rattle.adb_block.specs.AllBlocks.{with_block, blocks_of_stream, blocks_from_position, blocks_of}
 use Rattle.adb_block.specs.declared.block.BlockKind.{BlockKind}
 use Rattle.adb_block.proofs.Choices.{chosen}
@@ -20,7 +20,7 @@ use Rattle.adb_block.proofs.WholeFiles.{header_sound, whole_from}
 
 -- ---- one block
 
-sized_failed : (at : ℕ) (bytes : List ℕ) (h : HeadFields) (k : BlockKind) (c : Cause) → step_by_size at bytes h k ≡ failed c → IsWrongSize h k bytes × (c ≡ Truncated at)
+sized_failed : (at : ℕ) (bytes : List ℕ) (h : HeadFields) (k : BlockKind) (c : Cause) → next_block_result_by_size at bytes h k ≡ failed c → IsWrongSize h k bytes × (c ≡ Truncated at)
 sized_failed at bytes h k c e =
     elim (chosen (ltb h.raw h.len || ltb (length bytes) h.raw) _ _ _ e) [
       | inl x ↦
@@ -38,7 +38,7 @@ sized_failed at bytes h k c e =
       ]
     ]
 
-ordered_failed : (last : Option BlockKind) (at : ℕ) (bytes : List ℕ) (h : HeadFields) (o : Option BlockKind) (c : Cause) → block_head_fields bytes ≡ Some h → kind_of_number h.kind ≡ o → step_by_order last at bytes h o ≡ failed c → HaveBlockFault last at bytes c
+ordered_failed : (last : Option BlockKind) (at : ℕ) (bytes : List ℕ) (h : HeadFields) (o : Option BlockKind) (c : Cause) → block_head_fields bytes ≡ Some h → kind_of_number h.kind ≡ o → next_block_result_by_kind_order last at bytes h o ≡ failed c → HaveBlockFault last at bytes c
 ordered_failed last at bytes h None c is kind e = inr (inl (record { head = h; is = is; wrong = rw kind tt; cause = cc }))
 ordered_failed last at bytes h (Some k) c is kind e =
     elim (chosen (may_be_next_kind last k) _ _ _ e) [
@@ -50,7 +50,7 @@ ordered_failed last at bytes h (Some k) c is kind e =
           inr (inl (record { head = h; is = is; wrong = rw kind x.0; cause = cc }))
     ]
 
-headed_failed : (last : Option BlockKind) (at : ℕ) (bytes : List ℕ) (o : Option HeadFields) (c : Cause) → block_head_fields bytes ≡ o → step_by_head last at bytes o ≡ failed c → HaveBlockFault last at bytes c
+headed_failed : (last : Option BlockKind) (at : ℕ) (bytes : List ℕ) (o : Option HeadFields) (c : Cause) → block_head_fields bytes ≡ o → next_block_result_by_header last at bytes o ≡ failed c → HaveBlockFault last at bytes c
 headed_failed last at bytes None c is e = inl (record { head = is; cause = cc })
 headed_failed last at bytes (Some h) c is e = ordered_failed last at bytes h (kind_of_number h.kind) c is refl e
 
@@ -58,12 +58,12 @@ nothing_headed : (bytes : List ℕ) → bytes ≡ [] → block_head_fields bytes
 unfolding block_head_fields
 nothing_headed bytes e = rw e refl
 
-at_end_failed : (last : Option BlockKind) (at : ℕ) (c : Cause) → step_at_end last at ≡ failed c → c ≡ Truncated at
+at_end_failed : (last : Option BlockKind) (at : ℕ) (c : Cause) → next_block_result_at_file_end last at ≡ failed c → c ≡ Truncated at
 at_end_failed None at c e = cc
 at_end_failed (Some k) at c e = absurd cc
 
-step_failed : (last : Option BlockKind) (at : ℕ) (bytes : List ℕ) (c : Cause) → next_step last at bytes ≡ failed c → HaveBlockFault last at bytes c
-unfolding next_step
+step_failed : (last : Option BlockKind) (at : ℕ) (bytes : List ℕ) (c : Cause) → next_block_result_at_offset last at bytes ≡ failed c → HaveBlockFault last at bytes c
+unfolding next_block_result_at_offset
 step_failed last at bytes c e =
     elim (chosen (eqb (length bytes) 0) _ _ _ e) [
       | inl x ↦ inl (record { head = nothing_headed bytes (nil_from_length bytes (eqb-true _ _ x.0)); cause = at_end_failed last at c x.1 })
@@ -90,18 +90,18 @@ fails_behind total last bytes c b behind may is f =
     record { blocks = b ∷ f.blocks; rest = f.rest; before = (behind, may, is, f.before); at = f.at; located = f.located; fault = f.fault }
 
 -- nothing fails at the end after a block
-nothing_fails : (n at : ℕ) (kind : BlockKind) (bytes : List ℕ) (c : Cause) → bytes ≡ [] → length bytes < n → blocks_of_stream (block_stream_from_offset n (Some kind) at bytes) ≡ Err c → ⊥
-unfolding block_stream_from_offset next_step
+nothing_fails : (n at : ℕ) (kind : BlockKind) (bytes : List ℕ) (c : Cause) → bytes ≡ [] → length bytes < n → blocks_of_stream (bounded_block_stream_from_offset n (Some kind) at bytes) ≡ Err c → ⊥
+unfolding bounded_block_stream_from_offset next_block_result_at_offset
 nothing_fails zero at kind bytes c none enough e = omega arith
 nothing_fails (suc n) at kind bytes c none enough e =
-    let same : blocks_of_stream (block_stream_from_offset (suc n) (Some kind) at []) ≡ Err c = ap (λ (x : List ℕ). blocks_of_stream (block_stream_from_offset (suc n) (Some kind) at x)) (sym none) ∙ e in
+    let same : blocks_of_stream (bounded_block_stream_from_offset (suc n) (Some kind) at []) ≡ Err c = ap (λ (x : List ℕ). blocks_of_stream (bounded_block_stream_from_offset (suc n) (Some kind) at x)) (sym none) ∙ e in
     cc
 
 -- that later readings fail so
 abbrev FailsLater : ℕ → ℕ → Cause → Type 0
-FailsLater n total c = (kind : BlockKind) (at : ℕ) (bytes : List ℕ) → length bytes < n → at + length bytes ≡ total → blocks_of_stream (block_stream_from_offset n (Some kind) at bytes) ≡ Err c → Fails total (Some kind) bytes c
+FailsLater n total c = (kind : BlockKind) (at : ℕ) (bytes : List ℕ) → length bytes < n → at + length bytes ≡ total → blocks_of_stream (bounded_block_stream_from_offset n (Some kind) at bytes) ≡ Err c → Fails total (Some kind) bytes c
 
-after_fails : (n total : ℕ) (kind : BlockKind) (at size : ℕ) (bytes : List ℕ) (c : Cause) → FailsLater n total c → length (drop size bytes) < n → at + length bytes ≡ total → blocks_of_stream (block_stream_from_offset n (Some kind) (at + size) (drop size bytes)) ≡ Err c
+after_fails : (n total : ℕ) (kind : BlockKind) (at size : ℕ) (bytes : List ℕ) (c : Cause) → FailsLater n total c → length (drop size bytes) < n → at + length bytes ≡ total → blocks_of_stream (bounded_block_stream_from_offset n (Some kind) (at + size) (drop size bytes)) ≡ Err c
     → Fails total (Some kind) (drop size bytes) c
 after_fails n total kind at size bytes c ih enough sum e =
     elim (cases_lt (length bytes) size) [
@@ -109,8 +109,8 @@ after_fails n total kind at size bytes c ih enough sum e =
       | inr fits ↦ ih kind (at + size) (drop size bytes) enough (omega (arith, length-drop size bytes)) e
     ]
 
-stepped_fails : (n total : ℕ) (last : Option BlockKind) (at : ℕ) (bytes : List ℕ) (c : Cause) → FailsLater n total c → length bytes < suc n → at + length bytes ≡ total → (s : Step) → next_step last at bytes ≡ s
-    → blocks_of_stream (block_stream_after_step at (λ b size. block_stream_from_offset n (Some b.kind) (at + size) (drop size bytes)) s) ≡ Err c → Fails total last bytes c
+stepped_fails : (n total : ℕ) (last : Option BlockKind) (at : ℕ) (bytes : List ℕ) (c : Cause) → FailsLater n total c → length bytes < suc n → at + length bytes ≡ total → (s : NextBlockResult) → next_block_result_at_offset last at bytes ≡ s
+    → blocks_of_stream (block_stream_after_result at (λ b size. bounded_block_stream_from_offset n (Some b.kind) (at + size) (drop size bytes)) s) ≡ Err c → Fails total last bytes c
 stepped_fails n total last at bytes c ih enough sum ended is e = absurd cc
 stepped_fails n total last at bytes c ih enough sum (failed d) is e =
     let same : d ≡ c = cc in
@@ -118,18 +118,18 @@ stepped_fails n total last at bytes c ih enough sum (failed d) is e =
 stepped_fails n total last at bytes c ih enough sum (block b size) is e =
     let sound = step_sound last at bytes b size is in
     let shorter = step_shorter last at bytes b size is in
-    let later = with_err b (blocks_of_stream (block_stream_from_offset n (Some b.kind) (at + size) (drop size bytes))) c e in
+    let later = with_err b (blocks_of_stream (bounded_block_stream_from_offset n (Some b.kind) (at + size) (drop size bytes))) c e in
     fails_behind total last bytes c b (drop size bytes) sound.0 sound.1 (after_fails n total b.kind at size bytes c ih (omega arith) sum later)
 
-reading_fails : (n total : ℕ) (last : Option BlockKind) (at : ℕ) (bytes : List ℕ) (c : Cause) → length bytes < n → at + length bytes ≡ total → blocks_of_stream (block_stream_from_offset n last at bytes) ≡ Err c → Fails total last bytes c
-unfolding block_stream_from_offset
+reading_fails : (n total : ℕ) (last : Option BlockKind) (at : ℕ) (bytes : List ℕ) (c : Cause) → length bytes < n → at + length bytes ≡ total → blocks_of_stream (bounded_block_stream_from_offset n last at bytes) ≡ Err c → Fails total last bytes c
+unfolding bounded_block_stream_from_offset
 reading_fails zero total last at bytes c enough sum e = absurd (omega arith)
 reading_fails (suc n) total last at bytes c enough sum e =
-    stepped_fails n total last at bytes c (λ kind at bytes. reading_fails n total (Some kind) at bytes c) enough sum (next_step last at bytes) refl e
+    stepped_fails n total last at bytes c (λ kind at bytes. reading_fails n total (Some kind) at bytes c) enough sum (next_block_result_at_offset last at bytes) refl e
 
 -- ---- the whole file
 
-rest_fails : (schema : ℕ) (file : List ℕ) (c : Cause) → 8 ≤ length file → blocks_from_position (first_block_position schema file) ≡ Err c → Fails (length file) None (drop 8 file) c
+rest_fails : (schema : ℕ) (file : List ℕ) (c : Cause) → 8 ≤ length file → blocks_from_position (first_block_position_of_schema_and_file schema file) ≡ Err c → Fails (length file) None (drop 8 file) c
 unfolding blocks_from_position block_stream_from
 rest_fails schema file c long e = reading_fails (suc (length (drop 8 file))) (length file) None 8 (drop 8 file) c (omega arith) (omega (arith, length-drop 8 file)) e
 

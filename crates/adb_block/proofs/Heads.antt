@@ -4,7 +4,7 @@ use Rattle.std.specs.Int.{w32, w64, from_le_bytes}
 use Rattle.std.proofs.lemmas.Bool.{cases_lt, le-ltb, lt-ltb, ltb-false, ne_eqb}
 use Rattle.std.proofs.lemmas.List.{take-take, drop-take, take_all}
 use Rattle.adb_block.specs.Header.{word_at, eight_byte_number_at}
-use Rattle.adb_block.specs.Framing.{HeadFields, Step, block_head_fields, kind_of_number, fields_of_long_head, next_step, step_by_order}
+use Rattle.adb_block.specs.Framing.{HeadFields, NextBlockResult, block_head_fields, kind_of_number, fields_of_long_head, next_block_result_at_offset, next_block_result_by_kind_order}
 use Rattle.adb_block.specs.declared.block.BlockKind.{BlockKind}
 use Rattle.adb_block.specs.Frames.{IsHeadPrefix, head_len}
 
@@ -95,8 +95,8 @@ same_head bytes head left holds len begins =
 
 -- ---- the step by it
 
-pub framed_step : (last : Option BlockKind) (at : ℕ) (bytes head : List ℕ) (left : ℕ) (f : HeadFields) (s : Step) → IsHeadPrefix head left → length bytes ≡ left → take (length head) bytes ≡ head → (left ≡ 0 → ⊥) → block_head_fields head ≡ Some f → step_by_order last at bytes f (kind_of_number f.kind) ≡ s → next_step last at bytes ≡ s
-unfolding next_step
+pub framed_step : (last : Option BlockKind) (at : ℕ) (bytes head : List ℕ) (left : ℕ) (f : HeadFields) (s : NextBlockResult) → IsHeadPrefix head left → length bytes ≡ left → take (length head) bytes ≡ head → (left ≡ 0 → ⊥) → block_head_fields head ≡ Some f → next_block_result_by_kind_order last at bytes f (kind_of_number f.kind) ≡ s → next_block_result_at_offset last at bytes ≡ s
+unfolding next_block_result_at_offset
 framed_step last at bytes head left f s holds len begins some is step =
     let a : eqb (length bytes) 0 ≡ false = ne_eqb _ _ (λ e. some (sym len ∙ e)) in
     let same : block_head_fields bytes ≡ Some f = same_head bytes head left holds len begins ∙ is in

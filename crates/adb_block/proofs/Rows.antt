@@ -5,10 +5,10 @@ use Rattle.base_core.specs.declared.Cause.TheVariants.{NotAdb, Compressed, Trunc
 use Rattle.adb_block.specs.Container.{IsContainerWithBlocks}
 use Rattle.adb_block.specs.Piece.{Piece}
 use Rattle.adb_block.specs.Header.{schema_of_header}
-use Rattle.adb_block.specs.Framing.{block_head_fields, next_step}
-use Rattle.adb_block.specs.ReaderPosition.{first_block_position}
+use Rattle.adb_block.specs.Framing.{block_head_fields, next_block_result_at_offset}
+use Rattle.adb_block.specs.ReaderPosition.{first_block_position_of_schema_and_file}
 use Rattle.adb_block.specs.Reader.{reader_after_block, next_offset}
-use Rattle.adb_block.specs.Reading.{fault, more, block_stream_from_offset, block_stream_from}
+use Rattle.adb_block.specs.Reading.{fault, more, bounded_block_stream_from_offset, block_stream_from}
 use Rattle.adb_block.specs.AllBlocks.{blocks_from_position, blocks_of}
 use Rattle.adb_block.specs.declared.block.BlockKind.TheVariants.{Adb, Signature, Contents}
 use Rattle.adb_block.proofs.WholeFiles.{read_is_spelled}
@@ -71,64 +71,64 @@ seven = refl
 -- ---- all blocks
 
 whole : blocks_of file ≡ Ok (adb ∷ [])
-unfolding schema_of_header next_step block_head_fields block_stream_from_offset block_stream_from blocks_from_position blocks_of
+unfolding schema_of_header next_block_result_at_offset block_head_fields bounded_block_stream_from_offset block_stream_from blocks_from_position blocks_of
 whole = refl
 
 whole_is_spelled : IsContainerWithBlocks file 0x676b6370 (adb ∷ [])
 whole_is_spelled = read_is_spelled file 0x676b6370 (adb ∷ []) schema whole
 
 no_padding : blocks_of (take 44 file) ≡ Ok (adb ∷ [])
-unfolding schema_of_header next_step block_head_fields block_stream_from_offset block_stream_from blocks_from_position blocks_of
+unfolding schema_of_header next_block_result_at_offset block_head_fields bounded_block_stream_from_offset block_stream_from blocks_from_position blocks_of
 no_padding = refl
 
 payload_cut : blocks_of (take 43 file) ≡ Err (Truncated 8)
-unfolding schema_of_header next_step block_head_fields block_stream_from_offset block_stream_from blocks_from_position blocks_of
+unfolding schema_of_header next_block_result_at_offset block_head_fields bounded_block_stream_from_offset block_stream_from blocks_from_position blocks_of
 payload_cut = refl
 
 head_cut : blocks_of (take 11 file) ≡ Err (Truncated 8)
-unfolding schema_of_header next_step block_head_fields block_stream_from_offset block_stream_from blocks_from_position blocks_of
+unfolding schema_of_header next_block_result_at_offset block_head_fields bounded_block_stream_from_offset block_stream_from blocks_from_position blocks_of
 head_cut = refl
 
 header_alone : blocks_of (take 8 file) ≡ Err (Truncated 8)
-unfolding schema_of_header next_step block_head_fields block_stream_from_offset block_stream_from blocks_from_position blocks_of
+unfolding schema_of_header next_block_result_at_offset block_head_fields bounded_block_stream_from_offset block_stream_from blocks_from_position blocks_of
 header_alone = refl
 
 header_cut : blocks_of (take 7 file) ≡ Err (Truncated 0)
-unfolding schema_of_header next_step block_head_fields block_stream_from_offset block_stream_from blocks_from_position blocks_of
+unfolding schema_of_header next_block_result_at_offset block_head_fields bounded_block_stream_from_offset block_stream_from blocks_from_position blocks_of
 header_cut = refl
 
 raw_below_head : blocks_of (slice_set file 8 3) ≡ Err (Truncated 8)
-unfolding schema_of_header next_step block_head_fields block_stream_from_offset block_stream_from blocks_from_position blocks_of
+unfolding schema_of_header next_block_result_at_offset block_head_fields bounded_block_stream_from_offset block_stream_from blocks_from_position blocks_of
 raw_below_head = refl
 
 payload_of_seven : blocks_of (slice_set file 8 11) ≡ Err (Truncated 8)
-unfolding schema_of_header next_step block_head_fields block_stream_from_offset block_stream_from blocks_from_position blocks_of
+unfolding schema_of_header next_block_result_at_offset block_head_fields bounded_block_stream_from_offset block_stream_from blocks_from_position blocks_of
 payload_of_seven = refl
 
 signature_first : blocks_of (slice_set file 11 64) ≡ Err (BlockOrder 8)
-unfolding schema_of_header next_step block_head_fields block_stream_from_offset block_stream_from blocks_from_position blocks_of
+unfolding schema_of_header next_block_result_at_offset block_head_fields bounded_block_stream_from_offset block_stream_from blocks_from_position blocks_of
 signature_first = refl
 
 with_signature : blocks_of (file ++ signature) ≡ Ok (adb ∷ signed ∷ [])
-unfolding schema_of_header next_step block_head_fields block_stream_from_offset block_stream_from blocks_from_position blocks_of
+unfolding schema_of_header next_block_result_at_offset block_head_fields bounded_block_stream_from_offset block_stream_from blocks_from_position blocks_of
 with_signature = refl
 
 with_contents : blocks_of (file ++ (signature ++ contents)) ≡ Ok (adb ∷ signed ∷ content ∷ [])
-unfolding schema_of_header next_step block_head_fields block_stream_from_offset block_stream_from blocks_from_position blocks_of
+unfolding schema_of_header next_block_result_at_offset block_head_fields bounded_block_stream_from_offset block_stream_from blocks_from_position blocks_of
 with_contents = refl
 
 -- the contents' padding precedes the signature
 signature_late : blocks_of (file ++ (contents ++ ((0 ∷ 0 ∷ 0 ∷ []) ++ signature))) ≡ Err (BlockOrder 56)
-unfolding schema_of_header next_step block_head_fields block_stream_from_offset block_stream_from blocks_from_position blocks_of
+unfolding schema_of_header next_block_result_at_offset block_head_fields bounded_block_stream_from_offset block_stream_from blocks_from_position blocks_of
 signature_late = refl
 
 second_adb : blocks_of (file ++ (signature ++ body)) ≡ Err (BlockOrder 56)
-unfolding schema_of_header next_step block_head_fields block_stream_from_offset block_stream_from blocks_from_position blocks_of
+unfolding schema_of_header next_block_result_at_offset block_head_fields bounded_block_stream_from_offset block_stream_from blocks_from_position blocks_of
 second_adb = refl
 
 -- what was read before the failed test
-second_adb_reading : block_stream_from (first_block_position 0x676b6370 (file ++ (signature ++ body))) ≡ more adb 8 (more signed 48 (fault (BlockOrder 56)))
-unfolding next_step block_head_fields block_stream_from_offset block_stream_from
+second_adb_reading : block_stream_from (first_block_position_of_schema_and_file 0x676b6370 (file ++ (signature ++ body))) ≡ more adb 8 (more signed 48 (fault (BlockOrder 56)))
+unfolding next_block_result_at_offset block_head_fields bounded_block_stream_from_offset block_stream_from
 second_adb_reading = refl
 
 -- ---- headers of sixteen bytes
@@ -137,32 +137,32 @@ abbrev long : ℕ → List ℕ → List ℕ
 long kind size = codes "ADB.pckg" ++ ((kind ∷ 0 ∷ 0 ∷ 192 ∷ 7 ∷ 7 ∷ 7 ∷ 7 ∷ []) ++ (size ++ payload))
 
 fields_of_long_head : blocks_of (long 0 (48 ∷ 0 ∷ 0 ∷ 0 ∷ 0 ∷ 0 ∷ 0 ∷ 0 ∷ [])) ≡ Ok (adb ∷ [])
-unfolding schema_of_header next_step block_head_fields block_stream_from_offset block_stream_from blocks_from_position blocks_of
+unfolding schema_of_header next_block_result_at_offset block_head_fields bounded_block_stream_from_offset block_stream_from blocks_from_position blocks_of
 fields_of_long_head = refl
 
 long_raw_below_head : blocks_of (long 0 (15 ∷ 0 ∷ 0 ∷ 0 ∷ 0 ∷ 0 ∷ 0 ∷ 0 ∷ [])) ≡ Err (Truncated 8)
-unfolding schema_of_header next_step block_head_fields block_stream_from_offset block_stream_from blocks_from_position blocks_of
+unfolding schema_of_header next_block_result_at_offset block_head_fields bounded_block_stream_from_offset block_stream_from blocks_from_position blocks_of
 long_raw_below_head = refl
 
 long_raw_most : blocks_of (long 0 (255 ∷ 255 ∷ 255 ∷ 255 ∷ 255 ∷ 255 ∷ 255 ∷ 255 ∷ [])) ≡ Err (Truncated 8)
-unfolding schema_of_header next_step block_head_fields block_stream_from_offset block_stream_from blocks_from_position blocks_of
+unfolding schema_of_header next_block_result_at_offset block_head_fields bounded_block_stream_from_offset block_stream_from blocks_from_position blocks_of
 long_raw_most = refl
 
 long_type_three : blocks_of (long 3 (48 ∷ 0 ∷ 0 ∷ 0 ∷ 0 ∷ 0 ∷ 0 ∷ 0 ∷ [])) ≡ Err (BlockOrder 8)
-unfolding schema_of_header next_step block_head_fields block_stream_from_offset block_stream_from blocks_from_position blocks_of
+unfolding schema_of_header next_block_result_at_offset block_head_fields bounded_block_stream_from_offset block_stream_from blocks_from_position blocks_of
 long_type_three = refl
 
 -- ---- the offset of the next block
 
-at_first : next_offset (first_block_position 0x676b6370 file) ≡ Some 8
+at_first : next_offset (first_block_position_of_schema_and_file 0x676b6370 file) ≡ Some 8
 at_first = refl
 
-at_none : next_offset (first_block_position 0x676b6370 (take 8 file)) ≡ None
+at_none : next_offset (first_block_position_of_schema_and_file 0x676b6370 (take 8 file)) ≡ None
 at_none = refl
 
-at_second : next_offset (reader_after_block (first_block_position 0x676b6370 (file ++ signature)) Adb 40) ≡ Some 48
+at_second : next_offset (reader_after_block (first_block_position_of_schema_and_file 0x676b6370 (file ++ signature)) Adb 40) ≡ Some 48
 at_second = refl
 
 -- after cut padding the offset is past the file's end
-at_padding : next_offset (reader_after_block (first_block_position 0x676b6370 (take 45 file)) Adb 40) ≡ None
+at_padding : next_offset (reader_after_block (first_block_position_of_schema_and_file 0x676b6370 (take 45 file)) Adb 40) ≡ None
 at_padding = refl

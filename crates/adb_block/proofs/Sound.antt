@@ -6,7 +6,7 @@ use Rattle.std.proofs.lemmas.List.{take-append-drop, length-take, length-drop, t
 use Rattle.adb_block.specs.Container.{IsHead, IsPadding, IsBlock, MayFollow, HasBlockBefore}
 use Rattle.adb_block.specs.Piece.{Piece, kind_number, may_be_next_kind, least_payload_len, padding_of}
 use Rattle.adb_block.specs.Header.{word_at, eight_byte_number_at}
-use Rattle.adb_block.specs.Framing.{HeadFields, fields_of_short_head, fields_of_long_head, block_head_fields, kind_of_number, ended, block, step_by_size, step_by_order, step_by_head, step_at_end, next_step}
+use Rattle.adb_block.specs.Framing.{HeadFields, fields_of_short_head, fields_of_long_head, block_head_fields, kind_of_number, ended, block, next_block_result_by_size, next_block_result_by_kind_order, next_block_result_by_header, next_block_result_at_file_end, next_block_result_at_offset}
 use Rattle.adb_block.specs.declared.block.BlockKind.{BlockKind}
 use Rattle.adb_block.specs.declared.block.BlockKind.TheVariants.{Adb, Signature, Contents}
 use Rattle.adb_block.proofs.Choices.{chosen}
@@ -95,7 +95,7 @@ pub record Passes (last : Option BlockKind) (bytes : List ℕ) (h : HeadFields) 
   pub payload_is : take (h.raw - h.len) (drop h.len bytes) ≡ b.payload
   pub size_is : h.raw + padding_of h.raw ≡ size
 
-sized_sound : (last : Option BlockKind) (at : ℕ) (bytes : List ℕ) (h : HeadFields) (k : BlockKind) (b : Piece) (size : ℕ) → may_be_next_kind last k ≡ true → step_by_size at bytes h k ≡ block b size → (k ≡ b.kind) × Passes last bytes h b size
+sized_sound : (last : Option BlockKind) (at : ℕ) (bytes : List ℕ) (h : HeadFields) (k : BlockKind) (b : Piece) (size : ℕ) → may_be_next_kind last k ≡ true → next_block_result_by_size at bytes h k ≡ block b size → (k ≡ b.kind) × Passes last bytes h b size
 sized_sound last at bytes h k b size o e =
     elim (chosen (ltb h.raw h.len || ltb (length bytes) h.raw) _ _ _ e) [
       | inl x ↦ absurd (let y = x.1 in cc)
@@ -121,7 +121,7 @@ sized_sound last at bytes h k b size o e =
       ]
     ]
 
-ordered_sound : (last : Option BlockKind) (at : ℕ) (bytes : List ℕ) (h : HeadFields) (o : Option BlockKind) (b : Piece) (size : ℕ) → step_by_order last at bytes h o ≡ block b size → (o ≡ Some b.kind) × Passes last bytes h b size
+ordered_sound : (last : Option BlockKind) (at : ℕ) (bytes : List ℕ) (h : HeadFields) (o : Option BlockKind) (b : Piece) (size : ℕ) → next_block_result_by_kind_order last at bytes h o ≡ block b size → (o ≡ Some b.kind) × Passes last bytes h b size
 ordered_sound last at bytes h None b size e = absurd cc
 ordered_sound last at bytes h (Some k) b size e =
     elim (chosen (may_be_next_kind last k) _ _ _ e) [
@@ -166,18 +166,18 @@ passes_block last bytes h b size located kind p =
       },
     )
 
-headed_sound : (last : Option BlockKind) (at : ℕ) (bytes : List ℕ) (o : Option HeadFields) (b : Piece) (size : ℕ) → block_head_fields bytes ≡ o → step_by_head last at bytes o ≡ block b size → MayFollow last b × IsBlock b bytes (drop size bytes)
+headed_sound : (last : Option BlockKind) (at : ℕ) (bytes : List ℕ) (o : Option HeadFields) (b : Piece) (size : ℕ) → block_head_fields bytes ≡ o → next_block_result_by_header last at bytes o ≡ block b size → MayFollow last b × IsBlock b bytes (drop size bytes)
 headed_sound last at bytes None b size i e = absurd cc
 headed_sound last at bytes (Some h) b size i e =
     let s = ordered_sound last at bytes h (kind_of_number h.kind) b size e in
     passes_block last bytes h b size (head_sound bytes h i) (kind_is h.kind b.kind s.0) s.1
 
-at_end_no_block : (last : Option BlockKind) (at : ℕ) (b : Piece) (size : ℕ) → step_at_end last at ≡ block b size → ⊥
+at_end_no_block : (last : Option BlockKind) (at : ℕ) (b : Piece) (size : ℕ) → next_block_result_at_file_end last at ≡ block b size → ⊥
 at_end_no_block None at b size e = cc
 at_end_no_block (Some k) at b size e = cc
 
-pub step_sound : (last : Option BlockKind) (at : ℕ) (bytes : List ℕ) (b : Piece) (size : ℕ) → next_step last at bytes ≡ block b size → MayFollow last b × IsBlock b bytes (drop size bytes)
-unfolding next_step
+pub step_sound : (last : Option BlockKind) (at : ℕ) (bytes : List ℕ) (b : Piece) (size : ℕ) → next_block_result_at_offset last at bytes ≡ block b size → MayFollow last b × IsBlock b bytes (drop size bytes)
+unfolding next_block_result_at_offset
 step_sound last at bytes b size e =
     elim (chosen (eqb (length bytes) 0) _ _ _ e) [
       | inl x ↦ absurd (at_end_no_block last at b size x.1)
@@ -186,14 +186,14 @@ step_sound last at bytes b size e =
 
 -- ---- the end
 
-sized_not_ended : (at : ℕ) (bytes : List ℕ) (h : HeadFields) (k : BlockKind) → step_by_size at bytes h k ≡ ended → ⊥
+sized_not_ended : (at : ℕ) (bytes : List ℕ) (h : HeadFields) (k : BlockKind) → next_block_result_by_size at bytes h k ≡ ended → ⊥
 sized_not_ended at bytes h k e =
     elim (chosen (ltb h.raw h.len || ltb (length bytes) h.raw) _ _ _ e) [
       | inl x ↦ (let y = x.1 in cc)
       | inr x ↦ elim (chosen (ltb (h.raw - h.len) (least_payload_len k)) _ _ _ x.1) [ inl y ↦ (let z = y.1 in cc) | inr y ↦ (let z = y.1 in cc) ]
     ]
 
-ordered_not_ended : (last : Option BlockKind) (at : ℕ) (bytes : List ℕ) (h : HeadFields) (o : Option BlockKind) → step_by_order last at bytes h o ≡ ended → ⊥
+ordered_not_ended : (last : Option BlockKind) (at : ℕ) (bytes : List ℕ) (h : HeadFields) (o : Option BlockKind) → next_block_result_by_kind_order last at bytes h o ≡ ended → ⊥
 ordered_not_ended last at bytes h None e = cc
 ordered_not_ended last at bytes h (Some k) e =
     elim (chosen (may_be_next_kind last k) _ _ _ e) [
@@ -201,16 +201,16 @@ ordered_not_ended last at bytes h (Some k) e =
       | inr x ↦ (let y = x.1 in cc)
     ]
 
-headed_not_ended : (last : Option BlockKind) (at : ℕ) (bytes : List ℕ) (o : Option HeadFields) → step_by_head last at bytes o ≡ ended → ⊥
+headed_not_ended : (last : Option BlockKind) (at : ℕ) (bytes : List ℕ) (o : Option HeadFields) → next_block_result_by_header last at bytes o ≡ ended → ⊥
 headed_not_ended last at bytes None e = cc
 headed_not_ended last at bytes (Some h) e = ordered_not_ended last at bytes h (kind_of_number h.kind) e
 
-at_end_ended : (last : Option BlockKind) (at : ℕ) → step_at_end last at ≡ ended → HasBlockBefore last
+at_end_ended : (last : Option BlockKind) (at : ℕ) → next_block_result_at_file_end last at ≡ ended → HasBlockBefore last
 at_end_ended None at e = absurd cc
 at_end_ended (Some k) at e = tt
 
-pub step_ended : (last : Option BlockKind) (at : ℕ) (bytes : List ℕ) → next_step last at bytes ≡ ended → (bytes ≡ []) × HasBlockBefore last
-unfolding next_step
+pub step_ended : (last : Option BlockKind) (at : ℕ) (bytes : List ℕ) → next_block_result_at_offset last at bytes ≡ ended → (bytes ≡ []) × HasBlockBefore last
+unfolding next_block_result_at_offset
 step_ended last at bytes e =
     elim (chosen (eqb (length bytes) 0) _ _ _ e) [
       | inl x ↦ (nil_from_length bytes (eqb-true _ _ x.0), at_end_ended last at x.1)

@@ -10,7 +10,7 @@ use Rattle.base_core.specs.declared.Cause.TheVariants.{NotAdb, Compressed, Trunc
 use Rattle.adb_block.specs.Container.{IsContainerWithBlocks, SpellsBlocks}
 use Rattle.adb_block.specs.Piece.{Piece}
 use Rattle.adb_block.specs.Header.{word_at, is_compressed_file_mark, schema_of_header}
-use Rattle.adb_block.specs.ReaderPosition.{first_block_position}
+use Rattle.adb_block.specs.ReaderPosition.{first_block_position_of_schema_and_file}
 use Rattle.adb_block.specs.Reading.{block_stream_from}
 use Rattle.adb_block.specs.AllBlocks.{blocks_from_position, blocks_after_header, blocks_of}
 use Rattle.adb_block.proofs.Choices.{passed}
@@ -52,7 +52,7 @@ parts file = sym (ap (λ r. take 4 file ++ r) (ap (λ r. take 4 (drop 4 file) ++
 
 -- ---- all blocks
 
-blocks_by : (file : List ℕ) (r : Result ℕ Cause) (schema : ℕ) (bs : List Piece) → r ≡ Ok schema → blocks_after_header file r ≡ Ok bs → blocks_from_position (first_block_position schema file) ≡ Ok bs
+blocks_by : (file : List ℕ) (r : Result ℕ Cause) (schema : ℕ) (bs : List Piece) → r ≡ Ok schema → blocks_after_header file r ≡ Ok bs → blocks_from_position (first_block_position_of_schema_and_file schema file) ≡ Ok bs
 blocks_by file (Ok found) schema bs e is = let same : found ≡ schema = cc in rw (← same) is
 blocks_by file (Err c) schema bs e is = absurd cc
 
@@ -100,7 +100,7 @@ one_reading file schema other bs others s t =
 
 -- ---- the reader of the header
 
-pub whole_from : (file : List ℕ) (schema : ℕ) → schema_of_header file ≡ Ok schema → blocks_of file ≡ blocks_from_position (first_block_position schema file)
+pub whole_from : (file : List ℕ) (schema : ℕ) → schema_of_header file ≡ Ok schema → blocks_of file ≡ blocks_from_position (first_block_position_of_schema_and_file schema file)
 unfolding blocks_of
 whole_from file schema e = ap (blocks_after_header file) e
 

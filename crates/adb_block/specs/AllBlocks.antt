@@ -4,7 +4,7 @@ use Rattle.std.specs.Prelude.{ℕ, List, [], ◌∷◌, Result, Ok, Err}
 use Rattle.base_core.specs.declared.Cause.{Cause}
 use Rattle.adb_block.specs.Piece.{Piece}
 use Rattle.adb_block.specs.Header.{schema_of_header}
-use Rattle.adb_block.specs.ReaderPosition.{ReaderPosition, first_block_position}
+use Rattle.adb_block.specs.ReaderPosition.{ReaderPosition, first_block_position_of_schema_and_file}
 use Rattle.adb_block.specs.Reading.{Reading, done, fault, more, block_stream_from}
 
 -- the block `b` followed by the blocks after it, or the failed test with which the reading after it ended
@@ -24,7 +24,8 @@ blocks_from_position s = blocks_of_stream (block_stream_from s)
 
 -- all blocks after a header of the file, or the fault of the header
 abbrev pub blocks_after_header : List ℕ → Result ℕ Cause → Result (List Piece) Cause
-blocks_after_header file (Ok schema) = blocks_from_position (first_block_position schema file)
+blocks_after_header file (Ok schema) =
+    blocks_from_position (first_block_position_of_schema_and_file schema file)
 blocks_after_header file (Err c) = Err c
 
 -- all blocks of a file, or the first failed test of its header or of its blocks

@@ -5,7 +5,7 @@ use Rattle.std.specs.Prelude.{◌≡◌, ◌≤◌, ℕ, ◌+◌, ◌/◌, ◌^�
 use Rattle.base_core.specs.declared.Cause.{Cause}
 use Rattle.adb_block.specs.Piece.{Piece, padding_of}
 use Rattle.adb_block.specs.Header.{word_at}
-use Rattle.adb_block.specs.Framing.{HeadFields, Step, ended, failed, block}
+use Rattle.adb_block.specs.Framing.{HeadFields, NextBlockResult, ended, failed, block}
 use Rattle.adb_block.specs.declared.block.BlockHead.{BlockHead}
 use Rattle.adb_block.specs.declared.block.Frame.{Frame}
 use Rattle.adb_block.specs.declared.block.ReadBlock.{ReadBlock}
@@ -37,18 +37,18 @@ framed_piece frame bytes =
 
 -- the result of `frame_of` for `bytes`, the rest of a file, is the result of the tests: the frame of the block, the
 -- end, or the first failed test
-abbrev pub IsFrameOrEndOfStep : Result (Option Frame) Cause → List ℕ → Step → Type 0
-IsFrameOrEndOfStep (Ok None) bytes s = s ≡ ended
-IsFrameOrEndOfStep (Ok (Some frame)) bytes s =
+abbrev pub IsFrameOrEndOfBlockResult : Result (Option Frame) Cause → List ℕ → NextBlockResult → Type 0
+IsFrameOrEndOfBlockResult (Ok None) bytes s = s ≡ ended
+IsFrameOrEndOfBlockResult (Ok (Some frame)) bytes s =
     s ≡ block (framed_piece frame bytes) (raw_size frame + padding_of (raw_size frame))
-IsFrameOrEndOfStep (Err c) bytes s = s ≡ failed c
+IsFrameOrEndOfBlockResult (Err c) bytes s = s ≡ failed c
 
 -- the result is that of the tests: the frame of the block at the front of these bytes, or the first failed test. The
 -- result of the tests is not the end
-abbrev pub IsFrameOfStep : Result Frame Cause → List ℕ → Step → Type 0
-IsFrameOfStep (Ok frame) bytes s =
+abbrev pub IsFrameOfBlockResult : Result Frame Cause → List ℕ → NextBlockResult → Type 0
+IsFrameOfBlockResult (Ok frame) bytes s =
     s ≡ block (framed_piece frame bytes) (raw_size frame + padding_of (raw_size frame))
-IsFrameOfStep (Err c) bytes s = s ≡ failed c
+IsFrameOfBlockResult (Err c) bytes s = s ≡ failed c
 
 -- ---- a block in a file in memory
 
@@ -62,7 +62,7 @@ piece_in b = record { kind = b.kind; payload = b.payload.now }
 
 -- the result of the program is that of the tests: the end, a block and the distance to the next block, or the first
 -- failed test
-abbrev pub IsReadBlock : Result (Option ReadBlock) Cause → Step → Type 0
+abbrev pub IsReadBlock : Result (Option ReadBlock) Cause → NextBlockResult → Type 0
 IsReadBlock (Ok None) s = s ≡ ended
 IsReadBlock (Ok (Some b)) s = s ≡ block (piece_in b) b.size
 IsReadBlock (Err c) s = s ≡ failed c

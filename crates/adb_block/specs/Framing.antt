@@ -47,15 +47,15 @@ kind_of_number (suc (suc (suc n))) = None
 
 -- what a reader finds at one offset of a file: the end of the file (`ended`), the first failed test (`failed`), or a
 -- block and the distance to the next block, padding included (`block`)
-pub data Step : Type 0 where
-  ended : Step
-  failed : Cause → Step
-  block : Piece → ℕ → Step
+pub data NextBlockResult : Type 0 where
+  ended : NextBlockResult
+  failed : Cause → NextBlockResult
+  block : Piece → ℕ → NextBlockResult
 
 -- the result for a block at the offset `at` whose header has an allowed kind: first the raw size is tested, then the
 -- length of the payload. `bytes` are the bytes of the file from the offset on
-abbrev pub step_by_size : ℕ → List ℕ → HeadFields → BlockKind → Step
-step_by_size at bytes head kind =
+abbrev pub next_block_result_by_size : ℕ → List ℕ → HeadFields → BlockKind → NextBlockResult
+next_block_result_by_size at bytes head kind =
     if nat_lt head.raw head.len || nat_lt (length bytes) head.raw then failed (Truncated at)
     else if nat_lt (head.raw - head.len) (least_payload_len kind) then failed (Truncated at)
     else block (record { kind = kind; payload = take (head.raw - head.len) (drop head.len bytes) })
@@ -63,24 +63,27 @@ step_by_size at bytes head kind =
 
 -- the result for a block with a complete header: first its kind is tested, then its size. The last argument is the kind
 -- with the number in the header, or None if no kind has it
-abbrev pub step_by_order : Option BlockKind → ℕ → List ℕ → HeadFields → Option BlockKind → Step
-step_by_order last at bytes head None = failed (BlockOrder at)
-step_by_order last at bytes head (Some kind) =
-    if may_be_next_kind last kind then step_by_size at bytes head kind else failed (BlockOrder at)
+abbrev pub next_block_result_by_kind_order : Option BlockKind → ℕ → List ℕ → HeadFields → Option BlockKind
+    → NextBlockResult
+next_block_result_by_kind_order last at bytes head None = failed (BlockOrder at)
+next_block_result_by_kind_order last at bytes head (Some kind) =
+    if may_be_next_kind last kind then next_block_result_by_size at bytes head kind else failed
+    (BlockOrder at)
 
 -- the result if bytes are left: a fault if they begin with no complete header, else the result of the tests of the
 -- header's kind and size. The last argument is the header, or None if it is not complete
-abbrev pub step_by_head : Option BlockKind → ℕ → List ℕ → Option HeadFields → Step
-step_by_head last at bytes None = failed (Truncated at)
-step_by_head last at bytes (Some head) = step_by_order last at bytes head (kind_of_number head.kind)
+abbrev pub next_block_result_by_header : Option BlockKind → ℕ → List ℕ → Option HeadFields → NextBlockResult
+next_block_result_by_header last at bytes None = failed (Truncated at)
+next_block_result_by_header last at bytes (Some head) =
+    next_block_result_by_kind_order last at bytes head (kind_of_number head.kind)
 
 -- the result at the end of the file, whose offset is `at`: the end, or a fault if the file has no block
-abbrev pub step_at_end : Option BlockKind → ℕ → Step
-step_at_end None at = failed (Truncated at)
-step_at_end (Some kind) at = ended
+abbrev pub next_block_result_at_file_end : Option BlockKind → ℕ → NextBlockResult
+next_block_result_at_file_end None at = failed (Truncated at)
+next_block_result_at_file_end (Some kind) at = ended
 
 -- what a reader finds at the offset `at` after a block of the kind `last` (None: before the first); `bytes` are the
 -- bytes of the file from this offset on
-unfoldable pub next_step : Option BlockKind → ℕ → List ℕ → Step
-next_step last at bytes =
-    if length bytes == 0 then step_at_end last at else step_by_head last at bytes (block_head_fields bytes)
+unfoldable pub next_block_result_at_offset : Option BlockKind → ℕ → List ℕ → NextBlockResult
+next_block_result_at_offset last at bytes =
+    if length bytes == 0 then next_block_result_at_file_end last at else next_block_result_by_header last at bytes (block_head_fields bytes)

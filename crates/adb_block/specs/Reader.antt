@@ -5,7 +5,7 @@ use Rattle.std.specs.Prelude.{◌≡◌, ◌↔◌, ℕ, ◌+◌, ◌-◌, ◌==
 use Rattle.base_core.specs.declared.Cause.{Cause}
 use Rattle.adb_block.specs.Container.{IsBlock, MayFollow, SpellsBlocks}
 use Rattle.adb_block.specs.Piece.{Piece}
-use Rattle.adb_block.specs.Framing.{ended, failed, block, next_step}
+use Rattle.adb_block.specs.Framing.{ended, failed, block, next_block_result_at_offset}
 use Rattle.adb_block.specs.ReaderPosition.{ReaderPosition}
 use Rattle.adb_block.specs.Reading.{Reading, done, fault, more}
 use Rattle.adb_block.specs.AllBlocks.{with_block, blocks_from_position}
@@ -45,10 +45,12 @@ ReturnsNextSpelledBlock s (Err c) t = (bs : List Piece) → ¬ SpelledFrom s bs
 
 -- the result of a call is that of the tests at the old position `s`: the end, a block and its distance to the next
 -- block, or the first failed test. `t` is the new position
-abbrev pub IsNextStepResult : ReaderPosition → Result (Option Block) Cause → ReaderPosition → Type 0
-IsNextStepResult s (Ok None) t = next_step s.last s.at s.left ≡ ended
-IsNextStepResult s (Ok (Some b)) t = next_step s.last s.at s.left ≡ block (piece_of b) (t.at - s.at)
-IsNextStepResult s (Err c) t = next_step s.last s.at s.left ≡ failed c
+abbrev pub IsNextBlockResultAtPosition : ReaderPosition → Result (Option Block) Cause → ReaderPosition
+    → Type 0
+IsNextBlockResultAtPosition s (Ok None) t = next_block_result_at_offset s.last s.at s.left ≡ ended
+IsNextBlockResultAtPosition s (Ok (Some b)) t =
+    next_block_result_at_offset s.last s.at s.left ≡ block (piece_of b) (t.at - s.at)
+IsNextBlockResultAtPosition s (Err c) t = next_block_result_at_offset s.last s.at s.left ≡ failed c
 
 -- a call of the reader has read the block `b` and moved from the position `s` to `t`
 pub record Advances (s : ReaderPosition) (b : Block) (t : ReaderPosition) : Type 0 where

@@ -16,5 +16,6 @@ pub record ReaderPosition : Type 0 where
 
 -- the first position of a reader in a file with this schema: after the file's header, which has 8 bytes, and before the
 -- first block
-abbrev pub first_block_position : ℕ → List ℕ → ReaderPosition
-first_block_position schema file = record { schema = schema; last = None; at = 8; left = drop 8 file }
+abbrev pub first_block_position_of_schema_and_file : ℕ → List ℕ → ReaderPosition
+first_block_position_of_schema_and_file schema file =
+    record { schema = schema; last = None; at = 8; left = drop 8 file }

@@ -4,7 +4,7 @@ use Rattle.std.specs.Prelude.{ℕ, zero, suc, ◌+◌, List, length, drop, Optio
 use Rattle.base_core.specs.declared.Cause.{Cause}
 use Rattle.base_core.specs.declared.Cause.TheVariants.{Truncated}
 use Rattle.adb_block.specs.Piece.{Piece}
-use Rattle.adb_block.specs.Framing.{Step, ended, failed, block, next_step}
+use Rattle.adb_block.specs.Framing.{NextBlockResult, ended, failed, block, next_block_result_at_offset}
 use Rattle.adb_block.specs.ReaderPosition.{ReaderPosition}
 use Rattle.adb_block.specs.declared.block.BlockKind.{BlockKind}
 
@@ -17,20 +17,20 @@ pub data Reading : Type 0 where
 
 -- the reading that begins with the given result of the tests at the offset `at`. The end or a fault ends the reading;
 -- after a block `further` gives the rest of the reading, from the block and its distance to the next block
-abbrev pub block_stream_after_step : ℕ → (Piece → ℕ → Reading) → Step → Reading
-block_stream_after_step at further ended = done
-block_stream_after_step at further (failed c) = fault c
-block_stream_after_step at further (block b size) = more b at (further b size)
+abbrev pub block_stream_after_result : ℕ → (Piece → ℕ → Reading) → NextBlockResult → Reading
+block_stream_after_result at further ended = done
+block_stream_after_result at further (failed c) = fault c
+block_stream_after_result at further (block b size) = more b at (further b size)
 
 -- the reading from the offset `at` on, after a block of the kind `last` (None: before the first); `bytes` are the bytes
 -- from there on. The first argument bounds the number of blocks; the number of bytes plus one is always enough
-unfoldable pub block_stream_from_offset : ℕ → Option BlockKind → ℕ → List ℕ → Reading
-block_stream_from_offset zero last at bytes = fault (Truncated at)
-block_stream_from_offset (suc n) last at bytes =
-    block_stream_after_step at
-    (λ b size. block_stream_from_offset n (Some b.kind) (at + size) (drop size bytes))
-    (next_step last at bytes)
+unfoldable pub bounded_block_stream_from_offset : ℕ → Option BlockKind → ℕ → List ℕ → Reading
+bounded_block_stream_from_offset zero last at bytes = fault (Truncated at)
+bounded_block_stream_from_offset (suc n) last at bytes =
+    block_stream_after_result at
+    (λ b size. bounded_block_stream_from_offset n (Some b.kind) (at + size) (drop size bytes))
+    (next_block_result_at_offset last at bytes)
 
 -- the reading of a file from a reader's position on
 unfoldable pub block_stream_from : ReaderPosition → Reading
-block_stream_from s = block_stream_from_offset (suc (length s.left)) s.last s.at s.left
+block_stream_from s = bounded_block_stream_from_offset (suc (length s.left)) s.last s.at s.left

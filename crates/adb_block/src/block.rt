@@ -9,8 +9,8 @@ ghost use Rattle.std.specs.Prelude.{◌≡◌, ◌≤◌, ◌<◌, ◌+◌, ◌-
 ghost use Rattle.std.specs.Option.{option_map};
 ghost use Rattle.adb_block.specs.Container.{IsHead};
 ghost use Rattle.adb_block.specs.Piece.{may_be_next_kind, least_payload_len, padding_of, kind_number};
-ghost use Rattle.adb_block.specs.Framing.{HeadFields, block_head_fields, kind_of_number, step_by_order, next_step};
-ghost use Rattle.adb_block.specs.Frames.{IsHeadPrefix, IsFrameOrEndOfStep, IsFrameOfStep, IsReadBlock, fields_of, head_len, raw_size};
+ghost use Rattle.adb_block.specs.Framing.{HeadFields, block_head_fields, kind_of_number, next_block_result_by_kind_order, next_block_result_at_offset};
+ghost use Rattle.adb_block.specs.Frames.{IsHeadPrefix, IsFrameOrEndOfBlockResult, IsFrameOfBlockResult, IsReadBlock, fields_of, head_len, raw_size};
 ghost use Rattle.adb_block.specs.Written.{head_bytes};
 ghost use Rattle.adb_block.specs.Header.{word_at, eight_byte_number_at};
 
@@ -87,7 +87,7 @@ pub(crate) fn block_at(
     ensures fits { IfOk result (λ found. IfSome found (λ block.
         (0 < length bytes.now) × (block.size ≤ length bytes.now + 7))) }
     // The result is that of the tests at this offset, in their order.
-    ensures exact { IsReadBlock result (next_step last at bytes.now) }
+    ensures exact { IsReadBlock result (next_block_result_at_offset last at bytes.now) }
 {
     match frame_of(last, at, bytes, bytes.len() as u64) {
         Err(cause) => Err(cause),
@@ -127,7 +127,7 @@ pub fn head_len(bytes: &[u8]) -> u64
 /// # Errors
 ///
 /// The first failed test, as in `Blocks::next`.
-#[tactic(auto, unfolding(crate::specs::Framing::next_step), using(crate::proofs::Heads::same_head, crate::proofs::Heads::framed_step))]
+#[tactic(auto, unfolding(crate::specs::Framing::next_block_result_at_offset), using(crate::proofs::Heads::same_head, crate::proofs::Heads::framed_step))]
 pub fn frame_of(
     last: Option<BlockKind>,
     at: u64,
@@ -139,7 +139,7 @@ pub fn frame_of(
     // The result is that of the tests on any rest of a file that begins with `head` and has `left`
     // bytes.
     ensures exact { (bytes : List ℕ) → length bytes ≡ left → take (length head.now) bytes ≡ head.now
-        → IsFrameOrEndOfStep result bytes (next_step last at bytes) }
+        → IsFrameOrEndOfBlockResult result bytes (next_block_result_at_offset last at bytes) }
     // Before the first block the result is never None: a file without blocks is an error.
     ensures first { last ≡ None → IfOk result (λ found. IsSome found) }
     // The kind is allowed after `last`.
@@ -207,8 +207,9 @@ fn frame_by_head(
     head: BlockHead,
 ) -> Result<Frame, Cause>
     // The result is that of the tests on any rest of a file with `left` bytes and this header.
-    ensures exact { (bytes : List ℕ) → length bytes ≡ left → IsFrameOfStep result bytes
-        (step_by_order last at bytes (fields_of head) (kind_of_number head.kind)) }
+    ensures exact { (bytes : List ℕ) → length bytes ≡ left → IsFrameOfBlockResult result bytes
+        (next_block_result_by_kind_order last at bytes (fields_of head)
+        (kind_of_number head.kind)) }
     // The kind is allowed after `last`.
     ensures order { IfOk result (λ frame. may_be_next_kind last frame.kind ≡ true) }
     // The length of the header is the one that was read.

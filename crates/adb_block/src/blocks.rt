@@ -4,7 +4,7 @@
 
 ghost use Rattle.std.specs.Prelude.{◌≡◌, ◌↔◌, [], drop, IfOk, IfErr, IfSome, IfNone, IsNone, OnErr, ◌<◌, ◌^◌, ℕ, List};
 ghost use Rattle.adb_block.specs.Header.{schema_of_header};
-ghost use Rattle.adb_block.specs.ReaderPosition.{first_block_position};
+ghost use Rattle.adb_block.specs.ReaderPosition.{first_block_position_of_schema_and_file};
 ghost use Rattle.adb_block.specs.Reader.{next_offset};
 ghost use Rattle.adb_block.specs.Reading.{block_stream_from};
 ghost use Rattle.adb_block.specs.AllBlocks.{blocks_of, blocks_from_position};
@@ -47,7 +47,7 @@ impl<'a> Model for Blocks<'a> {
 }
 
 impl<'a> Blocks<'a> {
-    ghost use Rattle.adb_block.specs.Reader.{ReturnsNextSpelledBlock, IsNextStepResult, Advances, FindsEndOfBlocks, ContinuesReading, AreBlocksFromCall, AreBlocksOrHeaderFault};
+    ghost use Rattle.adb_block.specs.Reader.{ReturnsNextSpelledBlock, IsNextBlockResultAtPosition, Advances, FindsEndOfBlocks, ContinuesReading, AreBlocksFromCall, AreBlocksOrHeaderFault};
 
     /// Reads the header of a file (apk-v3(5)): the four bytes `ADB.` and the schema. The error is
     /// that of the first failed test. Fewer than 4 bytes are truncated at 0. `ADBd` and `ADBc`
@@ -59,7 +59,7 @@ impl<'a> Blocks<'a> {
         ensures ok { IfOk result (λ blocks. schema_of_header bytes.entry.now ≡ Ok blocks.schema) }
         // On Ok, the reader is before the first block.
         ensures start { IfOk result (λ blocks. blocks
-            ≡ first_block_position blocks.schema bytes.entry.now) }
+            ≡ first_block_position_of_schema_and_file blocks.schema bytes.entry.now) }
         // An error is the first failed test of the header.
         ensures cause { IfErr result (λ cause. schema_of_header bytes.entry.now ≡ Err cause) }
         // For a caller's loop over all blocks: all blocks of the file are those from this position
@@ -95,7 +95,7 @@ impl<'a> Blocks<'a> {
         // The call returns the next block by the grammar of containers, and no other block.
         ensures blocks { ReturnsNextSpelledBlock self.old result self.new }
         // The result is the first failed test, or the block that passed all tests, or the end.
-        ensures exact { IsNextStepResult self.old result self.new }
+        ensures exact { IsNextBlockResultAtPosition self.old result self.new }
 
         // A returned block begins at the old position, and the new position is after the block.
         ensures found { IfOk result

@@ -8,7 +8,7 @@ use Rattle.adb_view.specs.Schema.{shape_of, shapes_of, table}
 use Rattle.adb_view.specs.Values.{nth, entries_in, entry_in, int_in, text_in}
 use Rattle.adb_view.specs.declared.tables.Which.TheVariants as Tables
 use Rattle.adb_view.specs.declared.tables.Kind.TheVariants as Kinds
-use Rattle.adb_copy.specs.Zeros.{int_or_null, without_zeros, all_without_zeros, with_value_at_index, info_with_id_and_size}
+use Rattle.adb_copy.specs.Zeros.{int_or_null, without_zeros, all_without_zeros, with_value_set_at_index, info_without_zeros_with_id_and_file_size}
 use Rattle.adb_copy.proofs.Shapes.{shape_at, behind, nth_shape, nth_behind, entries_shape}
 use Rattle.adb_copy.proofs.Zeros.{zeros_text, zeros_number, zeros_object, nth_zeros, trimmed_same, at_same, at_other}
 
@@ -66,7 +66,7 @@ abbrev pub pick : List ℕ → ℕ → Plains → ℕ → Plain
 pick id len vs i = if i == 2 then blob id else if i == 12 then int len else nth vs i
 
 abbrev pub with_both : List ℕ → ℕ → Plains → Plains
-with_both id len vs = with_value_at_index 12 (int len) (with_value_at_index 2 (blob id) vs)
+with_both id len vs = with_value_set_at_index 12 (int len) (with_value_set_at_index 2 (blob id) vs)
 
 module _ (id : List ℕ) (len : ℕ) (vs : Plains) where
   pick_hash : (i : ℕ) → i ≡ 2 → pick id len vs i ≡ blob id
@@ -79,13 +79,13 @@ module _ (id : List ℕ) (len : ℕ) (vs : Plains) where
   pick_other i e f = (λ j. if e j then blob id else if i == 12 then int len else nth vs i) ∙ (λ j. if f j then int len else nth vs i)
 
   both_hash : (i : ℕ) → i ≡ 2 → nth (with_both id len vs) i ≡ blob id
-  both_hash i e = ap (nth (with_both id len vs)) e ∙ (at_other 12 2 (int len) (with_value_at_index 2 (blob id) vs) (λ h. omega arith) ∙ at_same 2 (blob id) vs)
+  both_hash i e = ap (nth (with_both id len vs)) e ∙ (at_other 12 2 (int len) (with_value_set_at_index 2 (blob id) vs) (λ h. omega arith) ∙ at_same 2 (blob id) vs)
 
   both_size : (i : ℕ) → i ≡ 12 → nth (with_both id len vs) i ≡ int len
-  both_size i e = ap (nth (with_both id len vs)) e ∙ at_same 12 (int len) (with_value_at_index 2 (blob id) vs)
+  both_size i e = ap (nth (with_both id len vs)) e ∙ at_same 12 (int len) (with_value_set_at_index 2 (blob id) vs)
 
   both_other : (i : ℕ) → (i ≡ 2 → ⊥) → (i ≡ 12 → ⊥) → nth (with_both id len vs) i ≡ nth vs i
-  both_other i e f = at_other 12 i (int len) (with_value_at_index 2 (blob id) vs) (λ h. f (sym h)) ∙ at_other 2 i (blob id) vs (λ h. e (sym h))
+  both_other i e f = at_other 12 i (int len) (with_value_set_at_index 2 (blob id) vs) (λ h. f (sym h)) ∙ at_other 2 i (blob id) vs (λ h. e (sym h))
 
   -- the one or the other, or neither
   pub by_place : (P : Plain → ℕ → Type 0) → (i : ℕ) → P (blob id) 2 → P (int len) 12 → P (nth vs i) i → P (nth (with_both id len vs) i) i
@@ -121,8 +121,8 @@ both_behind id len vs h k =
     let e : behind INFO k ≡ k + 22 = omega arith in
     both_other id len vs (behind INFO k) (λ x. omega (arith, e, x)) (λ x. omega (arith, e, x)) ∙ nth_behind INFO vs k h
 
-entry_by_fields : (info : Plain) (id : List ℕ) (len : ℕ) → HaveShapes INFO (entries_in info) → trimmed_object_or_null (as_written INFO (pick id len (entries_in info))) ≡ info_with_id_and_size info id len
-unfolding without_zeros info_with_id_and_size
+entry_by_fields : (info : Plain) (id : List ℕ) (len : ℕ) → HaveShapes INFO (entries_in info) → trimmed_object_or_null (as_written INFO (pick id len (entries_in info))) ≡ info_without_zeros_with_id_and_file_size info id len
+unfolding without_zeros info_without_zeros_with_id_and_file_size
 entry_by_fields info id len h =
     let vs : Plains = entries_in info in
     let us : Plains = with_both id len vs in
@@ -149,7 +149,7 @@ pub info_written : (info : Plain) (id : List ℕ) (len : ℕ) → HasShape (shap
     → n10 ≡ int_in (entry_in info 10) → n11 ≡ int_in (entry_in info 11) → n13 ≡ int_in (entry_in info 13)
     → l14 ≡ entry_in info 14 → l15 ≡ entry_in info 15 → l16 ≡ entry_in info 16 → l17 ≡ entry_in info 17 → l18 ≡ entry_in info 18
     → n19 ≡ int_in (entry_in info 19) → l20 ≡ entry_in info 20 → n21 ≡ int_in (entry_in info 21)
-    → info_with_id_and_size info id len ≡ trimmed_object_or_null (info_fields id len t0 t1 t3 t4 t5 t6 t7 t8 t9 n10 n11 n13 l14 l15 l16 l17 l18 n19 l20 n21)
+    → info_without_zeros_with_id_and_file_size info id len ≡ trimmed_object_or_null (info_fields id len t0 t1 t3 t4 t5 t6 t7 t8 t9 n10 n11 n13 l14 l15 l16 l17 l18 n19 l20 n21)
 unfolding shape_of
 info_written info id len h t0 t1 t3 t4 t5 t6 t7 t8 t9 n10 n11 n13 l14 l15 l16 l17 l18 n19 l20 n21 e0 e1 e3 e4 e5 e6 e7 e8 e9 e10 e11 e13 e14 e15 e16 e17 e18 e19 e20 e21 =
     sym (entry_by_fields info id len (entries_shape 3 INFO info h))

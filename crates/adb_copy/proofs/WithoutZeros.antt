@@ -3,7 +3,7 @@ use Rattle.std.proofs.Common.{◌≡◌, ℕ, zero, suc, ◌^◌, ◌<◌, [], �
 use Rattle.adb_view.specs.Plain.{Plain, null, int, blob, arr, obj, Plains, none, more, Shape, number, text, hash, array, object, Fields, no_fields, field, object_or_null, without_last_nulls, IsNormal, AreNormal}
 use Rattle.adb_view.specs.Shaped.{Each, HasShape, HaveShapes}
 use Rattle.adb_view.specs.Values.{nth, entries_in, int_in, text_in}
-use Rattle.adb_copy.specs.Zeros.{int_or_null, with_value_at_index, without_zeros, all_without_zeros}
+use Rattle.adb_copy.specs.Zeros.{int_or_null, with_value_set_at_index, without_zeros, all_without_zeros}
 use Rattle.adb_view.proofs.FoundShapes.{arr_value_shape, blob_value_hash, blob_value_text, obj_value_shape, shape_null, shapes_none}
 use Rattle.adb_view.proofs.Normal.{arr_normal, blob_value_normal, obj_normal}
 use Rattle.adb_copy.proofs.Shapes.{shape_at}
@@ -41,7 +41,7 @@ mutual
   all_normal_ints none h = tt
   all_normal_ints (more v vs) h = (normal_ints v h.0, all_normal_ints vs h.1)
 
-pub placed_ints : (i : ℕ) (v : Plain) (vs : Plains) → HasInts v → HaveInts vs → HaveInts (with_value_at_index i v vs)
+pub placed_ints : (i : ℕ) (v : Plain) (vs : Plains) → HasInts v → HaveInts vs → HaveInts (with_value_set_at_index i v vs)
 unfolding HasInts HaveInts
 placed_ints zero v none a h = (a, tt)
 placed_ints zero v (more u us) a h = (a, h.1)
@@ -91,9 +91,9 @@ mutual
   all_zeros_normal (more v vs) h = (zeros_normal v h.0, all_zeros_normal vs h.1)
 
 -- an object with two values in the place of others
-pub placed_normal : (i j : ℕ) (u v : Plain) (vs : Plains) → HasInts u → HasInts v → HaveInts vs → IsNormal (without_zeros (obj (with_value_at_index i u (with_value_at_index j v vs))))
+pub placed_normal : (i j : ℕ) (u v : Plain) (vs : Plains) → HasInts u → HasInts v → HaveInts vs → IsNormal (without_zeros (obj (with_value_set_at_index i u (with_value_set_at_index j v vs))))
 unfolding HasInts HaveInts
-placed_normal i j u v vs a b h = zeros_normal (obj (with_value_at_index i u (with_value_at_index j v vs))) (placed_ints i u (with_value_at_index j v vs) a (placed_ints j v vs b h))
+placed_normal i j u v vs a b h = zeros_normal (obj (with_value_set_at_index i u (with_value_set_at_index j v vs))) (placed_ints i u (with_value_set_at_index j v vs) a (placed_ints j v vs b h))
 
 -- ---- of the same shape
 
@@ -148,7 +148,7 @@ IsPlace no_fields i = ⊥
 IsPlace (field name s fs) zero = Unit {0}
 IsPlace (field name s fs) (suc i) = IsPlace fs i
 
-placed_shapes : (fs : Fields) (i : ℕ) (v : Plain) (vs : Plains) → IsPlace fs i → HasShape (shape_at fs i) v → HaveShapes fs vs → HaveShapes fs (with_value_at_index i v vs)
+placed_shapes : (fs : Fields) (i : ℕ) (v : Plain) (vs : Plains) → IsPlace fs i → HasShape (shape_at fs i) v → HaveShapes fs vs → HaveShapes fs (with_value_set_at_index i v vs)
 unfolding HaveShapes
 placed_shapes no_fields i v vs p a h = absurd p
 placed_shapes (field name s fs) zero v none p a h = (a, shapes_none fs)
@@ -158,10 +158,10 @@ placed_shapes (field name s fs) (suc i) v (more u us) p a h = (h.0, placed_shape
 
 -- an object with two values in the place of others
 pub placed_shape : (schema : ℕ) (fs : Fields) (i j : ℕ) (u v : Plain) (vs : Plains) → IsPlace fs i → IsPlace fs j → HasShape (shape_at fs i) u → HasShape (shape_at fs j) v → HaveShapes fs vs
-    → HasShape (object schema fs) (without_zeros (obj (with_value_at_index i u (with_value_at_index j v vs))))
+    → HasShape (object schema fs) (without_zeros (obj (with_value_set_at_index i u (with_value_set_at_index j v vs))))
 unfolding HasShape
 placed_shape schema fs i j u v vs p q a b h =
-    zeros_shape (object schema fs) (obj (with_value_at_index i u (with_value_at_index j v vs))) (placed_shapes fs i u (with_value_at_index j v vs) p a (placed_shapes fs j v vs q b h))
+    zeros_shape (object schema fs) (obj (with_value_set_at_index i u (with_value_set_at_index j v vs))) (placed_shapes fs i u (with_value_set_at_index j v vs) p a (placed_shapes fs j v vs q b h))
 
 -- ---- with the same numbers and texts
 

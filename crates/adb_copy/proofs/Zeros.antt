@@ -4,7 +4,7 @@ use Rattle.adb_view.specs.Plain.{Plain, null, int, blob, arr, obj, Plains, none,
 use Rattle.adb_view.specs.Shaped.{IsNumberOrNull, IsBlobOrNull, IsArrayOrNullOf, IsObjectOrNullOf}
 use Rattle.adb_view.specs.Values.{nth, entries_in, int_in, text_in}
 use Rattle.adb_view.proofs.ValueEntries.{nth_trimmed}
-use Rattle.adb_copy.specs.Zeros.{int_or_null, without_zeros, all_without_zeros, with_value_at_index}
+use Rattle.adb_copy.specs.Zeros.{int_or_null, without_zeros, all_without_zeros, with_value_set_at_index}
 
 -- ---- by shape
 
@@ -60,13 +60,13 @@ trimmed_same (more u us) (more v vs) h = (λ j. prepend_plain_unless_last_null (
 
 -- ---- an entry in the place of another
 
-pub at_same : (k : ℕ) (v : Plain) (vs : Plains) → nth (with_value_at_index k v vs) k ≡ v
+pub at_same : (k : ℕ) (v : Plain) (vs : Plains) → nth (with_value_set_at_index k v vs) k ≡ v
 at_same zero v none = refl
 at_same zero v (more u us) = refl
 at_same (suc k) v none = at_same k v none
 at_same (suc k) v (more u us) = at_same k v us
 
-pub at_other : (k i : ℕ) (v : Plain) (vs : Plains) → (k ≡ i → ⊥) → nth (with_value_at_index k v vs) i ≡ nth vs i
+pub at_other : (k i : ℕ) (v : Plain) (vs : Plains) → (k ≡ i → ⊥) → nth (with_value_set_at_index k v vs) i ≡ nth vs i
 at_other zero zero v vs h = absurd (h refl)
 at_other zero (suc i) v none h = refl
 at_other zero (suc i) v (more u us) h = refl

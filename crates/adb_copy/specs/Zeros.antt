@@ -27,16 +27,16 @@ unfoldable mutual
 
 -- the values, in which `v` replaces the value at the index, counted from 0. If there are too few values, Nulls are
 -- inserted before `v`
-abbrev pub with_value_at_index : ℕ → Plain → Plains → Plains
-with_value_at_index zero v none = more v none
-with_value_at_index zero v (more u us) = more v us
-with_value_at_index (suc i) v none = more null (with_value_at_index i v none)
-with_value_at_index (suc i) v (more u us) = more u (with_value_at_index i v us)
+abbrev pub with_value_set_at_index : ℕ → Plain → Plains → Plains
+with_value_set_at_index zero v none = more v none
+with_value_set_at_index zero v (more u us) = more v us
+with_value_set_at_index (suc i) v none = more null (with_value_set_at_index i v none)
+with_value_set_at_index (suc i) v (more u us) = more u (with_value_set_at_index i v us)
 
 -- the information of a package without zeros, with `id` as its field `hashes` and `len` as its field
 -- `file-size`. Their indexes, 2 and 12, count from 0; table 3 of `docs/formats.md`, "Schemas", has them
 -- as 3 and 13
-unfoldable pub info_with_id_and_size : Plain → List ℕ → ℕ → Plain
-info_with_id_and_size info id len =
-    without_zeros (obj (with_value_at_index 12 (int len)
-    (with_value_at_index 2 (blob id) (entries_in info))))
+unfoldable pub info_without_zeros_with_id_and_file_size : Plain → List ℕ → ℕ → Plain
+info_without_zeros_with_id_and_file_size info id len =
+    without_zeros (obj (with_value_set_at_index 12 (int len)
+    (with_value_set_at_index 2 (blob id) (entries_in info))))

@@ -7,7 +7,7 @@ ghost use Rattle.adb_view.specs.Values.{entry_in, is_sound, kind_at, value_at};
 ghost use Rattle.adb_view.specs.declared.tables.Kind.TheVariants as Kinds;
 ghost use Rattle.adb_view.specs.declared.tables.Which.TheVariants as Tables;
 ghost use Rattle.adb_values.specs.Drafts.{draft_with, draft_with_all};
-ghost use Rattle.adb_copy.specs.Zeros.{int_or_null, without_zeros, info_with_id_and_size};
+ghost use Rattle.adb_copy.specs.Zeros.{int_or_null, without_zeros, info_without_zeros_with_id_and_file_size};
 ghost use Rattle.adb_copy.specs.Fields.{info_texts, ints_or_nulls};
 ghost use Rattle.adb_copy.specs.Known.{AreRememberedBlobsOfDraft};
 ghost use Rattle.adb_view.specs.Adb.{payload_of};
@@ -42,7 +42,7 @@ pub fn write_info(
     // Each text that `known` remembers is a blob of the draft, with the remembered word.
     requires known { AreRememberedBlobsOfDraft (payload_of adb) draft.old known.old }
     // On Ok, the draft gets the information, with `id`, `len`, and NULL for each integer 0.
-    ensures info { OnOk result (draft.new ≡ draft_with (info_with_id_and_size
+    ensures info { OnOk result (draft.new ≡ draft_with (info_without_zeros_with_id_and_file_size
         (value_at (payload_of adb.entry) (Kinds.Obj Tables.PkgInfo) info) id.now len) draft.old) }
     // On Ok, each text that `known` remembers is a blob of the new draft, with that word.
     ensures known { OnOk result (AreRememberedBlobsOfDraft

@@ -12,7 +12,7 @@ use Rattle.hex.specs.Hex.{encode_with, encode_lower, lower_digits}
 use Rattle.base_core.proofs.AtName.{own_name}
 use Rattle.adb_view.specs.Plain.{Plain, int, blob}
 use Rattle.adb_dump.specs.Dump.{is_printable, begins_with_byte, needs_no_quotes, quoted_form_of_byte, bare_or_quoted_text, int_line, text_line, hash_line}
-use Rattle.adb_dump.specs.ReadBack.{hex_digit_value_unchecked, quoted_read, bytes_of_hex_digits, blob_unless_empty, int_read, text_read, hash_read, value_if_printed_as_line}
+use Rattle.adb_dump.specs.ReadBack.{hex_digit_value_unchecked, quoted_text_read_with_recursion_bound, bytes_of_hex_digits_unchecked, blob_unless_empty, int_of_line_unchecked, text_of_line_unchecked, hash_of_line_unchecked, value_if_printed_as_line}
 
 abbrev pub AreBytes : List ℕ → Type 0
 AreBytes b = AllByRecursion (λ c. c < 256) b
@@ -22,7 +22,7 @@ value_if_printed_as_line-same form v = rw own_name refl
 
 -- ---- numbers
 
-pub int_back : (n : ℕ) → n < 2 ^ 64 → value_if_printed_as_line int_line (decimal n) (int_read (decimal n)) ≡ Ok (int n)
+pub int_back : (n : ℕ) → n < 2 ^ 64 → value_if_printed_as_line int_line (decimal n) (int_of_line_unchecked (decimal n)) ≡ Ok (int n)
 int_back n lt =
     let t : ltb n (2 ^ 64) ≡ true = lt-ltb _ _ lt in
     ap (λ (k : ℕ). value_if_printed_as_line int_line (decimal n) (cond (ltb k (2 ^ 64)) (Some (int k)) None)) (decimal_is_IsNumeral n lt).1 ∙ rw t (value_if_printed_as_line-same int_line (int n))
@@ -64,18 +64,18 @@ hex_byte_back c lt =
     let l : hex_digit_value_unchecked (slice_index lower_digits (c % 16)) ≡ c % 16 = hex_digit_value_unchecked-digit (c % 16) (omega arith) in
     rw (h, l) (omega arith)
 
-bytes_of_hex_digits-pairs : (b : List ℕ) → AreBytes b → bytes_of_hex_digits (encode_lower b) ≡ b
+bytes_of_hex_digits_unchecked-pairs : (b : List ℕ) → AreBytes b → bytes_of_hex_digits_unchecked (encode_lower b) ≡ b
 unfolding encode_with
-bytes_of_hex_digits-pairs [] fits = refl
-bytes_of_hex_digits-pairs (c ∷ cs) fits =
-    ap (λ (x : ℕ). x ∷ bytes_of_hex_digits (encode_lower cs)) (hex_byte_back c fits.0) ∙ ap (λ (x : List ℕ). c ∷ x) (bytes_of_hex_digits-pairs cs fits.1)
+bytes_of_hex_digits_unchecked-pairs [] fits = refl
+bytes_of_hex_digits_unchecked-pairs (c ∷ cs) fits =
+    ap (λ (x : ℕ). x ∷ bytes_of_hex_digits_unchecked (encode_lower cs)) (hex_byte_back c fits.0) ∙ ap (λ (x : List ℕ). c ∷ x) (bytes_of_hex_digits_unchecked-pairs cs fits.1)
 
 made_blob-is : (b : List ℕ) → b ≢ [] → blob_unless_empty b ≡ Some (blob b)
 made_blob-is [] ne = absurd (ne refl)
 made_blob-is (c ∷ cs) ne = refl
 
-pub hash_back : (b : List ℕ) → AreBytes b → b ≢ [] → value_if_printed_as_line hash_line (encode_lower b) (hash_read (encode_lower b)) ≡ Ok (blob b)
-hash_back b fits ne = ap (λ (x : List ℕ). value_if_printed_as_line hash_line (encode_lower b) (blob_unless_empty x)) (bytes_of_hex_digits-pairs b fits) ∙ ap (value_if_printed_as_line hash_line (encode_lower b)) (made_blob-is b ne) ∙ value_if_printed_as_line-same hash_line (blob b)
+pub hash_back : (b : List ℕ) → AreBytes b → b ≢ [] → value_if_printed_as_line hash_line (encode_lower b) (hash_of_line_unchecked (encode_lower b)) ≡ Ok (blob b)
+hash_back b fits ne = ap (λ (x : List ℕ). value_if_printed_as_line hash_line (encode_lower b) (blob_unless_empty x)) (bytes_of_hex_digits_unchecked-pairs b fits) ∙ ap (value_if_printed_as_line hash_line (encode_lower b)) (made_blob-is b ne) ∙ value_if_printed_as_line-same hash_line (blob b)
 
 -- ---- texts
 
@@ -91,23 +91,23 @@ escaped-len c = by_test (eqb c 10) (eqb c 92) (eqb c 34) (is_printable c)
     by_test false false false true = lit< tt
     by_test false false false false = lit< tt
 
-pub unquoted-escaped : (n c : ℕ) (more : List ℕ) → c < 256 → quoted_read (suc n) (quoted_form_of_byte c ++ more) ≡ option_map (λ b. c ∷ b) (quoted_read n more)
+pub unquoted-escaped : (n c : ℕ) (more : List ℕ) → c < 256 → quoted_text_read_with_recursion_bound (suc n) (quoted_form_of_byte c ++ more) ≡ option_map (λ b. c ∷ b) (quoted_text_read_with_recursion_bound n more)
 unfolding encode_with
 unquoted-escaped n c more lt = go (eqb c 10) refl
   where
-    plain : eqb c 92 ≡ false → eqb c 34 ≡ false → (b : Bool) → is_printable c ≡ b → quoted_read (suc n) (cond b (c ∷ []) (codes "\\x" ++ encode_lower (c ∷ [])) ++ more) ≡ option_map (λ b. c ∷ b) (quoted_read n more)
+    plain : eqb c 92 ≡ false → eqb c 34 ≡ false → (b : Bool) → is_printable c ≡ b → quoted_text_read_with_recursion_bound (suc n) (cond b (c ∷ []) (codes "\\x" ++ encode_lower (c ∷ [])) ++ more) ≡ option_map (λ b. c ∷ b) (quoted_text_read_with_recursion_bound n more)
     plain e f true p = rw (f, e) refl
-    plain e f false p = ap (λ (x : ℕ). option_map (λ b. x ∷ b) (quoted_read n more)) (hex_byte_back c lt)
+    plain e f false p = ap (λ (x : ℕ). option_map (λ b. x ∷ b) (quoted_text_read_with_recursion_bound n more)) (hex_byte_back c lt)
 
-    quote : eqb c 92 ≡ false → (b : Bool) → eqb c 34 ≡ b → quoted_read (suc n) (cond b (92 ∷ 34 ∷ []) (cond (is_printable c) (c ∷ []) (codes "\\x" ++ encode_lower (c ∷ []))) ++ more) ≡ option_map (λ b. c ∷ b) (quoted_read n more)
+    quote : eqb c 92 ≡ false → (b : Bool) → eqb c 34 ≡ b → quoted_text_read_with_recursion_bound (suc n) (cond b (92 ∷ 34 ∷ []) (cond (is_printable c) (c ∷ []) (codes "\\x" ++ encode_lower (c ∷ []))) ++ more) ≡ option_map (λ b. c ∷ b) (quoted_text_read_with_recursion_bound n more)
     quote e true f = let is : c ≡ 34 = eqb-true _ _ f in rw is refl
     quote e false f = plain e f (is_printable c) refl
 
-    back : (b : Bool) → eqb c 92 ≡ b → quoted_read (suc n) (cond b (92 ∷ 92 ∷ []) (cond (eqb c 34) (92 ∷ 34 ∷ []) (cond (is_printable c) (c ∷ []) (codes "\\x" ++ encode_lower (c ∷ [])))) ++ more) ≡ option_map (λ b. c ∷ b) (quoted_read n more)
+    back : (b : Bool) → eqb c 92 ≡ b → quoted_text_read_with_recursion_bound (suc n) (cond b (92 ∷ 92 ∷ []) (cond (eqb c 34) (92 ∷ 34 ∷ []) (cond (is_printable c) (c ∷ []) (codes "\\x" ++ encode_lower (c ∷ [])))) ++ more) ≡ option_map (λ b. c ∷ b) (quoted_text_read_with_recursion_bound n more)
     back true e = let is : c ≡ 92 = eqb-true _ _ e in rw is refl
     back false e = quote e (eqb c 34) refl
 
-    go : (b : Bool) → eqb c 10 ≡ b → quoted_read (suc n) (cond b (92 ∷ 110 ∷ []) (cond (eqb c 92) (92 ∷ 92 ∷ []) (cond (eqb c 34) (92 ∷ 34 ∷ []) (cond (is_printable c) (c ∷ []) (codes "\\x" ++ encode_lower (c ∷ []))))) ++ more) ≡ option_map (λ b. c ∷ b) (quoted_read n more)
+    go : (b : Bool) → eqb c 10 ≡ b → quoted_text_read_with_recursion_bound (suc n) (cond b (92 ∷ 110 ∷ []) (cond (eqb c 92) (92 ∷ 92 ∷ []) (cond (eqb c 34) (92 ∷ 34 ∷ []) (cond (is_printable c) (c ∷ []) (codes "\\x" ++ encode_lower (c ∷ []))))) ++ more) ≡ option_map (λ b. c ∷ b) (quoted_text_read_with_recursion_bound n more)
     go true e = let is : c ≡ 10 = eqb-true _ _ e in rw is refl
     go false e = back (eqb c 92) refl
 
@@ -115,17 +115,17 @@ escapes-len : (b : List ℕ) → length b ≤ length (flat_map quoted_form_of_by
 escapes-len [] = lit≤ tt
 escapes-len (c ∷ cs) = omega (arith, ap length (flat_map-cons quoted_form_of_byte c cs), length-append (quoted_form_of_byte c) (flat_map quoted_form_of_byte cs), escapes-len cs, escaped-len c)
 
-unquoted-all : (b : List ℕ) (n : ℕ) → AreBytes b → length b < n → quoted_read n (flat_map quoted_form_of_byte b ++ 34 ∷ []) ≡ Some b
+unquoted-all : (b : List ℕ) (n : ℕ) → AreBytes b → length b < n → quoted_text_read_with_recursion_bound n (flat_map quoted_form_of_byte b ++ 34 ∷ []) ≡ Some b
 unquoted-all b zero fits lt = absurd (omega arith)
 unquoted-all [] (suc n) fits lt = refl
 unquoted-all (c ∷ cs) (suc n) fits lt =
     let regroup : flat_map quoted_form_of_byte (c ∷ cs) ++ 34 ∷ [] ≡ quoted_form_of_byte c ++ (flat_map quoted_form_of_byte cs ++ 34 ∷ []) = ap (λ (x : List ℕ). x ++ 34 ∷ []) (flat_map-cons quoted_form_of_byte c cs) ∙ append_assoc (quoted_form_of_byte c) (flat_map quoted_form_of_byte cs) (34 ∷ []) in
-    ap (quoted_read (suc n)) regroup ∙ unquoted-escaped n c (flat_map quoted_form_of_byte cs ++ 34 ∷ []) fits.0 ∙ ap (option_map (λ b. c ∷ b)) (unquoted-all cs n fits.1 (omega arith))
+    ap (quoted_text_read_with_recursion_bound (suc n)) regroup ∙ unquoted-escaped n c (flat_map quoted_form_of_byte cs ++ 34 ∷ []) fits.0 ∙ ap (option_map (λ b. c ∷ b)) (unquoted-all cs n fits.1 (omega arith))
 
-pub text_back : (b : List ℕ) → AreBytes b → b ≢ [] → value_if_printed_as_line text_line (bare_or_quoted_text b) (text_read (bare_or_quoted_text b)) ≡ Ok (blob b)
+pub text_back : (b : List ℕ) → AreBytes b → b ≢ [] → value_if_printed_as_line text_line (bare_or_quoted_text b) (text_of_line_unchecked (bare_or_quoted_text b)) ≡ Ok (blob b)
 text_back b fits ne = ap (value_if_printed_as_line text_line (bare_or_quoted_text b)) (go (needs_no_quotes b) refl) ∙ value_if_printed_as_line-same text_line (blob b)
   where
-    go : (t : Bool) → needs_no_quotes b ≡ t → text_read (cond t b (34 ∷ (flat_map quoted_form_of_byte b ++ 34 ∷ []))) ≡ Some (blob b)
+    go : (t : Bool) → needs_no_quotes b ≡ t → text_of_line_unchecked (cond t b (34 ∷ (flat_map quoted_form_of_byte b ++ 34 ∷ []))) ≡ Some (blob b)
     go true e =
         let four = and_parts _ _ e in
         let three = and_parts _ _ four.0 in

@@ -10,7 +10,7 @@ use Rattle.adb_view.proofs.FoundShapes.{shape_null}
 use Rattle.adb_dump.specs.Dump.{Line, begins_with_byte, int_line, text_line, hash_line, indent, lines_with_dash_before_first, entry_lines_or_null_line, array_lines, named_line, name_line_above_indented_lines, field_lines_unless_null, block_lines, named_lines, fields_lines}
 use Rattle.base_core.specs.Lists.{and_then}
 use Rattle.base_core.proofs.AtName.{is_name}
-use Rattle.adb_dump.specs.ReadBack.{ResultOrBadLine, mapped_or_bad_line_shifted_by, strip_prefix, end_block_or_add_line, block_and_lines_after, quoted_read, bytes_of_hex_digits, blob_unless_empty, int_read, text_read, hash_read, value_if_printed_as_line, single_line_value, entry_read, entries_from_dash_line, entries_read, array_unless_empty, object_unless_empty, fields_read_with_value_on_line, fields_read_with_value_below, fields_read_by_name_match, block_read, named_read, fields_read}
+use Rattle.adb_dump.specs.ReadBack.{ResultOrBadLine, mapped_or_bad_line_shifted_by, strip_prefix, end_block_or_add_line, block_and_lines_after, quoted_text_read_with_recursion_bound, bytes_of_hex_digits_unchecked, blob_unless_empty, int_of_line_unchecked, text_of_line_unchecked, hash_of_line_unchecked, value_if_printed_as_line, single_line_value, entry_read, entries_from_dash_line, entries_read_with_recursion_bound, array_unless_empty, object_unless_empty, fields_read_with_value_on_line, fields_read_with_value_below, fields_read_by_name_match, block_read, named_read, fields_read}
 use Rattle.adb_dump.proofs.Booleans.{chosen}
 
 bind_ok : {A B : Type 0} (r : ResultOrBadLine A) (f : A → ResultOrBadLine B) (y : B) → and_then r f ≡ Ok y → (x : A) × (r ≡ Ok x) × (f x ≡ Ok y)
@@ -64,7 +64,7 @@ blob_fits : (s : Shape) (b : List ℕ) (v : Plain) → ((x : List ℕ) → HasSh
 unfolding IsNormal
 blob_fits s b v h (e, ne) = (λ f. cc, subst IsNormal (sym e) ne, subst (HasShape s) (sym e) (h b))
 
-int_fits : (l : Line) (v : Plain) → int_read l ≡ Some v → Fits1 number v
+int_fits : (l : Line) (v : Plain) → int_of_line_unchecked l ≡ Some v → Fits1 number v
 unfolding IsNormal HasShape
 int_fits l v e =
     elim (chosen (ltb (digits_value 10 l) (2 ^ 64)) _ _ _ e) [
@@ -72,11 +72,11 @@ int_fits l v e =
       | inr x ↦ absurd (let f = x.1 in cc)
     ]
 
-text_fits : (l : Line) (v : Plain) → text_read l ≡ Some v → Fits1 text v
+text_fits : (l : Line) (v : Plain) → text_of_line_unchecked l ≡ Some v → Fits1 text v
 unfolding HasShape
 text_fits l v e =
     elim (chosen (begins_with_byte 34 l) _ _ _ e) [
-      | inl x ↦ let (b, is, made) = some_then blob_unless_empty (quoted_read (length l) (drop 1 l)) v x.1 in blob_fits text b v (λ y. tt) (made_blob_some b v made)
+      | inl x ↦ let (b, is, made) = some_then blob_unless_empty (quoted_text_read_with_recursion_bound (length l) (drop 1 l)) v x.1 in blob_fits text b v (λ y. tt) (made_blob_some b v made)
       | inr x ↦ blob_fits text l v (λ y. tt) (made_blob_some l v x.1)
     ]
   where
@@ -84,9 +84,9 @@ text_fits l v e =
     some_then f (Some x) y e = (x, refl, e)
     some_then f None y e = absurd cc
 
-hash_fits : (l : Line) (v : Plain) → hash_read l ≡ Some v → Fits1 hash v
+hash_fits : (l : Line) (v : Plain) → hash_of_line_unchecked l ≡ Some v → Fits1 hash v
 unfolding HasShape
-hash_fits l v e = blob_fits hash (bytes_of_hex_digits l) v (λ y. tt) (made_blob_some (bytes_of_hex_digits l) v e)
+hash_fits l v e = blob_fits hash (bytes_of_hex_digits_unchecked l) v (λ y. tt) (made_blob_some (bytes_of_hex_digits_unchecked l) v e)
 
 -- ---- entries
 
@@ -95,11 +95,11 @@ abbrev EntryOnly : (Plain → List Line) → (List Line → ResultOrBadLine Plai
 EntryOnly f r Q = (l : Line) (ls : List Line) (v : Plain) → entry_read r l ls ≡ Ok v → (entry_lines_or_null_line v (f v) ≡ l ∷ ls) × Q v
 
 dash_only : (f : Plain → List Line) (r : List Line → ResultOrBadLine Plain) (Q : Plain → Type 0) → EntryOnly f r Q → (n : ℕ) (l : Line) (ls : List Line) (o : Option Line) (vs : Plains) → strip_prefix (45 ∷ 32 ∷ []) l ≡ o
-    → ((us : Plains) → entries_read r n (block_and_lines_after ls).1 ≡ Ok us → (array_lines f us ≡ (block_and_lines_after ls).1) × Each Q us) → entries_from_dash_line r (entries_read r n) (block_and_lines_after ls) o ≡ Ok vs → (array_lines f vs ≡ l ∷ ls) × Each Q vs
+    → ((us : Plains) → entries_read_with_recursion_bound r n (block_and_lines_after ls).1 ≡ Ok us → (array_lines f us ≡ (block_and_lines_after ls).1) × Each Q us) → entries_from_dash_line r (entries_read_with_recursion_bound r n) (block_and_lines_after ls) o ≡ Ok vs → (array_lines f vs ≡ l ∷ ls) × Each Q vs
 dash_only f r Q h n l ls None vs i g e = absurd cc
 dash_only f r Q h n l ls (Some inner) vs i g e =
-    let (v, one, a) = bind_ok (entry_read r inner (block_and_lines_after ls).0) (λ v. mapped_or_bad_line_shifted_by (1 + length (block_and_lines_after ls).0) (more v) (entries_read r n (block_and_lines_after ls).1)) vs e in
-    let (us, others, is) = behind_ok (1 + length (block_and_lines_after ls).0) (more v) (entries_read r n (block_and_lines_after ls).1) vs a in
+    let (v, one, a) = bind_ok (entry_read r inner (block_and_lines_after ls).0) (λ v. mapped_or_bad_line_shifted_by (1 + length (block_and_lines_after ls).0) (more v) (entries_read_with_recursion_bound r n (block_and_lines_after ls).1)) vs e in
+    let (us, others, is) = behind_ok (1 + length (block_and_lines_after ls).0) (more v) (entries_read_with_recursion_bound r n (block_and_lines_after ls).1) vs a in
     let first = h inner (block_and_lines_after ls).0 v one in
     let rest = g us others in
     let line = strip_prefix_some (45 ∷ 32 ∷ []) l inner i in
@@ -109,7 +109,7 @@ dash_only f r Q h n l ls (Some inner) vs i g e =
     cons_same : (x y : Line) (xs ys : List Line) → x ≡ y → xs ≡ ys → x ∷ xs ≡ y ∷ ys
     cons_same x y xs ys a b = cc
 
-entries_only : (f : Plain → List Line) (r : List Line → ResultOrBadLine Plain) (Q : Plain → Type 0) → EntryOnly f r Q → (n : ℕ) (ls : List Line) (vs : Plains) → length ls ≤ n → entries_read r n ls ≡ Ok vs → (array_lines f vs ≡ ls) × Each Q vs
+entries_only : (f : Plain → List Line) (r : List Line → ResultOrBadLine Plain) (Q : Plain → Type 0) → EntryOnly f r Q → (n : ℕ) (ls : List Line) (vs : Plains) → length ls ≤ n → entries_read_with_recursion_bound r n ls ≡ Ok vs → (array_lines f vs ≡ ls) × Each Q vs
 entries_only f r Q h zero [] vs le e = let is : vs ≡ none = cc in (rw is refl, rw is tt)
 entries_only f r Q h zero (l ∷ ls) vs le e = absurd (omega arith)
 entries_only f r Q h (suc n) [] vs le e = let is : vs ≡ none = cc in (rw is refl, rw is tt)
@@ -183,7 +183,7 @@ obj_read_ok (more u us) v e = (cc, λ f. cc)
 array_only : (s : Shape) → BlockOnly s → BlockOnly (array s)
 unfolding block_read block_lines IsNormal HasShape
 array_only s h ls v e =
-    let (vs, some, made) = bind_ok (entries_read (block_read s) (length ls) ls) array_unless_empty v e in
+    let (vs, some, made) = bind_ok (entries_read_with_recursion_bound (block_read s) (length ls) ls) array_unless_empty v e in
     let (is, ne) = arr_read_ok vs v made in
     let (lines, fit) = entries_only (block_lines s) (block_read s) (EntryFits s) (entry_only s h) (length ls) ls vs (omega arith) some in
     let (normal, shapes) = each_split s vs fit in
@@ -252,9 +252,9 @@ below_only s fs name h k [] ls vs e =
 
 named_only : (s : Shape) (fs : Fields) (name : List ℕ) → BlockOnly s → (rest : Line) (ls : List Line) (vs : Plains) → named_read s (fields_read fs) ls rest ≡ Ok vs → NamedOnly s fs name rest ls vs
 unfolding named_read named_lines
-named_only number fs name h rest ls vs e = line_only number fs name int_line int_read int_fits (λ v. refl) rest ls vs (strip_prefix (32 ∷ []) rest) refl e
-named_only text fs name h rest ls vs e = line_only text fs name text_line text_read text_fits (λ v. refl) rest ls vs (strip_prefix (32 ∷ []) rest) refl e
-named_only hash fs name h rest ls vs e = line_only hash fs name hash_line hash_read hash_fits (λ v. refl) rest ls vs (strip_prefix (32 ∷ []) rest) refl e
+named_only number fs name h rest ls vs e = line_only number fs name int_line int_of_line_unchecked int_fits (λ v. refl) rest ls vs (strip_prefix (32 ∷ []) rest) refl e
+named_only text fs name h rest ls vs e = line_only text fs name text_line text_of_line_unchecked text_fits (λ v. refl) rest ls vs (strip_prefix (32 ∷ []) rest) refl e
+named_only hash fs name h rest ls vs e = line_only hash fs name hash_line hash_of_line_unchecked hash_fits (λ v. refl) rest ls vs (strip_prefix (32 ∷ []) rest) refl e
 named_only (array s) fs name h rest ls vs e = below_only (array s) fs name h (λ v. refl) rest ls vs e
 named_only (object which gs) fs name h rest ls vs e = below_only (object which gs) fs name h (λ v. refl) rest ls vs e
 
@@ -297,9 +297,9 @@ mutual
   unfolding fields_read fields_lines block_read block_lines IsNormal HasShape
 
   pub block_only : (s : Shape) → BlockOnly s
-  block_only number = λ ls v e. one_only int_line int_read number int_fits ls v e
-  block_only text = λ ls v e. one_only text_line text_read text text_fits ls v e
-  block_only hash = λ ls v e. one_only hash_line hash_read hash hash_fits ls v e
+  block_only number = λ ls v e. one_only int_line int_of_line_unchecked number int_fits ls v e
+  block_only text = λ ls v e. one_only text_line text_of_line_unchecked text text_fits ls v e
+  block_only hash = λ ls v e. one_only hash_line hash_of_line_unchecked hash hash_fits ls v e
   block_only (array s) = array_only s (block_only s)
   block_only (object which fs) = object_only which fs (fields_only fs)
 

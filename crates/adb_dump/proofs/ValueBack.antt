@@ -10,7 +10,7 @@ use Rattle.adb_view.proofs.Normal.{trimmed-more}
 use Rattle.adb_dump.specs.Dump.{Line, int_line, text_line, hash_line, bare_or_quoted_text, indent, lines_with_dash_before_first, entry_lines_or_null_line, array_lines, block_lines, named_lines, fields_lines}
 use Rattle.base_core.specs.Lists.{and_then}
 use Rattle.base_core.proofs.AtName.{own_name, other_name as differs}
-use Rattle.adb_dump.specs.ReadBack.{ResultOrBadLine, mapped_or_bad_line_shifted_by, strip_prefix, block_and_lines_after, entry_read, entries_read, array_unless_empty, object_unless_empty, fields_read_with_value_below, block_read, named_read, fields_read}
+use Rattle.adb_dump.specs.ReadBack.{ResultOrBadLine, mapped_or_bad_line_shifted_by, strip_prefix, block_and_lines_after, entry_read, entries_read_with_recursion_bound, array_unless_empty, object_unless_empty, fields_read_with_value_below, block_read, named_read, fields_read}
 use Rattle.adb_dump.specs.Values.{IsOfBytes, AreOfBytes}
 use Rattle.adb_dump.proofs.LineBack.{AreBytes, int_back, text_back, hash_back, int_not_null, text_not_null, hash_not_null}
 
@@ -71,7 +71,7 @@ entries-fresh : (f : Plain → List Line) (r : List Line → ResultOrBadLine Pla
 entries-fresh f r none h = tt
 entries-fresh f r (more v vs) h = rw h.0.lines refl
 
-entries_back : (f : Plain → List Line) (r : List Line → ResultOrBadLine Plain) (n : ℕ) (vs : Plains) → Each (EntryBack f r) vs → length (array_lines f vs) ≤ n → entries_read r n (array_lines f vs) ≡ Ok vs
+entries_back : (f : Plain → List Line) (r : List Line → ResultOrBadLine Plain) (n : ℕ) (vs : Plains) → Each (EntryBack f r) vs → length (array_lines f vs) ≤ n → entries_read_with_recursion_bound r n (array_lines f vs) ≡ Ok vs
 entries_back f r zero none h le = refl
 entries_back f r (suc n) none h le = refl
 entries_back f r zero (more v vs) h le =
@@ -82,8 +82,8 @@ entries_back f r (suc n) (more v vs) h le =
     let e = h.0 in
     let lines : array_lines f (more v vs) ≡ (45 ∷ 32 ∷ e.first) ∷ (indent e.others ++ array_lines f vs) = ap (λ (ls : List Line). lines_with_dash_before_first ls ++ array_lines f vs) e.lines in
     let split : block_and_lines_after (indent e.others ++ array_lines f vs) ≡ (e.others, array_lines f vs) = block_and_lines_after-indent e.others (array_lines f vs) (entries-fresh f r vs h.1) in
-    let more_back : entries_read r n (array_lines f vs) ≡ Ok vs = entries_back f r n vs h.1 (omega (arith, ap length lines, length-append (indent e.others) (array_lines f vs))) in
-    ap (entries_read r (suc n)) lines ∙ rw (split, e.back, more_back) refl
+    let more_back : entries_read_with_recursion_bound r n (array_lines f vs) ≡ Ok vs = entries_back f r n vs h.1 (omega (arith, ap length lines, length-append (indent e.others) (array_lines f vs))) in
+    ap (entries_read_with_recursion_bound r (suc n)) lines ∙ rw (split, e.back, more_back) refl
 
 -- ---- names
 

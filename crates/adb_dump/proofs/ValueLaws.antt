@@ -12,7 +12,7 @@ use Rattle.adb_view.specs.declared.tables.Kind.TheVariants.{Obj}
 use Rattle.adb_view.specs.Shapes.{object_shape}
 use Rattle.adb_dump.specs.Dump.{Line, block_lines, dump_lines, dump_text, schema_line, value_lines}
 use Rattle.base_core.specs.Lists.{and_then}
-use Rattle.adb_dump.specs.ReadBack.{block_read, lines_of_text_if_all_ended, value_read}
+use Rattle.adb_dump.specs.ReadBack.{block_read, lines_of_text_if_all_ended, value_of_lines_after_first}
 use Rattle.adb_dump.specs.Values.{IsOfBytes, IsNormalValueOfTable}
 use Rattle.adb_dump.proofs.BlockLines.{no_lines, object_block}
 use Rattle.adb_dump.proofs.ValueBack.{no_end, is_named, block_back}
@@ -36,13 +36,13 @@ table_named Intent = refl
 null_lines : (which : Which) → value_lines which null ≡ []
 null_lines which = ap (λ (s : Shape). block_lines s null) (object_shape which) ∙ object_block _ (shapes_of (table which)) null ∙ no_lines (shapes_of (table which))
 
-some_back : (which : Which) (v : Plain) → v ≢ null → IsNormalValueOfTable which v → IsOfBytes v → value_read which (value_lines which v) ≡ Ok v
+some_back : (which : Which) (v : Plain) → v ≢ null → IsNormalValueOfTable which v → IsOfBytes v → value_of_lines_after_first which (value_lines which v) ≡ Ok v
 some_back which v ne is b =
     let r = block_back (shape_of (Obj which)) (table_named which) v ne is.0 is.1 b in
-    ap (value_read which) r.lines ∙ ap (block_read (shape_of (Obj which))) (sym r.lines) ∙ r.back
+    ap (value_of_lines_after_first which) r.lines ∙ ap (block_read (shape_of (Obj which))) (sym r.lines) ∙ r.back
 
-pub read_back : (which : Which) (v : Plain) → IsNormalValueOfTable which v → IsOfBytes v → value_read which (value_lines which v) ≡ Ok v
-read_back which null is b = ap (value_read which) (null_lines which)
+pub read_back : (which : Which) (v : Plain) → IsNormalValueOfTable which v → IsOfBytes v → value_of_lines_after_first which (value_lines which v) ≡ Ok v
+read_back which null is b = ap (value_of_lines_after_first which) (null_lines which)
 read_back which (int n) is b = some_back which (int n) (λ e. cc) is b
 read_back which (blob x) is b = some_back which (blob x) (λ e. cc) is b
 read_back which (arr vs) is b = some_back which (arr vs) (λ e. cc) is b
@@ -52,7 +52,7 @@ null_value : (which : Which) → IsNormalValueOfTable which null
 unfolding IsNormal
 null_value which = (tt, shape_null (shape_of (Obj which)))
 
-pub only_values : (which : Which) (ls : List Line) (v : Plain) → value_read which ls ≡ Ok v → (value_lines which v ≡ ls) × IsNormalValueOfTable which v
+pub only_values : (which : Which) (ls : List Line) (v : Plain) → value_of_lines_after_first which ls ≡ Ok v → (value_lines which v ≡ ls) × IsNormalValueOfTable which v
 only_values which [] v e =
     let same : null ≡ v = cc in
     subst (λ (u : Plain). (value_lines which u ≡ []) × IsNormalValueOfTable which u) same (null_lines which, null_value which)
@@ -85,4 +85,4 @@ one_text_one_value which v u is b is' b' e =
     let lines : lines_of_text_if_all_ended (dump_text which v) ≡ lines_of_text_if_all_ended (dump_text which u) = ap lines_of_text_if_all_ended e in
     let whole = sym (text_split which v is.0) ∙ lines ∙ text_split which u is'.0 in
     let values : value_lines which v ≡ value_lines which u = same_lines _ _ (value_lines which v) (value_lines which u) whole in
-    same_value v u (sym (read_back which v is b) ∙ ap (value_read which) values ∙ read_back which u is' b')
+    same_value v u (sym (read_back which v is b) ∙ ap (value_of_lines_after_first which) values ∙ read_back which u is' b')

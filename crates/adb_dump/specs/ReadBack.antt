@@ -54,11 +54,11 @@ abbrev pub hex_digit_value_unchecked : ℕ → ℕ
 hex_digit_value_unchecked c = if nat_lt c 0x3a then c - 0x30 else c - 0x57
 
 -- the bytes of hexadecimal digits, two for each; a single digit at the end is dropped
-abbrev pub bytes_of_hex_digits : List ℕ → List ℕ
-bytes_of_hex_digits [] = []
-bytes_of_hex_digits (h ∷ []) = []
-bytes_of_hex_digits (h ∷ l ∷ cs) =
-    (hex_digit_value_unchecked h * 16 + hex_digit_value_unchecked l) ∷ bytes_of_hex_digits cs
+abbrev pub bytes_of_hex_digits_unchecked : List ℕ → List ℕ
+bytes_of_hex_digits_unchecked [] = []
+bytes_of_hex_digits_unchecked (h ∷ []) = []
+bytes_of_hex_digits_unchecked (h ∷ l ∷ cs) =
+    (hex_digit_value_unchecked h * 16 + hex_digit_value_unchecked l) ∷ bytes_of_hex_digits_unchecked cs
 
 -- the bytes of a text from after a `\x` on. First is the byte of the next two digits; `f` reads the
 -- rest
@@ -81,13 +81,13 @@ text_read_after_backslash f (d ∷ cs) =
 
 -- the bytes of a text from after its first quote (0x22) on, up to a quote that ends the line; a backslash is 0x5c.
 -- The number `n` bounds the recursion; the length of the line is enough
-abbrev pub quoted_read : ℕ → List ℕ → Option (List ℕ)
-quoted_read zero cs = None
-quoted_read (suc n) [] = None
-quoted_read (suc n) (c ∷ cs) =
+abbrev pub quoted_text_read_with_recursion_bound : ℕ → List ℕ → Option (List ℕ)
+quoted_text_read_with_recursion_bound zero cs = None
+quoted_text_read_with_recursion_bound (suc n) [] = None
+quoted_text_read_with_recursion_bound (suc n) (c ∷ cs) =
     if c == 0x22 then (if length cs == 0 then Some [] else None)
-    else if c == 0x5c then text_read_after_backslash (quoted_read n) cs
-    else option_map (λ b. c ∷ b) (quoted_read n cs)
+    else if c == 0x5c then text_read_after_backslash (quoted_text_read_with_recursion_bound n) cs
+    else option_map (λ b. c ∷ b) (quoted_text_read_with_recursion_bound n cs)
 
 -- the value of a text; an empty text has no value, since no line represents it
 abbrev pub blob_unless_empty : List ℕ → Option Plain
@@ -95,18 +95,20 @@ blob_unless_empty [] = None
 blob_unless_empty (c ∷ cs) = Some (blob (c ∷ cs))
 
 -- the value of a number below 2^64 in decimal digits; *value_if_printed_as_line* tests that the line has nothing else
-abbrev pub int_read : Line → Option Plain
-int_read l = if nat_lt (digits_value 10 l) (2 ^ 64) then Some (int (digits_value 10 l)) else None
+abbrev pub int_of_line_unchecked : Line → Option Plain
+int_of_line_unchecked l =
+    if nat_lt (digits_value 10 l) (2 ^ 64) then Some (int (digits_value 10 l)) else None
 
 -- the value of a text, between quotes or as it is; *value_if_printed_as_line* tests which form it must have
-abbrev pub text_read : Line → Option Plain
-text_read l =
-    if begins_with_byte 0x22 l then option_and_then blob_unless_empty (quoted_read (length l) (drop 1 l))
+abbrev pub text_of_line_unchecked : Line → Option Plain
+text_of_line_unchecked l =
+    if begins_with_byte 0x22 l then option_and_then blob_unless_empty
+    (quoted_text_read_with_recursion_bound (length l) (drop 1 l))
     else blob_unless_empty l
 
 -- the value of a hash, by its hexadecimal digits; *value_if_printed_as_line* tests that the line has nothing else
-abbrev pub hash_read : Line → Option Plain
-hash_read l = blob_unless_empty (bytes_of_hex_digits l)
+abbrev pub hash_of_line_unchecked : Line → Option Plain
+hash_of_line_unchecked l = blob_unless_empty (bytes_of_hex_digits_unchecked l)
 
 -- the value that was read from a line, if it is printed as exactly this line (`form`); else the line
 -- is bad
@@ -141,11 +143,13 @@ entries_from_dash_line f g r (Some l) =
 
 -- the entries of an array by their lines; `f` reads the lines of one entry. The number `n` bounds the recursion; the
 -- number of lines is enough
-abbrev pub entries_read : (List Line → ResultOrBadLine Plain) → ℕ → List Line → ResultOrBadLine Plains
-entries_read f zero ls = Ok none
-entries_read f (suc n) [] = Ok none
-entries_read f (suc n) (l ∷ ls) =
-    entries_from_dash_line f (entries_read f n) (block_and_lines_after ls) (strip_prefix (codes "- ") l)
+abbrev pub entries_read_with_recursion_bound : (List Line → ResultOrBadLine Plain) → ℕ → List Line
+    → ResultOrBadLine Plains
+entries_read_with_recursion_bound f zero ls = Ok none
+entries_read_with_recursion_bound f (suc n) [] = Ok none
+entries_read_with_recursion_bound f (suc n) (l ∷ ls) =
+    entries_from_dash_line f (entries_read_with_recursion_bound f n) (block_and_lines_after ls)
+    (strip_prefix (codes "- ") l)
 
 -- the array of these entries; an array without an entry has no lines, so it cannot be read
 abbrev pub array_unless_empty : Plains → ResultOrBadLine Plain
@@ -186,10 +190,14 @@ fields_read_by_name_match other this (Some rest) = this rest
 unfoldable mutual
   -- the value of the shape that has exactly these lines; or the number of the first bad line
   pub block_read : Shape → List Line → ResultOrBadLine Plain
-  block_read number ls = single_line_value (λ l. value_if_printed_as_line int_line l (int_read l)) ls
-  block_read text ls = single_line_value (λ l. value_if_printed_as_line text_line l (text_read l)) ls
-  block_read hash ls = single_line_value (λ l. value_if_printed_as_line hash_line l (hash_read l)) ls
-  block_read (array s) ls = and_then (entries_read (block_read s) (length ls) ls) array_unless_empty
+  block_read number ls =
+      single_line_value (λ l. value_if_printed_as_line int_line l (int_of_line_unchecked l)) ls
+  block_read text ls =
+      single_line_value (λ l. value_if_printed_as_line text_line l (text_of_line_unchecked l)) ls
+  block_read hash ls =
+      single_line_value (λ l. value_if_printed_as_line hash_line l (hash_of_line_unchecked l)) ls
+  block_read (array s) ls =
+      and_then (entries_read_with_recursion_bound (block_read s) (length ls) ls) array_unless_empty
   block_read (object schema fs) ls = and_then (fields_read fs ls) object_unless_empty
 
   -- The value of a field, followed by the other fields. `l` is the rest of the line after `name:`, `ls`
@@ -198,16 +206,20 @@ unfoldable mutual
   pub named_read :
       Shape → (List Line → ResultOrBadLine Plains) → List Line → Line → ResultOrBadLine Plains
   named_read number g ls l =
-      fields_read_with_value_on_line (λ l. value_if_printed_as_line int_line l (int_read l)) g ls
+      fields_read_with_value_on_line
+      (λ l. value_if_printed_as_line int_line l (int_of_line_unchecked l)) g ls
       (strip_prefix (codes " ") l)
   named_read text g ls l =
-      fields_read_with_value_on_line (λ l. value_if_printed_as_line text_line l (text_read l)) g ls
+      fields_read_with_value_on_line
+      (λ l. value_if_printed_as_line text_line l (text_of_line_unchecked l)) g ls
       (strip_prefix (codes " ") l)
   named_read hash g ls l =
-      fields_read_with_value_on_line (λ l. value_if_printed_as_line hash_line l (hash_read l)) g ls
+      fields_read_with_value_on_line
+      (λ l. value_if_printed_as_line hash_line l (hash_of_line_unchecked l)) g ls
       (strip_prefix (codes " ") l)
   named_read (array s) g ls l = fields_read_with_value_below
-      (λ ls. and_then (entries_read (block_read s) (length ls) ls) array_unless_empty) g
+      (λ ls. and_then (entries_read_with_recursion_bound (block_read s)
+      (length ls) ls) array_unless_empty) g
       (block_and_lines_after ls) l
   named_read (object schema fs) g ls l =
       fields_read_with_value_below (λ ls. and_then (fields_read fs ls) object_unless_empty) g
@@ -226,9 +238,9 @@ unfoldable mutual
 
 -- the value of a table by the lines of a dump text after its first line, or the number of a bad line; without lines
 -- the value is Null
-abbrev pub value_read : Which → List Line → ResultOrBadLine Plain
-value_read which [] = Ok null
-value_read which (l ∷ ls) = block_read (shape_of (Obj which)) (l ∷ ls)
+abbrev pub value_of_lines_after_first : Which → List Line → ResultOrBadLine Plain
+value_of_lines_after_first which [] = Ok null
+value_of_lines_after_first which (l ∷ ls) = block_read (shape_of (Obj which)) (l ∷ ls)
 
 -- ---- the lines of a text, in which the last one has its line end
 

@@ -206,7 +206,7 @@ fn write_entries<O: BlobOut>(
         (array_lines (block_lines (shape_of kind))
         (values_at (payload_of adb.entry) kind (array_entries words.entry))))) }
 {
-        // Only the first line may be begun already.
+    // Only the first line may be begun already.
     let mut begun = start.begun;
     for i in 0..words.len() {
         write_dash(out, start.depth, begun)?;
@@ -300,7 +300,7 @@ pub(crate) fn write_fields<O: BlobOut>(
         (fields_lines (shapes_of fields.now)
         (fields_at (payload_of adb.entry) fields.now (array_entries words.entry))))) }
 {
-        // Only the first line may be begun already.
+    // Only the first line may be begun already.
     let mut begun = start.begun;
     let mut all_null = true;
     for (i, field) in fields.iter().enumerate() {

@@ -11,10 +11,10 @@ use Rattle.adb_fields.specs.FirstPair.{IsPairOfEqualNames}
 use Rattle.adb_fields.specs.FirstPair.{IsIn}
 use Rattle.adb_view.specs.declared.tables.Which.TheVariants as Tables
 use Rattle.adb_view.specs.FieldIndexes.{DIR_NAME, FILE_NAME}
-use Rattle.adb_fields.specs.Repeated.{field_number, numbered_from, least_pair_of_repeated_name, repeated_pair_in_one_list, repeated_cause, name_of, folders_in, files_in, repeated_within_package_fault}
-use Rattle.adb_fields.specs.FirstPair.{IsRepeatedPairInOneList}
+use Rattle.adb_fields.specs.Repeated.{field_place_in_causes, numbered_from, least_pair_of_repeated_name, least_pair_of_repeated_name_in_one_list, repeated_cause, name_of, folders_in, files_in, fault_of_repeated_folder_or_file_name}
+use Rattle.adb_fields.specs.FirstPair.{IsPairOfRepeatedNameInOneList}
 use Rattle.std.specs.Option.{option_or}
-use Rattle.adb_fields.specs.NamedTexts.{plains_at}
+use Rattle.adb_fields.specs.NamedTexts.{plains_of_array_words}
 use Rattle.adb_view.specs.declared.tables.Kind.{Kind}
 use Rattle.adb_fields.proofs.NameLists.{plain_count, plain_is}
 use Rattle.adb_fields.proofs.FirstPair.{Either, alike, lesser_pair-first, least_pair_of_equal_names-first, lesser_pair-assoc, lesser_pair-none}
@@ -34,23 +34,23 @@ no_firsts g (v ∷ vs) zero h = absurd (omega arith)
 no_firsts g (v ∷ vs) (suc i) h = no_firsts g vs i (omega arith)
 
 -- a step of a loop that keeps the first pair
-pub one_first : (p : List ℕ) (kind : Kind) (g : Plain → Option Pair) (ws : List ℕ) (i w : ℕ) (first pair next all : Option Pair) → are_all_sound p kind ws ≡ true → i < length ws → w ≡ get_or ws i 0 → pair ≡ g (value_at p kind w) → next ≡ lesser_pair first pair → lesser_pair first (least_pair (map g (drop i (plains_at p kind ws)))) ≡ all → lesser_pair next (least_pair (map g (drop (i + 1) (plains_at p kind ws)))) ≡ all
+pub one_first : (p : List ℕ) (kind : Kind) (g : Plain → Option Pair) (ws : List ℕ) (i w : ℕ) (first pair next all : Option Pair) → are_all_sound p kind ws ≡ true → i < length ws → w ≡ get_or ws i 0 → pair ≡ g (value_at p kind w) → next ≡ lesser_pair first pair → lesser_pair first (least_pair (map g (drop i (plains_of_array_words p kind ws)))) ≡ all → lesser_pair next (least_pair (map g (drop (i + 1) (plains_of_array_words p kind ws)))) ≡ all
 one_first p kind g ws i w first pair next all sound lt word e n so =
-    let c : length (plains_at p kind ws) ≡ length ws = plain_count p kind ws sound in
-    let here : value_at p kind w ≡ get_or (plains_at p kind ws) i null = ap (value_at p kind) word ∙ plain_is p kind ws i sound lt in
-    let left : Option Pair = least_pair (map g (drop (i + 1) (plains_at p kind ws))) in
+    let c : length (plains_of_array_words p kind ws) ≡ length ws = plain_count p kind ws sound in
+    let here : value_at p kind w ≡ get_or (plains_of_array_words p kind ws) i null = ap (value_at p kind) word ∙ plain_is p kind ws i sound lt in
+    let left : Option Pair = least_pair (map g (drop (i + 1) (plains_of_array_words p kind ws))) in
     ap (λ o. lesser_pair o left) (n ∙ ap (lesser_pair first) (e ∙ ap g here))
-    ∙ (lesser_pair-assoc first (g (get_or (plains_at p kind ws) i null)) left
-    ∙ (ap (lesser_pair first) (sym (more_firsts g (plains_at p kind ws) i (omega arith))) ∙ so))
+    ∙ (lesser_pair-assoc first (g (get_or (plains_of_array_words p kind ws) i null)) left
+    ∙ (ap (lesser_pair first) (sym (more_firsts g (plains_of_array_words p kind ws) i (omega arith))) ∙ so))
 
-pub no_first : (p : List ℕ) (kind : Kind) (g : Plain → Option Pair) (ws : List ℕ) (i : ℕ) (first all : Option Pair) → are_all_sound p kind ws ≡ true → length ws ≤ i → lesser_pair first (least_pair (map g (drop i (plains_at p kind ws)))) ≡ all → first ≡ all
+pub no_first : (p : List ℕ) (kind : Kind) (g : Plain → Option Pair) (ws : List ℕ) (i : ℕ) (first all : Option Pair) → are_all_sound p kind ws ≡ true → length ws ≤ i → lesser_pair first (least_pair (map g (drop i (plains_of_array_words p kind ws)))) ≡ all → first ≡ all
 no_first p kind g ws i first all sound past so =
-    let c : length (plains_at p kind ws) ≡ length ws = plain_count p kind ws sound in
-    sym (lesser_pair-none first) ∙ (ap (lesser_pair first) (sym (no_firsts g (plains_at p kind ws) i (omega arith))) ∙ so)
+    let c : length (plains_of_array_words p kind ws) ≡ length ws = plain_count p kind ws sound in
+    sym (lesser_pair-none first) ∙ (ap (lesser_pair first) (sym (no_firsts g (plains_of_array_words p kind ws) i (omega arith))) ∙ so)
 
 -- ---- one list for each value, and several
 
-pub one_each : (f : Plain → List (List ℕ)) (values : List Plain) → least_pair (map (λ v. least_pair_of_repeated_name (f v)) values) ≡ repeated_pair_in_one_list (map f values)
+pub one_each : (f : Plain → List (List ℕ)) (values : List Plain) → least_pair (map (λ v. least_pair_of_repeated_name (f v)) values) ≡ least_pair_of_repeated_name_in_one_list (map f values)
 one_each f [] = refl
 one_each f (v ∷ vs) = ap (lesser_pair (least_pair_of_repeated_name (f v))) (one_each f vs)
 
@@ -58,20 +58,20 @@ least_pair-append : (xs ys : List (Option Pair)) → least_pair (xs ++ ys) ≡ l
 least_pair-append [] ys = refl
 least_pair-append (x ∷ xs) ys = ap (lesser_pair x) (least_pair-append xs ys) ∙ sym (lesser_pair-assoc x (least_pair xs) (least_pair ys))
 
-repeated_pair_in_one_list-append : (xs ys : List (List (List ℕ))) → repeated_pair_in_one_list (xs ++ ys) ≡ lesser_pair (repeated_pair_in_one_list xs) (repeated_pair_in_one_list ys)
-repeated_pair_in_one_list-append [] ys = refl
-repeated_pair_in_one_list-append (x ∷ xs) ys = ap (lesser_pair (least_pair_of_repeated_name x)) (repeated_pair_in_one_list-append xs ys) ∙ sym (lesser_pair-assoc (least_pair_of_repeated_name x) (repeated_pair_in_one_list xs) (repeated_pair_in_one_list ys))
+least_pair_of_repeated_name_in_one_list-append : (xs ys : List (List (List ℕ))) → least_pair_of_repeated_name_in_one_list (xs ++ ys) ≡ lesser_pair (least_pair_of_repeated_name_in_one_list xs) (least_pair_of_repeated_name_in_one_list ys)
+least_pair_of_repeated_name_in_one_list-append [] ys = refl
+least_pair_of_repeated_name_in_one_list-append (x ∷ xs) ys = ap (lesser_pair (least_pair_of_repeated_name x)) (least_pair_of_repeated_name_in_one_list-append xs ys) ∙ sym (lesser_pair-assoc (least_pair_of_repeated_name x) (least_pair_of_repeated_name_in_one_list xs) (least_pair_of_repeated_name_in_one_list ys))
 
-pub several_each : (f : Plain → List (List (List ℕ))) (values : List Plain) → least_pair (map (λ v. repeated_pair_in_one_list (f v)) values) ≡ repeated_pair_in_one_list (flat_map f values)
+pub several_each : (f : Plain → List (List (List ℕ))) (values : List Plain) → least_pair (map (λ v. least_pair_of_repeated_name_in_one_list (f v)) values) ≡ least_pair_of_repeated_name_in_one_list (flat_map f values)
 several_each f [] = refl
-several_each f (v ∷ vs) = ap (lesser_pair (repeated_pair_in_one_list (f v))) (several_each f vs) ∙ sym (repeated_pair_in_one_list-append (f v) (flat_map f vs))
+several_each f (v ∷ vs) = ap (lesser_pair (least_pair_of_repeated_name_in_one_list (f v))) (several_each f vs) ∙ sym (least_pair_of_repeated_name_in_one_list-append (f v) (flat_map f vs))
 
 -- of one list alone
-pub alone : (names : List (List ℕ)) → least_pair_of_repeated_name names ≡ repeated_pair_in_one_list (names ∷ [])
+pub alone : (names : List (List ℕ)) → least_pair_of_repeated_name names ≡ least_pair_of_repeated_name_in_one_list (names ∷ [])
 alone names = sym (lesser_pair-none (least_pair_of_repeated_name names))
 
-pub alone_several : (lists : List (List (List ℕ))) → repeated_pair_in_one_list lists ≡ repeated_pair_in_one_list (lists ++ [])
-alone_several lists = ap repeated_pair_in_one_list (sym (append-nil lists))
+pub alone_several : (lists : List (List (List ℕ))) → least_pair_of_repeated_name_in_one_list lists ≡ least_pair_of_repeated_name_in_one_list (lists ++ [])
+alone_several lists = ap least_pair_of_repeated_name_in_one_list (sym (append-nil lists))
 
 -- ---- names after names
 
@@ -88,21 +88,21 @@ texts_after a b one two m e l h =
 
 -- ---- kind after kind
 
-pub one_package : (pkg : Plain) → option_or (repeated_cause (field_number Tables.Dir DIR_NAME) (least_pair_of_repeated_name (map name_of (folders_in pkg)))) (repeated_cause (field_number Tables.File FILE_NAME) (repeated_pair_in_one_list (map (λ folder. map name_of (files_in folder)) (folders_in pkg)))) ≡ repeated_within_package_fault (pkg ∷ [])
-one_package pkg = λ i. option_or (repeated_cause (field_number Tables.Dir DIR_NAME) (alone (map name_of (folders_in pkg)) i)) (repeated_cause (field_number Tables.File FILE_NAME) (alone_several (map (λ folder. map name_of (files_in folder)) (folders_in pkg)) i))
+pub one_package : (pkg : Plain) → option_or (repeated_cause (field_place_in_causes Tables.Dir DIR_NAME) (least_pair_of_repeated_name (map name_of (folders_in pkg)))) (repeated_cause (field_place_in_causes Tables.File FILE_NAME) (least_pair_of_repeated_name_in_one_list (map (λ folder. map name_of (files_in folder)) (folders_in pkg)))) ≡ fault_of_repeated_folder_or_file_name (pkg ∷ [])
+one_package pkg = λ i. option_or (repeated_cause (field_place_in_causes Tables.Dir DIR_NAME) (alone (map name_of (folders_in pkg)) i)) (repeated_cause (field_place_in_causes Tables.File FILE_NAME) (alone_several (map (λ folder. map name_of (files_in folder)) (folders_in pkg)) i))
 
 -- ---- what is reported of several lists is the first pair of all
 
-from-here : (names : List (List ℕ)) (others : List (List (List ℕ))) (p : Pair) → Either (IsPairOfEqualNames (numbered_from 1 names)) (IsRepeatedPairInOneList others) p → IsRepeatedPairInOneList (names ∷ others) p
+from-here : (names : List (List ℕ)) (others : List (List (List ℕ))) (p : Pair) → Either (IsPairOfEqualNames (numbered_from 1 names)) (IsPairOfRepeatedNameInOneList others) p → IsPairOfRepeatedNameInOneList (names ∷ others) p
 from-here names others p (inl k) = record { names = names; names_in = inl refl; is_pair = k }
 from-here names others p (inr k) = record { names = k.names; names_in = inr k.names_in; is_pair = k.is_pair }
 
-here-by : (names : List (List ℕ)) (others : List (List (List ℕ))) (p : Pair) (found : List (List ℕ)) → IsIn found (names ∷ others) → IsPairOfEqualNames (numbered_from 1 found) p → Either (IsPairOfEqualNames (numbered_from 1 names)) (IsRepeatedPairInOneList others) p
+here-by : (names : List (List ℕ)) (others : List (List (List ℕ))) (p : Pair) (found : List (List ℕ)) → IsIn found (names ∷ others) → IsPairOfEqualNames (numbered_from 1 found) p → Either (IsPairOfEqualNames (numbered_from 1 names)) (IsPairOfRepeatedNameInOneList others) p
 here-by names others p found (inl e) k = let P : List (List ℕ) → Type 0 = λ l. IsPairOfEqualNames (numbered_from 1 l) p in inl (subst P e k)
 here-by names others p found (inr h) k = inr (record { names = found; names_in = h; is_pair = k })
 
-pub repeated_pair_in_one_list-first : (lists : List (List (List ℕ))) → IsLeastPairIfAny (IsRepeatedPairInOneList lists) (repeated_pair_in_one_list lists)
-repeated_pair_in_one_list-first [] = λ p k. k.names_in
-repeated_pair_in_one_list-first (names ∷ others) =
-    alike (Either (IsPairOfEqualNames (numbered_from 1 names)) (IsRepeatedPairInOneList others)) (IsRepeatedPairInOneList (names ∷ others)) (repeated_pair_in_one_list (names ∷ others)) (from-here names others) (λ p k. here-by names others p k.names k.names_in k.is_pair)
-    (lesser_pair-first (IsPairOfEqualNames (numbered_from 1 names)) (IsRepeatedPairInOneList others) (least_pair_of_repeated_name names) (repeated_pair_in_one_list others) (least_pair_of_equal_names-first (numbered_from 1 names)) (repeated_pair_in_one_list-first others))
+pub least_pair_of_repeated_name_in_one_list-first : (lists : List (List (List ℕ))) → IsLeastPairIfAny (IsPairOfRepeatedNameInOneList lists) (least_pair_of_repeated_name_in_one_list lists)
+least_pair_of_repeated_name_in_one_list-first [] = λ p k. k.names_in
+least_pair_of_repeated_name_in_one_list-first (names ∷ others) =
+    alike (Either (IsPairOfEqualNames (numbered_from 1 names)) (IsPairOfRepeatedNameInOneList others)) (IsPairOfRepeatedNameInOneList (names ∷ others)) (least_pair_of_repeated_name_in_one_list (names ∷ others)) (from-here names others) (λ p k. here-by names others p k.names k.names_in k.is_pair)
+    (lesser_pair-first (IsPairOfEqualNames (numbered_from 1 names)) (IsPairOfRepeatedNameInOneList others) (least_pair_of_repeated_name names) (least_pair_of_repeated_name_in_one_list others) (least_pair_of_equal_names-first (numbered_from 1 names)) (least_pair_of_repeated_name_in_one_list-first others))

@@ -4,7 +4,7 @@ use Rattle.std.specs.Prelude.{bytes_eq, ◌&&◌, nat_lt}
 use Rattle.std.specs.List.{flat_map}
 use Rattle.std.specs.List.Sorted.{IsPermutation, IsSortedBy}
 use Rattle.adb_fields.specs.declared.pairs.Pair.{Pair}
-use Rattle.adb_fields.specs.Pairs.{NameWithPosition, is_lesser_pair, lesser_pair, least_pair, pair_if_same_name, least_pair_of_equal_names}
+use Rattle.adb_fields.specs.Pairs.{NameWithPosition, is_lesser_pair, lesser_pair, least_pair, pair_if_same_name_and_first_precedes, least_pair_of_equal_names}
 use Rattle.adb_fields.specs.FirstPair.{IsLeastPairIfAny}
 use Rattle.adb_fields.specs.FirstPair.{IsLeastPair}
 use Rattle.adb_fields.specs.FirstPair.{IsPairOfEqualNames}
@@ -141,24 +141,24 @@ alike-by x y p true true e l h =
 alike-by x y p true false e l h = absurd (let b : None ≡ Some p = (cc) in (cc))
 alike-by x y p false t e l h = absurd (let b : None ≡ Some p = (cc) in (cc))
 
-pub are-alike : (x y : NameWithPosition) (p : Pair) → Some p ≡ pair_if_same_name x y → AreAlike x y p
+pub are-alike : (x y : NameWithPosition) (p : Pair) → Some p ≡ pair_if_same_name_and_first_precedes x y → AreAlike x y p
 are-alike x y p h = alike-by x y p (bytes_eq x.name y.name) (nat_lt x.position y.position) refl refl h
 
 made-by : (q : Pair) (s t : Bool) → s ≡ true → t ≡ true → cond (s && t) (Some q) None ≡ Some q
 made-by q s t e l = λ i. cond (e i && l i) (Some q) None
 
-pub pair-made : (x y : NameWithPosition) → x.name ≡ y.name → x.position < y.position → pair_if_same_name x y ≡ Some (record { first = x.position; second = y.position })
+pub pair-made : (x y : NameWithPosition) → x.name ≡ y.name → x.position < y.position → pair_if_same_name_and_first_precedes x y ≡ Some (record { first = x.position; second = y.position })
 pair-made x y e l = made-by (record { first = x.position; second = y.position }) (bytes_eq x.name y.name) (nat_lt x.position y.position) ((bytes_decides x.name y.name).1 e) (lt-ltb x.position y.position l)
 
 -- ---- all pairs of a list
 
 abbrev all_pairs : List NameWithPosition → List (Option Pair)
-all_pairs names = flat_map (λ x. map (pair_if_same_name x) names) names
+all_pairs names = flat_map (λ x. map (pair_if_same_name_and_first_precedes x) names) names
 
 is-pair : (names : List NameWithPosition) (p : Pair) → IsIn (Some p) (all_pairs names) → IsPairOfEqualNames names p
 is-pair names p h =
-    let r = from-flat_map (λ x. map (pair_if_same_name x) names) (Some p) names h in
-    let s = from-map (pair_if_same_name r.0) (Some p) names r.2 in
+    let r = from-flat_map (λ x. map (pair_if_same_name_and_first_precedes x) names) (Some p) names h in
+    let s = from-map (pair_if_same_name_and_first_precedes r.0) (Some p) names r.2 in
     let t : AreAlike r.0 s.0 p = are-alike r.0 s.0 p s.2 in
     record { one = r.0; other = s.0; one_in = r.1; other_in = s.1; alike = t.0; first = t.2; second = t.3; rises = (let l : r.0.position < s.0.position = t.1 in let e = t.2 in let f = t.3 in omega arith) }
 
@@ -169,7 +169,7 @@ has-pair names p k =
     let q : Pair = record { first = k.one.position; second = k.other.position } in
     let same : p ≡ q = same-pair p q k.first k.second in
     let P : Option Pair → Type 0 = λ o. IsIn o (all_pairs names) in
-    subst P (made ∙ ap Some (sym same)) (in-flat_map (λ x. map (pair_if_same_name x) names) (pair_if_same_name k.one k.other) k.one names k.one_in (in-map (pair_if_same_name k.one) k.other names k.other_in))
+    subst P (made ∙ ap Some (sym same)) (in-flat_map (λ x. map (pair_if_same_name_and_first_precedes x) names) (pair_if_same_name_and_first_precedes k.one k.other) k.one names k.one_in (in-map (pair_if_same_name_and_first_precedes k.one) k.other names k.other_in))
 
 pub least_pair_of_equal_names-first : (names : List NameWithPosition) → IsLeastPairIfAny (IsPairOfEqualNames names) (least_pair_of_equal_names names)
 unfolding least_pair_of_equal_names
@@ -330,13 +330,13 @@ named_order f = ranks_by named_total f
 
 -- ---- going over the neighbours
 
-pub turn : {X : Type 0} (f : X → NameWithPosition) (xs : List X) (j : ℕ) (d : X) → j + 1 < length xs → least_pair (neighbours (map f (drop j xs))) ≡ lesser_pair (pair_if_same_name (f (get_or xs j d)) (f (get_or xs (j + 1) d))) (least_pair (neighbours (map f (drop (j + 1) xs))))
+pub turn : {X : Type 0} (f : X → NameWithPosition) (xs : List X) (j : ℕ) (d : X) → j + 1 < length xs → least_pair (neighbours (map f (drop j xs))) ≡ lesser_pair (pair_if_same_name_and_first_precedes (f (get_or xs j d)) (f (get_or xs (j + 1) d))) (least_pair (neighbours (map f (drop (j + 1) xs))))
 turn f [] j d h = absurd (omega arith)
 turn f (x ∷ []) j d h = absurd (omega arith)
 turn f (x ∷ y ∷ xs) zero d h = refl
 turn {X} f (x ∷ y ∷ xs) (suc j) d h =
     let e : suc j + 1 ≡ suc (j + 1) = omega arith in
-    let P : ℕ → Type 0 = λ n. least_pair (neighbours (map f (drop j (y ∷ xs)))) ≡ lesser_pair (pair_if_same_name (f (get_or (y ∷ xs) j d)) (f (get_or (x ∷ y ∷ xs) n d))) (least_pair (neighbours (map f (drop n (x ∷ y ∷ xs))))) in
+    let P : ℕ → Type 0 = λ n. least_pair (neighbours (map f (drop j (y ∷ xs)))) ≡ lesser_pair (pair_if_same_name_and_first_precedes (f (get_or (y ∷ xs) j d)) (f (get_or (x ∷ y ∷ xs) n d))) (least_pair (neighbours (map f (drop n (x ∷ y ∷ xs))))) in
     subst P (sym e) (turn f (y ∷ xs) j d (omega arith))
 
 last_alone : {X : Type 0} (f : X → NameWithPosition) (xs : List X) (j : ℕ) → length xs ≤ j + 1 → least_pair (neighbours (map f (drop j xs))) ≡ None
@@ -350,16 +350,16 @@ pub lesser_pair-none : (a : Option Pair) → lesser_pair a None ≡ a
 lesser_pair-none None = refl
 lesser_pair-none (Some p) = refl
 
-pub next_pair : {X : Type 0} (f : X → NameWithPosition) (xs : List X) (j : ℕ) (d : X) (best : Option Pair) (o : Option Pair) → j + 1 < length xs → lesser_pair best (least_pair (neighbours (map f (drop j xs)))) ≡ o → lesser_pair (lesser_pair best (pair_if_same_name (f (get_or xs j d)) (f (get_or xs (j + 1) d)))) (least_pair (neighbours (map f (drop (j + 1) xs)))) ≡ o
-next_pair f xs j d best o h e = lesser_pair-assoc best (pair_if_same_name (f (get_or xs j d)) (f (get_or xs (j + 1) d))) _ ∙ (ap (lesser_pair best) (sym (turn f xs j d h)) ∙ e)
+pub next_pair : {X : Type 0} (f : X → NameWithPosition) (xs : List X) (j : ℕ) (d : X) (best : Option Pair) (o : Option Pair) → j + 1 < length xs → lesser_pair best (least_pair (neighbours (map f (drop j xs)))) ≡ o → lesser_pair (lesser_pair best (pair_if_same_name_and_first_precedes (f (get_or xs j d)) (f (get_or xs (j + 1) d)))) (least_pair (neighbours (map f (drop (j + 1) xs)))) ≡ o
+next_pair f xs j d best o h e = lesser_pair-assoc best (pair_if_same_name_and_first_precedes (f (get_or xs j d)) (f (get_or xs (j + 1) d))) _ ∙ (ap (lesser_pair best) (sym (turn f xs j d h)) ∙ e)
 
 pub no_next_pair : {X : Type 0} (f : X → NameWithPosition) (xs : List X) (j : ℕ) (best o : Option Pair) → length xs ≤ j + 1 → lesser_pair best (least_pair (neighbours (map f (drop j xs)))) ≡ o → best ≡ o
 no_next_pair f xs j best o h e = sym (lesser_pair-none best) ∙ (ap (lesser_pair best) (sym (last_alone f xs j h)) ∙ e)
 
 -- the same by the index of the later name
-pub step_pair : {X : Type 0} (f : X → NameWithPosition) (xs : List X) (i : ℕ) (d : X) (best next o p : Option Pair) → 1 ≤ i → i < length xs → p ≡ pair_if_same_name (f (get_or xs (i - 1) d)) (f (get_or xs i d)) → next ≡ lesser_pair best p → lesser_pair best (least_pair (neighbours (map f (drop (i - 1) xs)))) ≡ o → lesser_pair next (least_pair (neighbours (map f (drop (i + 1 - 1) xs)))) ≡ o
+pub step_pair : {X : Type 0} (f : X → NameWithPosition) (xs : List X) (i : ℕ) (d : X) (best next o p : Option Pair) → 1 ≤ i → i < length xs → p ≡ pair_if_same_name_and_first_precedes (f (get_or xs (i - 1) d)) (f (get_or xs i d)) → next ≡ lesser_pair best p → lesser_pair best (least_pair (neighbours (map f (drop (i - 1) xs)))) ≡ o → lesser_pair next (least_pair (neighbours (map f (drop (i + 1 - 1) xs)))) ≡ o
 step_pair f xs i d best next o p one lt e n h =
     let a : i + 1 - 1 ≡ i - 1 + 1 = omega arith in
     let b : i ≡ i - 1 + 1 = omega arith in
-    let same : p ≡ pair_if_same_name (f (get_or xs (i - 1) d)) (f (get_or xs (i - 1 + 1) d)) = e ∙ ap (λ k. pair_if_same_name (f (get_or xs (i - 1) d)) (f (get_or xs k d))) b in
+    let same : p ≡ pair_if_same_name_and_first_precedes (f (get_or xs (i - 1) d)) (f (get_or xs (i - 1 + 1) d)) = e ∙ ap (λ k. pair_if_same_name_and_first_precedes (f (get_or xs (i - 1) d)) (f (get_or xs k d))) b in
     (λ k. lesser_pair ((n ∙ ap (lesser_pair best) same) k) (least_pair (neighbours (map f (drop (a k) xs))))) ∙ next_pair f xs (i - 1) d best o (omega arith) h

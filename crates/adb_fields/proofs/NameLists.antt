@@ -7,7 +7,7 @@ use Rattle.adb_fields.specs.Pairs.{NameWithPosition}
 use Rattle.adb_fields.specs.Repeated.{list_of, numbered_from, names_all_at_position, names_with_list_positions, name_of, paths_of_folder_files, paths_of_package_files}
 use Rattle.adb_fields.specs.Paths.{path_of}
 use Rattle.std.specs.List.{flat_map}
-use Rattle.adb_fields.specs.NamedTexts.{plains_at, name_with_position}
+use Rattle.adb_fields.specs.NamedTexts.{plains_of_array_words, name_with_position}
 use Rattle.adb_view.specs.declared.tables.Kind.{Kind}
 use Rattle.adb_fields.proofs.FieldReads.{entry_value, entry_count}
 
@@ -20,10 +20,10 @@ pub count-listed : (vs : Plains) → count_of vs ≡ length (list_of vs)
 count-listed none = refl
 count-listed (more v vs) = ap suc (count-listed vs)
 
-pub plain_count : (p : List ℕ) (k : Kind) (ws : List ℕ) → are_all_sound p k ws ≡ true → length (plains_at p k ws) ≡ length ws
+pub plain_count : (p : List ℕ) (k : Kind) (ws : List ℕ) → are_all_sound p k ws ≡ true → length (plains_of_array_words p k ws) ≡ length ws
 plain_count p k ws h = sym (entry_count p k ws h ∙ count-listed (entries_in (array_at p k ws)))
 
-pub plain_is : (p : List ℕ) (k : Kind) (ws : List ℕ) (i : ℕ) → are_all_sound p k ws ≡ true → i < length ws → value_at p k (get_or ws i 0) ≡ get_or (plains_at p k ws) i null
+pub plain_is : (p : List ℕ) (k : Kind) (ws : List ℕ) (i : ℕ) → are_all_sound p k ws ≡ true → i < length ws → value_at p k (get_or ws i 0) ≡ get_or (plains_of_array_words p k ws) i null
 plain_is p k ws i h l = entry_value p k ws i h l ∙ nth-listed (entries_in (array_at p k ws)) i
 
 -- ---- names by position
@@ -56,16 +56,16 @@ pub no_more : (f : Plain → List ℕ) (values : List Plain) (i m : ℕ) (done a
 no_more f values i m done all h so = sym (append-nil done) ∙ (ap (λ rest. done ++ rest) (sym (no_names f values i m h)) ∙ so)
 
 -- the same by the words of an array
-pub one_word : (p : List ℕ) (kind : Kind) (f : Plain → List ℕ) (ws : List ℕ) (i m k w : ℕ) (x : List ℕ) (done next all : List NameWithPosition) → are_all_sound p kind ws ≡ true → i < length ws → w ≡ get_or ws i 0 → x ≡ f (value_at p kind w) → next ≡ done ++ (name_with_position x (m + 1) ∷ []) → k ≡ m + 1 → done ++ numbered_from (m + 1) (map f (drop i (plains_at p kind ws))) ≡ all → next ++ numbered_from (k + 1) (map f (drop (i + 1) (plains_at p kind ws))) ≡ all
+pub one_word : (p : List ℕ) (kind : Kind) (f : Plain → List ℕ) (ws : List ℕ) (i m k w : ℕ) (x : List ℕ) (done next all : List NameWithPosition) → are_all_sound p kind ws ≡ true → i < length ws → w ≡ get_or ws i 0 → x ≡ f (value_at p kind w) → next ≡ done ++ (name_with_position x (m + 1) ∷ []) → k ≡ m + 1 → done ++ numbered_from (m + 1) (map f (drop i (plains_of_array_words p kind ws))) ≡ all → next ++ numbered_from (k + 1) (map f (drop (i + 1) (plains_of_array_words p kind ws))) ≡ all
 one_word p kind f ws i m k w x done next all sound lt word e n l so =
-    let c : length (plains_at p kind ws) ≡ length ws = plain_count p kind ws sound in
-    let here : value_at p kind w ≡ get_or (plains_at p kind ws) i null = ap (value_at p kind) word ∙ plain_is p kind ws i sound lt in
-    one_more f (plains_at p kind ws) i m k x done next all (omega arith) (e ∙ ap f here) n l so
+    let c : length (plains_of_array_words p kind ws) ≡ length ws = plain_count p kind ws sound in
+    let here : value_at p kind w ≡ get_or (plains_of_array_words p kind ws) i null = ap (value_at p kind) word ∙ plain_is p kind ws i sound lt in
+    one_more f (plains_of_array_words p kind ws) i m k x done next all (omega arith) (e ∙ ap f here) n l so
 
-pub no_word : (p : List ℕ) (kind : Kind) (f : Plain → List ℕ) (ws : List ℕ) (i m : ℕ) (done all : List NameWithPosition) → are_all_sound p kind ws ≡ true → length ws ≤ i → done ++ numbered_from m (map f (drop i (plains_at p kind ws))) ≡ all → done ≡ all
+pub no_word : (p : List ℕ) (kind : Kind) (f : Plain → List ℕ) (ws : List ℕ) (i m : ℕ) (done all : List NameWithPosition) → are_all_sound p kind ws ≡ true → length ws ≤ i → done ++ numbered_from m (map f (drop i (plains_of_array_words p kind ws))) ≡ all → done ≡ all
 no_word p kind f ws i m done all sound past so =
-    let c : length (plains_at p kind ws) ≡ length ws = plain_count p kind ws sound in
-    no_more f (plains_at p kind ws) i m done all (omega arith) so
+    let c : length (plains_of_array_words p kind ws) ≡ length ws = plain_count p kind ws sound in
+    no_more f (plains_of_array_words p kind ws) i m done all (omega arith) so
 
 -- ---- names at one position
 
@@ -89,18 +89,18 @@ no_pieces piece (v ∷ vs) zero h = absurd (omega arith)
 no_pieces piece (v ∷ vs) (suc i) h = no_pieces piece vs i (omega arith)
 
 -- a step of a loop that adds the piece of each value
-pub one_piece : {X : Type 0} (p : List ℕ) (kind : Kind) (piece : Plain → List X) (ws : List ℕ) (i w : ℕ) (done next all : List X) → are_all_sound p kind ws ≡ true → i < length ws → w ≡ get_or ws i 0 → next ≡ done ++ piece (value_at p kind w) → done ++ flat_map piece (drop i (plains_at p kind ws)) ≡ all → next ++ flat_map piece (drop (i + 1) (plains_at p kind ws)) ≡ all
+pub one_piece : {X : Type 0} (p : List ℕ) (kind : Kind) (piece : Plain → List X) (ws : List ℕ) (i w : ℕ) (done next all : List X) → are_all_sound p kind ws ≡ true → i < length ws → w ≡ get_or ws i 0 → next ≡ done ++ piece (value_at p kind w) → done ++ flat_map piece (drop i (plains_of_array_words p kind ws)) ≡ all → next ++ flat_map piece (drop (i + 1) (plains_of_array_words p kind ws)) ≡ all
 one_piece p kind piece ws i w done next all sound lt word n so =
-    let c : length (plains_at p kind ws) ≡ length ws = plain_count p kind ws sound in
-    let here : value_at p kind w ≡ get_or (plains_at p kind ws) i null = ap (value_at p kind) word ∙ plain_is p kind ws i sound lt in
-    ap (λ front. front ++ flat_map piece (drop (i + 1) (plains_at p kind ws))) (n ∙ ap (λ v. done ++ piece v) here)
-    ∙ (append_assoc done (piece (get_or (plains_at p kind ws) i null)) (flat_map piece (drop (i + 1) (plains_at p kind ws)))
-    ∙ (ap (λ rest. done ++ rest) (sym (pieces piece (plains_at p kind ws) i (omega arith))) ∙ so))
+    let c : length (plains_of_array_words p kind ws) ≡ length ws = plain_count p kind ws sound in
+    let here : value_at p kind w ≡ get_or (plains_of_array_words p kind ws) i null = ap (value_at p kind) word ∙ plain_is p kind ws i sound lt in
+    ap (λ front. front ++ flat_map piece (drop (i + 1) (plains_of_array_words p kind ws))) (n ∙ ap (λ v. done ++ piece v) here)
+    ∙ (append_assoc done (piece (get_or (plains_of_array_words p kind ws) i null)) (flat_map piece (drop (i + 1) (plains_of_array_words p kind ws)))
+    ∙ (ap (λ rest. done ++ rest) (sym (pieces piece (plains_of_array_words p kind ws) i (omega arith))) ∙ so))
 
-pub no_piece : {X : Type 0} (p : List ℕ) (kind : Kind) (piece : Plain → List X) (ws : List ℕ) (i : ℕ) (done all : List X) → are_all_sound p kind ws ≡ true → length ws ≤ i → done ++ flat_map piece (drop i (plains_at p kind ws)) ≡ all → done ≡ all
+pub no_piece : {X : Type 0} (p : List ℕ) (kind : Kind) (piece : Plain → List X) (ws : List ℕ) (i : ℕ) (done all : List X) → are_all_sound p kind ws ≡ true → length ws ≤ i → done ++ flat_map piece (drop i (plains_of_array_words p kind ws)) ≡ all → done ≡ all
 no_piece p kind piece ws i done all sound past so =
-    let c : length (plains_at p kind ws) ≡ length ws = plain_count p kind ws sound in
-    sym (append-nil done) ∙ (ap (λ rest. done ++ rest) (sym (no_pieces piece (plains_at p kind ws) i (omega arith))) ∙ so)
+    let c : length (plains_of_array_words p kind ws) ≡ length ws = plain_count p kind ws sound in
+    sym (append-nil done) ∙ (ap (λ rest. done ++ rest) (sym (no_pieces piece (plains_of_array_words p kind ws) i (omega arith))) ∙ so)
 
 -- a list of single pieces is a map
 pub map_pieces : {X : Type 0} (f : Plain → X) (values : List Plain) → flat_map (λ v. f v ∷ []) values ≡ map f values
@@ -131,19 +131,19 @@ no_lists f [] (suc i) m h = refl
 no_lists f (v ∷ vs) zero m h = absurd (omega arith)
 no_lists f (v ∷ vs) (suc i) m h = no_lists f vs i m (omega arith)
 
-pub one_list : (p : List ℕ) (kind : Kind) (f : Plain → List (List ℕ)) (ws : List ℕ) (i w : ℕ) (done next all : List NameWithPosition) → are_all_sound p kind ws ≡ true → i < length ws → w ≡ get_or ws i 0 → next ≡ done ++ names_all_at_position (i + 1) (f (value_at p kind w)) → done ++ names_with_list_positions (i + 1) (map f (drop i (plains_at p kind ws))) ≡ all → next ++ names_with_list_positions (i + 1 + 1) (map f (drop (i + 1) (plains_at p kind ws))) ≡ all
+pub one_list : (p : List ℕ) (kind : Kind) (f : Plain → List (List ℕ)) (ws : List ℕ) (i w : ℕ) (done next all : List NameWithPosition) → are_all_sound p kind ws ≡ true → i < length ws → w ≡ get_or ws i 0 → next ≡ done ++ names_all_at_position (i + 1) (f (value_at p kind w)) → done ++ names_with_list_positions (i + 1) (map f (drop i (plains_of_array_words p kind ws))) ≡ all → next ++ names_with_list_positions (i + 1 + 1) (map f (drop (i + 1) (plains_of_array_words p kind ws))) ≡ all
 one_list p kind f ws i w done next all sound lt word n so =
-    let c : length (plains_at p kind ws) ≡ length ws = plain_count p kind ws sound in
-    let here : value_at p kind w ≡ get_or (plains_at p kind ws) i null = ap (value_at p kind) word ∙ plain_is p kind ws i sound lt in
-    let left : List NameWithPosition = names_with_list_positions (i + 1 + 1) (map f (drop (i + 1) (plains_at p kind ws))) in
+    let c : length (plains_of_array_words p kind ws) ≡ length ws = plain_count p kind ws sound in
+    let here : value_at p kind w ≡ get_or (plains_of_array_words p kind ws) i null = ap (value_at p kind) word ∙ plain_is p kind ws i sound lt in
+    let left : List NameWithPosition = names_with_list_positions (i + 1 + 1) (map f (drop (i + 1) (plains_of_array_words p kind ws))) in
     ap (λ front. front ++ left) (n ∙ ap (λ v. done ++ names_all_at_position (i + 1) (f v)) here)
-    ∙ (append_assoc done (names_all_at_position (i + 1) (f (get_or (plains_at p kind ws) i null))) left
-    ∙ (ap (λ rest. done ++ rest) (sym (more_lists f (plains_at p kind ws) i (i + 1) (omega arith))) ∙ so))
+    ∙ (append_assoc done (names_all_at_position (i + 1) (f (get_or (plains_of_array_words p kind ws) i null))) left
+    ∙ (ap (λ rest. done ++ rest) (sym (more_lists f (plains_of_array_words p kind ws) i (i + 1) (omega arith))) ∙ so))
 
-pub no_list : (p : List ℕ) (kind : Kind) (f : Plain → List (List ℕ)) (ws : List ℕ) (i m : ℕ) (done all : List NameWithPosition) → are_all_sound p kind ws ≡ true → length ws ≤ i → done ++ names_with_list_positions m (map f (drop i (plains_at p kind ws))) ≡ all → done ≡ all
+pub no_list : (p : List ℕ) (kind : Kind) (f : Plain → List (List ℕ)) (ws : List ℕ) (i m : ℕ) (done all : List NameWithPosition) → are_all_sound p kind ws ≡ true → length ws ≤ i → done ++ names_with_list_positions m (map f (drop i (plains_of_array_words p kind ws))) ≡ all → done ≡ all
 no_list p kind f ws i m done all sound past so =
-    let c : length (plains_at p kind ws) ≡ length ws = plain_count p kind ws sound in
-    sym (append-nil done) ∙ (ap (λ rest. done ++ rest) (sym (no_lists f (plains_at p kind ws) i m (omega arith))) ∙ so)
+    let c : length (plains_of_array_words p kind ws) ≡ length ws = plain_count p kind ws sound in
+    sym (append-nil done) ∙ (ap (λ rest. done ++ rest) (sym (no_lists f (plains_of_array_words p kind ws) i m (omega arith))) ∙ so)
 
 -- ---- the paths of a folder, and of a package
 

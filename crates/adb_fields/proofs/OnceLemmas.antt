@@ -11,7 +11,7 @@ use Rattle.adb_fields.specs.FirstPair.{IsLeastPairIfAny}
 use Rattle.adb_fields.specs.FirstPair.{IsPairOfEqualNames}
 use Rattle.adb_fields.specs.FirstPair.{IsIn}
 use Rattle.adb_view.specs.FieldIndexes.{DIR_NAME, FILE_NAME, IDB_PACKAGES, INTENT_WRITES}
-use Rattle.adb_fields.specs.Repeated.{field_number, numbered_from, names_all_at_position, names_with_list_positions, least_pair_of_repeated_name, repeated_pair_in_one_list, repeated_pair_in_two_lists, entries_at, repeated_folder_name_in_package, repeated_file_name_in_folder, repeated_package_name, pair_of_packages_listing_one_path, repeated_intent_name, repeated_cause, repeated_within_package_fault, repeated_between_packages_fault, repeated_fault}
+use Rattle.adb_fields.specs.Repeated.{field_place_in_causes, numbered_from, names_all_at_position, names_with_list_positions, least_pair_of_repeated_name, least_pair_of_repeated_name_in_one_list, least_pair_of_lists_sharing_a_name, entries_at, repeated_folder_in_one_of_packages, repeated_file_in_folder_of_packages, repeated_package_name, pair_of_packages_listing_one_path, repeated_intent_name, repeated_cause, fault_of_repeated_folder_or_file_name, fault_of_packages_sharing_name_or_path, repeated_fault}
 use Rattle.adb_fields.specs.Once.{AreDistinctNames, EachHasDistinctNames, IsInOneOf, ShareNoName, HaveNoRepeatInside, HaveNoRepeatBetween, HasNoRepeatedName}
 use Rattle.adb_fields.proofs.Members.{in-front, in-behind, in-either, in-map, from-map}
 use Rattle.adb_fields.proofs.FirstPair.{least_pair_of_equal_names-first}
@@ -117,14 +117,14 @@ none_earlier : (a b : Option Pair) → a ≡ None → b ≡ None → lesser_pair
 none_earlier None b e f = f
 none_earlier (Some p) b e f = absurd (cc)
 
-each_none : (lists : List (List (List ℕ))) → repeated_pair_in_one_list lists ≡ None → EachHasDistinctNames lists
+each_none : (lists : List (List (List ℕ))) → least_pair_of_repeated_name_in_one_list lists ≡ None → EachHasDistinctNames lists
 each_none [] e = tt
 each_none (names ∷ lists) e =
-    let (one, others) = earlier_none (least_pair_of_repeated_name names) (repeated_pair_in_one_list lists) e in (twice_none names one, each_none lists others)
+    let (one, others) = earlier_none (least_pair_of_repeated_name names) (least_pair_of_repeated_name_in_one_list lists) e in (twice_none names one, each_none lists others)
 
-none_each : (lists : List (List (List ℕ))) → EachHasDistinctNames lists → repeated_pair_in_one_list lists ≡ None
+none_each : (lists : List (List (List ℕ))) → EachHasDistinctNames lists → least_pair_of_repeated_name_in_one_list lists ≡ None
 none_each [] d = refl
-none_each (names ∷ lists) d = none_earlier (least_pair_of_repeated_name names) (repeated_pair_in_one_list lists) (none_twice names d.0) (none_each lists d.1)
+none_each (names ∷ lists) d = none_earlier (least_pair_of_repeated_name names) (least_pair_of_repeated_name_in_one_list lists) (none_twice names d.0) (none_each lists d.1)
 
 -- ---- between several lists
 
@@ -205,11 +205,11 @@ none_between n (names ∷ lists) d = λ q k.
     no_pair_between n names lists k.one k.other d.0 (none_between (n + 1) lists d.1)
     (in-either k.one (names_all_at_position n names) (names_with_list_positions (n + 1) lists) k.one_in) (in-either k.other (names_all_at_position n names) (names_with_list_positions (n + 1) lists) k.other_in) k.alike (omega arith)
 
-two_none : (lists : List (List (List ℕ))) → repeated_pair_in_two_lists lists ≡ None → ShareNoName lists
-two_none lists e = apart 1 lists (none_of (IsPairOfEqualNames (names_with_list_positions 1 lists)) (repeated_pair_in_two_lists lists) (least_pair_of_equal_names-first (names_with_list_positions 1 lists)) e)
+two_none : (lists : List (List (List ℕ))) → least_pair_of_lists_sharing_a_name lists ≡ None → ShareNoName lists
+two_none lists e = apart 1 lists (none_of (IsPairOfEqualNames (names_with_list_positions 1 lists)) (least_pair_of_lists_sharing_a_name lists) (least_pair_of_equal_names-first (names_with_list_positions 1 lists)) e)
 
-none_two : (lists : List (List (List ℕ))) → ShareNoName lists → repeated_pair_in_two_lists lists ≡ None
-none_two lists d = is_none_by (IsPairOfEqualNames (names_with_list_positions 1 lists)) (repeated_pair_in_two_lists lists) (least_pair_of_equal_names-first (names_with_list_positions 1 lists)) (none_between 1 lists d)
+none_two : (lists : List (List (List ℕ))) → ShareNoName lists → least_pair_of_lists_sharing_a_name lists ≡ None
+none_two lists d = is_none_by (IsPairOfEqualNames (names_with_list_positions 1 lists)) (least_pair_of_lists_sharing_a_name lists) (least_pair_of_equal_names-first (names_with_list_positions 1 lists)) (none_between 1 lists d)
 
 -- ---- kind by kind
 
@@ -221,26 +221,26 @@ none_at : (n : ℕ) (o : Option Pair) → o ≡ None → repeated_cause n o ≡ 
 none_at n None e = refl
 none_at n (Some p) e = absurd (cc)
 
-inside_once : (packages : List Plain) → repeated_within_package_fault packages ≡ None → HaveNoRepeatInside packages
+inside_once : (packages : List Plain) → fault_of_repeated_folder_or_file_name packages ≡ None → HaveNoRepeatInside packages
 inside_once packages e =
-    let (a, b) = both_none (repeated_cause (field_number Dir DIR_NAME) (repeated_folder_name_in_package packages)) (repeated_cause (field_number File FILE_NAME) (repeated_file_name_in_folder packages)) e in
-    record { folders = each_none _ (at_none (field_number Dir DIR_NAME) (repeated_folder_name_in_package packages) a); files = each_none _ (at_none (field_number File FILE_NAME) (repeated_file_name_in_folder packages) b) }
+    let (a, b) = both_none (repeated_cause (field_place_in_causes Dir DIR_NAME) (repeated_folder_in_one_of_packages packages)) (repeated_cause (field_place_in_causes File FILE_NAME) (repeated_file_in_folder_of_packages packages)) e in
+    record { folders = each_none _ (at_none (field_place_in_causes Dir DIR_NAME) (repeated_folder_in_one_of_packages packages) a); files = each_none _ (at_none (field_place_in_causes File FILE_NAME) (repeated_file_in_folder_of_packages packages) b) }
 
-once_inside : (packages : List Plain) → HaveNoRepeatInside packages → repeated_within_package_fault packages ≡ None
+once_inside : (packages : List Plain) → HaveNoRepeatInside packages → fault_of_repeated_folder_or_file_name packages ≡ None
 once_inside packages d =
-    none_both (repeated_cause (field_number Dir DIR_NAME) (repeated_folder_name_in_package packages)) (repeated_cause (field_number File FILE_NAME) (repeated_file_name_in_folder packages)) (none_at (field_number Dir DIR_NAME) (repeated_folder_name_in_package packages) (none_each _ d.folders)) (none_at (field_number File FILE_NAME) (repeated_file_name_in_folder packages) (none_each _ d.files))
+    none_both (repeated_cause (field_place_in_causes Dir DIR_NAME) (repeated_folder_in_one_of_packages packages)) (repeated_cause (field_place_in_causes File FILE_NAME) (repeated_file_in_folder_of_packages packages)) (none_at (field_place_in_causes Dir DIR_NAME) (repeated_folder_in_one_of_packages packages) (none_each _ d.folders)) (none_at (field_place_in_causes File FILE_NAME) (repeated_file_in_folder_of_packages packages) (none_each _ d.files))
 
-between_once : (packages : List Plain) → repeated_between_packages_fault packages ≡ None → HaveNoRepeatBetween packages
+between_once : (packages : List Plain) → fault_of_packages_sharing_name_or_path packages ≡ None → HaveNoRepeatBetween packages
 between_once packages e =
-    let (a, b) = both_none (repeated_cause (field_number Idb IDB_PACKAGES) (repeated_package_name packages)) (repeated_cause (field_number File FILE_NAME) (pair_of_packages_listing_one_path packages)) e in
-    record { packages_once = twice_none _ (at_none (field_number Idb IDB_PACKAGES) (repeated_package_name packages) a); paths_once = two_none _ (at_none (field_number File FILE_NAME) (pair_of_packages_listing_one_path packages) b) }
+    let (a, b) = both_none (repeated_cause (field_place_in_causes Idb IDB_PACKAGES) (repeated_package_name packages)) (repeated_cause (field_place_in_causes File FILE_NAME) (pair_of_packages_listing_one_path packages)) e in
+    record { packages_once = twice_none _ (at_none (field_place_in_causes Idb IDB_PACKAGES) (repeated_package_name packages) a); paths_once = two_none _ (at_none (field_place_in_causes File FILE_NAME) (pair_of_packages_listing_one_path packages) b) }
 
-once_between : (packages : List Plain) → HaveNoRepeatBetween packages → repeated_between_packages_fault packages ≡ None
+once_between : (packages : List Plain) → HaveNoRepeatBetween packages → fault_of_packages_sharing_name_or_path packages ≡ None
 once_between packages d =
-    none_both (repeated_cause (field_number Idb IDB_PACKAGES) (repeated_package_name packages)) (repeated_cause (field_number File FILE_NAME) (pair_of_packages_listing_one_path packages)) (none_at (field_number Idb IDB_PACKAGES) (repeated_package_name packages) (none_twice _ d.packages_once)) (none_at (field_number File FILE_NAME) (pair_of_packages_listing_one_path packages) (none_two _ d.paths_once))
+    none_both (repeated_cause (field_place_in_causes Idb IDB_PACKAGES) (repeated_package_name packages)) (repeated_cause (field_place_in_causes File FILE_NAME) (pair_of_packages_listing_one_path packages)) (none_at (field_place_in_causes Idb IDB_PACKAGES) (repeated_package_name packages) (none_twice _ d.packages_once)) (none_at (field_place_in_causes File FILE_NAME) (pair_of_packages_listing_one_path packages) (none_two _ d.paths_once))
 
-database_once : (packages : List Plain) → option_or (repeated_within_package_fault packages) (repeated_between_packages_fault packages) ≡ None → HaveNoRepeatInside packages × HaveNoRepeatBetween packages
-database_once packages e = let (a, b) = both_none (repeated_within_package_fault packages) (repeated_between_packages_fault packages) e in (inside_once packages a, between_once packages b)
+database_once : (packages : List Plain) → option_or (fault_of_repeated_folder_or_file_name packages) (fault_of_packages_sharing_name_or_path packages) ≡ None → HaveNoRepeatInside packages × HaveNoRepeatBetween packages
+database_once packages e = let (a, b) = both_none (fault_of_repeated_folder_or_file_name packages) (fault_of_packages_sharing_name_or_path packages) e in (inside_once packages a, between_once packages b)
 
 pub names_once : (which : Which) (v : Plain) → (repeated_fault which v ≡ None) ↔ HasNoRepeatedName which v
 unfolding repeated_fault
@@ -254,6 +254,6 @@ names_once Package v = (inside_once (v ∷ []), once_inside (v ∷ []))
 names_once Index v = (λ e. tt, λ d. refl)
 names_once Idb v = (
   database_once (entries_at 0 v),
-  λ d. none_both (repeated_within_package_fault (entries_at 0 v)) (repeated_between_packages_fault (entries_at 0 v)) (once_inside (entries_at 0 v) d.0) (once_between (entries_at 0 v) d.1),
+  λ d. none_both (fault_of_repeated_folder_or_file_name (entries_at 0 v)) (fault_of_packages_sharing_name_or_path (entries_at 0 v)) (once_inside (entries_at 0 v) d.0) (once_between (entries_at 0 v) d.1),
 )
-names_once Intent v = (λ e. twice_none _ (at_none (field_number Intent INTENT_WRITES) (repeated_intent_name v) e), λ d. none_at (field_number Intent INTENT_WRITES) (repeated_intent_name v) (none_twice _ d))
+names_once Intent v = (λ e. twice_none _ (at_none (field_place_in_causes Intent INTENT_WRITES) (repeated_intent_name v) e), λ d. none_at (field_place_in_causes Intent INTENT_WRITES) (repeated_intent_name v) (none_twice _ d))

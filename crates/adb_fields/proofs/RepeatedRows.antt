@@ -3,7 +3,7 @@ use Rattle.std.proofs.Common.{◌≡◌, ℕ, List, [], ◌∷◌, Option, Some,
 use Rattle.base_core.specs.declared.cause.Cause.TheVariants.{Repeated}
 use Rattle.adb_view.specs.Plain.{Plain, null, blob, arr, obj, none, more}
 use Rattle.adb_fields.specs.Pairs.{least_pair_of_equal_names}
-use Rattle.adb_fields.specs.Repeated.{least_pair_of_repeated_name, repeated_pair_in_one_list, repeated_pair_in_two_lists, repeated_fault}
+use Rattle.adb_fields.specs.Repeated.{least_pair_of_repeated_name, least_pair_of_repeated_name_in_one_list, least_pair_of_lists_sharing_a_name, repeated_fault}
 use Rattle.adb_fields.specs.declared.pairs.Pair.{Pair}
 use Rattle.adb_view.specs.declared.tables.Which.TheVariants.{Package, Index, Idb, Intent}
 
@@ -34,21 +34,21 @@ unfolding least_pair_of_equal_names
 empty_names = refl
 
 -- over all lists, and not the first list that has one
-in_the_second_list : repeated_pair_in_one_list ((codes "a" ∷ codes "b" ∷ codes "a" ∷ []) ∷ (codes "c" ∷ codes "c" ∷ []) ∷ []) ≡ pair 1 2
+in_the_second_list : least_pair_of_repeated_name_in_one_list ((codes "a" ∷ codes "b" ∷ codes "a" ∷ []) ∷ (codes "c" ∷ codes "c" ∷ []) ∷ []) ≡ pair 1 2
 unfolding least_pair_of_equal_names
 in_the_second_list = refl
 
-in_different_lists : repeated_pair_in_one_list ((codes "a" ∷ []) ∷ (codes "a" ∷ []) ∷ []) ≡ None
+in_different_lists : least_pair_of_repeated_name_in_one_list ((codes "a" ∷ []) ∷ (codes "a" ∷ []) ∷ []) ≡ None
 unfolding least_pair_of_equal_names
 in_different_lists = refl
 
 -- twice in one list is not in two
-in_one_list : repeated_pair_in_two_lists ((codes "a" ∷ codes "a" ∷ []) ∷ (codes "b" ∷ []) ∷ []) ≡ None
+in_one_list : least_pair_of_lists_sharing_a_name ((codes "a" ∷ codes "a" ∷ []) ∷ (codes "b" ∷ []) ∷ []) ≡ None
 unfolding least_pair_of_equal_names
 in_one_list = refl
 
 -- two pairs end at one list: the one that begins first
-least_first : repeated_pair_in_two_lists ((codes "a" ∷ []) ∷ (codes "b" ∷ []) ∷ (codes "b" ∷ codes "a" ∷ []) ∷ []) ≡ pair 1 3
+least_first : least_pair_of_lists_sharing_a_name ((codes "a" ∷ []) ∷ (codes "b" ∷ []) ∷ (codes "b" ∷ codes "a" ∷ []) ∷ []) ≡ pair 1 3
 unfolding least_pair_of_equal_names
 least_first = refl
 

@@ -6,7 +6,7 @@ use Rattle.adb_fields.specs.JoinedPath.{joined_path}
 use Rattle.std.specs.Ordering.{nat_cmp, ordering_then}
 use Rattle.std.specs.declared.cmp.Ordering.{Ordering}
 use Rattle.std.specs.Cmp.Lexicographic.{slice_cmp}
-use Rattle.adb_fields.specs.Pairs.{NameWithPosition, pair_if_same_name}
+use Rattle.adb_fields.specs.Pairs.{NameWithPosition, pair_if_same_name_and_first_precedes}
 use Rattle.adb_fields.specs.declared.pairs.Pair.{Pair}
 use Rattle.adb_view.specs.Plain.{Plain}
 use Rattle.adb_view.specs.Values.{entries_in}
@@ -27,7 +27,7 @@ name_with_position_cmp x y = ordering_then (slice_cmp nat_cmp x.name y.name) (na
 -- are equal, otherwise None
 abbrev pub neighbours_from : NameWithPosition → List NameWithPosition → List (Option Pair)
 neighbours_from x [] = []
-neighbours_from x (y ∷ ys) = pair_if_same_name x y ∷ neighbours_from y ys
+neighbours_from x (y ∷ ys) = pair_if_same_name_and_first_precedes x y ∷ neighbours_from y ys
 
 -- for each name of a list but the last: the pair of positions of this name and the next one, if the two names are
 -- equal, otherwise None
@@ -41,5 +41,5 @@ name_with_position name position = record { name = name; position = position }
 
 -- the plain values of the entries of an array in the payload `p`: `words` are its words, and `k` is the kind of each
 -- entry
-abbrev pub plains_at : List ℕ → Kind → List ℕ → List Plain
-plains_at p k words = list_of (entries_in (array_at p k words))
+abbrev pub plains_of_array_words : List ℕ → Kind → List ℕ → List Plain
+plains_of_array_words p k words = list_of (entries_in (array_at p k words))

@@ -28,10 +28,11 @@ least_pair [] = None
 least_pair (p ∷ ps) = lesser_pair p (least_pair ps)
 
 -- the pair of the positions of x and y, if they have the same name and the position of x is smaller
-abbrev pub pair_if_same_name : NameWithPosition → NameWithPosition → Option Pair
-pair_if_same_name x y = if bytes_eq x.name y.name && nat_lt x.position y.position
+abbrev pub pair_if_same_name_and_first_precedes : NameWithPosition → NameWithPosition → Option Pair
+pair_if_same_name_and_first_precedes x y = if bytes_eq x.name y.name && nat_lt x.position y.position
     then Some (record { first = x.position; second = y.position }) else None
 
 -- of all pairs of positions with the same name the one that is reported; None if there is no such pair
 unfoldable pub least_pair_of_equal_names : List NameWithPosition → Option Pair
-least_pair_of_equal_names names = least_pair (flat_map (λ x. map (pair_if_same_name x) names) names)
+least_pair_of_equal_names names =
+    least_pair (flat_map (λ x. map (pair_if_same_name_and_first_precedes x) names) names)

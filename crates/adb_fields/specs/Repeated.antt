@@ -28,8 +28,8 @@ least_pair_of_repeated_name names = least_pair_of_equal_names (numbered_from 1 n
 
 -- of all pairs of positions at which one of several lists has the same name, the one that is reported; None if in each
 -- list each name occurs once
-abbrev pub repeated_pair_in_one_list : List (List (List ℕ)) → Option Pair
-repeated_pair_in_one_list lists = least_pair (map least_pair_of_repeated_name lists)
+abbrev pub least_pair_of_repeated_name_in_one_list : List (List (List ℕ)) → Option Pair
+least_pair_of_repeated_name_in_one_list lists = least_pair (map least_pair_of_repeated_name lists)
 
 -- these names, all of them at position n
 abbrev pub names_all_at_position : ℕ → List (List ℕ) → List NameWithPosition
@@ -42,8 +42,8 @@ names_with_list_positions n (names ∷ lists) =
     names_all_at_position n names ++ names_with_list_positions (n + 1) lists
 
 -- of all pairs of positions of two lists that share a name, the one that is reported; None if no two lists share one
-abbrev pub repeated_pair_in_two_lists : List (List (List ℕ)) → Option Pair
-repeated_pair_in_two_lists lists = least_pair_of_equal_names (names_with_list_positions 1 lists)
+abbrev pub least_pair_of_lists_sharing_a_name : List (List (List ℕ)) → Option Pair
+least_pair_of_lists_sharing_a_name lists = least_pair_of_equal_names (names_with_list_positions 1 lists)
 
 -- ---- the names of a container
 
@@ -88,14 +88,14 @@ paths_of_package_files pkg = flat_map paths_of_folder_files (folders_in pkg)
 
 -- the pair of positions in the field *paths* of one of these packages, at which the package lists the same folder; of
 -- all such pairs the one that is reported
-abbrev pub repeated_folder_name_in_package : List Plain → Option Pair
-repeated_folder_name_in_package packages =
-    repeated_pair_in_one_list (map (λ pkg. map name_of (folders_in pkg)) packages)
+abbrev pub repeated_folder_in_one_of_packages : List Plain → Option Pair
+repeated_folder_in_one_of_packages packages =
+    least_pair_of_repeated_name_in_one_list (map (λ pkg. map name_of (folders_in pkg)) packages)
 
 -- the pair of positions in the field *files* of a folder of one of these packages, at which the folder lists the same
 -- file; of all such pairs the one that is reported
-abbrev pub repeated_file_name_in_folder : List Plain → Option Pair
-repeated_file_name_in_folder packages = repeated_pair_in_one_list
+abbrev pub repeated_file_in_folder_of_packages : List Plain → Option Pair
+repeated_file_in_folder_of_packages packages = least_pair_of_repeated_name_in_one_list
     (flat_map (λ pkg. map (λ folder. map name_of (files_in folder)) (folders_in pkg)) packages)
 
 -- the pair of positions of two packages of a database that have the same name; of all such pairs the one that is
@@ -106,7 +106,7 @@ repeated_package_name packages = least_pair_of_repeated_name (map package_name p
 -- the pair of positions of two packages that list the same path; of all such pairs the one that is reported
 abbrev pub pair_of_packages_listing_one_path : List Plain → Option Pair
 pair_of_packages_listing_one_path packages =
-    repeated_pair_in_two_lists (map paths_of_package_files packages)
+    least_pair_of_lists_sharing_a_name (map paths_of_package_files packages)
 
 -- the pair of positions at which the list of a journal entry's removals, followed by its writes, has the same name; of
 -- all such pairs the one that is reported
@@ -117,8 +117,8 @@ repeated_intent_name intent = least_pair_of_repeated_name
 -- ---- the fault of a container
 
 -- the number by which causes name the field of the table `which` with this index, which counts from 0
-abbrev pub field_number : Which → ℕ → ℕ
-field_number which index = 100 * table_number which + (index + 1)
+abbrev pub field_place_in_causes : Which → ℕ → ℕ
+field_place_in_causes which index = 100 * table_number which + (index + 1)
 
 -- the cause that reports a pair of positions, if there is one; `number` is the number in causes of the field whose
 -- texts must not repeat
@@ -127,22 +127,24 @@ repeated_cause number pair = option_map (λ p. Repeated number p.first p.second)
 
 -- the cause if one of these packages lists a folder twice, or else if one of its folders lists a file
 -- twice
-abbrev pub repeated_within_package_fault : List Plain → Option Cause
-repeated_within_package_fault packages =
-    option_or (repeated_cause (field_number Dir DIR_NAME) (repeated_folder_name_in_package packages))
-    (repeated_cause (field_number File FILE_NAME) (repeated_file_name_in_folder packages))
+abbrev pub fault_of_repeated_folder_or_file_name : List Plain → Option Cause
+fault_of_repeated_folder_or_file_name packages =
+    option_or (repeated_cause (field_place_in_causes Dir DIR_NAME)
+    (repeated_folder_in_one_of_packages packages))
+    (repeated_cause (field_place_in_causes File FILE_NAME) (repeated_file_in_folder_of_packages packages))
 
 -- the cause if two of these packages have the same name, or else if two list the same path
-abbrev pub repeated_between_packages_fault : List Plain → Option Cause
-repeated_between_packages_fault packages =
-    option_or (repeated_cause (field_number Idb IDB_PACKAGES) (repeated_package_name packages))
-    (repeated_cause (field_number File FILE_NAME) (pair_of_packages_listing_one_path packages))
+abbrev pub fault_of_packages_sharing_name_or_path : List Plain → Option Cause
+fault_of_packages_sharing_name_or_path packages =
+    option_or (repeated_cause (field_place_in_causes Idb IDB_PACKAGES) (repeated_package_name packages))
+    (repeated_cause (field_place_in_causes File FILE_NAME) (pair_of_packages_listing_one_path packages))
 
 -- the cause that reports a repeated name in the value of a container, whose root has the table `which`. The kinds of
 -- names are searched in this order, and the first kind with a repeated name is reported
 unfoldable pub repeated_fault : Which → Plain → Option Cause
-repeated_fault Package v = repeated_within_package_fault (v ∷ [])
-repeated_fault Idb v = option_or (repeated_within_package_fault (entries_at IDB_PACKAGES v))
-    (repeated_between_packages_fault (entries_at IDB_PACKAGES v))
-repeated_fault Intent v = repeated_cause (field_number Intent INTENT_WRITES) (repeated_intent_name v)
+repeated_fault Package v = fault_of_repeated_folder_or_file_name (v ∷ [])
+repeated_fault Idb v = option_or (fault_of_repeated_folder_or_file_name (entries_at IDB_PACKAGES v))
+    (fault_of_packages_sharing_name_or_path (entries_at IDB_PACKAGES v))
+repeated_fault Intent v =
+    repeated_cause (field_place_in_causes Intent INTENT_WRITES) (repeated_intent_name v)
 repeated_fault which v = None

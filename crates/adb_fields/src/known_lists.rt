@@ -9,7 +9,7 @@ ghost use Rattle.adb_view.specs.Entries.{array_entries};
 ghost use Rattle.adb_view.specs.Values.{is_sound, kind_at};
 ghost use Rattle.adb_fields.specs.Fields.{are_all_sound};
 ghost use Rattle.adb_fields.specs.KnownLists.{AreFirstRepeatsOfWords, repeated_name_pair_at};
-ghost use Rattle.adb_fields.specs.NamedTexts.{plains_at};
+ghost use Rattle.adb_fields.specs.NamedTexts.{plains_of_array_words};
 ghost use Rattle.adb_fields.specs.Repeated.{NAME_INDEX, least_pair_of_repeated_name, name_of};
 ghost use Rattle.adb_view.specs.declared.tables.Kind.TheVariants as Kinds;
 
@@ -112,7 +112,7 @@ fn name_twice_in_list(
     requires kind { kind_at which NAME_INDEX ≡ Some Kinds.Text }
     // On Ok, the pair, or None, is that of the definition.
     ensures { IfOk result (λ pair. pair
-        ≡ least_pair_of_repeated_name (map name_of (plains_at (payload_of adb.entry)
+        ≡ least_pair_of_repeated_name (map name_of (plains_of_array_words (payload_of adb.entry)
         (Kinds.Obj which)
         (array_entries objects.entry)))) }
 {

@@ -10,7 +10,7 @@ ghost use Rattle.adb_view.specs.Values.{is_sound, value_at, kind_at, text_in};
 ghost use Rattle.adb_fields.specs.Fields.{are_all_sound};
 ghost use Rattle.adb_fields.specs.Repeated.{NAME_INDEX, numbered_from, names_all_at_position, name_of, package_name, paths_of_package_files, paths_of_folder_files, names_with_list_positions};
 ghost use Rattle.adb_fields.specs.Paths.{path_of};
-ghost use Rattle.adb_fields.specs.NamedTexts.{joined_name_with_position, plains_at, name_with_position};
+ghost use Rattle.adb_fields.specs.NamedTexts.{joined_name_with_position, plains_of_array_words, name_with_position};
 ghost use Rattle.adb_view.specs.declared.tables.Kind.TheVariants as Kinds;
 ghost use Rattle.adb_view.specs.declared.tables.Which.TheVariants as Tables;
 
@@ -60,7 +60,7 @@ pub(crate) fn object_names<'a>(
     // On Ok, these are the names, with positions from 1 on.
     ensures { IfOk result (λ names. map joined_name_with_position names.items
         ≡ numbered_from 1
-        (map name_of (plains_at (payload_of adb.entry) (Kinds.Obj which)
+        (map name_of (plains_of_array_words (payload_of adb.entry) (Kinds.Obj which)
         (array_entries objects.entry)))) }
 {
     let mut names = Vec::new(alloc);
@@ -86,7 +86,7 @@ pub(crate) fn package_names<'a>(
     // On Ok, these are the names, with positions from 1 on.
     ensures { IfOk result (λ names. map joined_name_with_position names.items
         ≡ numbered_from 1
-        (map package_name (plains_at (payload_of adb.entry) (Kinds.Obj Tables.Package)
+        (map package_name (plains_of_array_words (payload_of adb.entry) (Kinds.Obj Tables.Package)
         (array_entries packages.entry)))) }
 {
     let mut names = Vec::new(alloc);
@@ -124,7 +124,8 @@ pub(crate) fn add_texts<'a>(
     ensures added { IfOk result (λ _. map joined_name_with_position names.new.items
         ≡ map joined_name_with_position names.old.items
         ++ numbered_from (vec_len names.old + 1)
-        (map text_in (plains_at (payload_of adb.entry) Kinds.Text (array_entries texts.entry)))) }
+        (map text_in (plains_of_array_words (payload_of adb.entry) Kinds.Text
+        (array_entries texts.entry)))) }
     // On Ok, there are as many more names as there are texts.
     ensures len { IfOk result (λ _. vec_len names.new
         ≡ vec_len names.old + length (array_entries texts.entry)) }
@@ -213,7 +214,8 @@ pub(crate) fn all_paths<'a>(
     // On Ok, these are the paths, each with the position of its package.
     ensures { IfOk result (λ paths. map joined_name_with_position paths.items
         ≡ names_with_list_positions 1
-        (map paths_of_package_files (plains_at (payload_of adb.entry) (Kinds.Obj Tables.Package)
+        (map paths_of_package_files (plains_of_array_words (payload_of adb.entry)
+        (Kinds.Obj Tables.Package)
         (array_entries packages.entry)))) }
 {
     let mut paths = Vec::new(alloc);

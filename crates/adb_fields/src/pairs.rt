@@ -5,12 +5,12 @@
 ghost use Rattle.std.specs.Prelude.{◌≡◌, ◌<◌, ◌^◌, ◌+◌, ◌≤◌, length, map, take, drop, slice_get, IfSome, ℕ, List};
 ghost use Rattle.std.specs.Cmp.Lexicographic.{slice_cmp};
 ghost use Rattle.std.specs.Ordering.{nat_cmp};
-ghost use Rattle.adb_fields.specs.Pairs.{least_pair_of_equal_names, pair_if_same_name, lesser_pair, least_pair, is_lesser_pair};
+ghost use Rattle.adb_fields.specs.Pairs.{least_pair_of_equal_names, pair_if_same_name_and_first_precedes, lesser_pair, least_pair, is_lesser_pair};
 ghost use Rattle.adb_fields.specs.FirstPair.{IsLeastPairIfAny};
 ghost use Rattle.adb_fields.specs.FirstPair.{IsPairOfEqualNames};
 ghost use Rattle.adb_fields.specs.NamedTexts.{joined_name_with_position, name_with_position_cmp, neighbours};
-ghost use Rattle.adb_fields.specs.Repeated.{names_with_list_positions, repeated_pair_in_two_lists, least_pair_of_repeated_name, numbered_from, repeated_pair_in_one_list};
-ghost use Rattle.adb_fields.specs.FirstPair.{IsRepeatedPairInOneList};
+ghost use Rattle.adb_fields.specs.Repeated.{names_with_list_positions, least_pair_of_lists_sharing_a_name, least_pair_of_repeated_name, numbered_from, least_pair_of_repeated_name_in_one_list};
+ghost use Rattle.adb_fields.specs.FirstPair.{IsPairOfRepeatedNameInOneList};
 
 use crate::file_path::FilePath;
 use std::cmp::Ordering;
@@ -78,16 +78,22 @@ fn first_of_neighbours(entries: &[PathWithPosition<'_>]) -> Option<Pair>
 {
     let mut first = None;
     for i in 1..entries.len() {
-        first = lesser_pair(first, pair_if_same_name(&entries[i - 1], &entries[i]));
+        first = lesser_pair(
+            first,
+            pair_if_same_name_and_first_precedes(&entries[i - 1], &entries[i]),
+        );
     }
     first
 }
 
 /// The positions of two entries, if their names are equal and the position of `one` is smaller.
 #[tactic(auto, using(crate::proofs::Compared::same_names))]
-fn pair_if_same_name(one: &PathWithPosition<'_>, other: &PathWithPosition<'_>) -> Option<Pair>
+fn pair_if_same_name_and_first_precedes(
+    one: &PathWithPosition<'_>,
+    other: &PathWithPosition<'_>,
+) -> Option<Pair>
     // The pair, or None, is that of the definition.
-    ensures { result ≡ pair_if_same_name (joined_name_with_position one.now)
+    ensures { result ≡ pair_if_same_name_and_first_precedes (joined_name_with_position one.now)
         (joined_name_with_position other.now) }
 {
     if !one.path.compare(&other.path).is_eq() {
@@ -125,7 +131,8 @@ pub fn the_first_pair_of_a_list_is_reported()
 /// the same name is reported. A name that two lists have does not count.
 pub fn the_first_pair_in_one_of_several_lists_is_reported()
     ensures { (lists : List (List (List ℕ)))
-        → IsLeastPairIfAny (IsRepeatedPairInOneList lists) (repeated_pair_in_one_list lists) }
+        → IsLeastPairIfAny (IsPairOfRepeatedNameInOneList lists)
+        (least_pair_of_repeated_name_in_one_list lists) }
 {}
 
 /// A law: if several lists share names, the positions of two lists that share one are reported: of
@@ -134,5 +141,5 @@ pub fn the_first_pair_in_one_of_several_lists_is_reported()
 pub fn the_first_pair_of_two_lists_is_reported()
     ensures { (lists : List (List (List ℕ)))
         → IsLeastPairIfAny (IsPairOfEqualNames (names_with_list_positions 1 lists))
-        (repeated_pair_in_two_lists lists) }
+        (least_pair_of_lists_sharing_a_name lists) }
 {}

@@ -11,11 +11,11 @@ ghost use Rattle.adb_fields.specs.Fields.{are_all_sound};
 ghost use Rattle.adb_fields.specs.ListsOf.{AreRememberedListsOf};
 ghost use Rattle.adb_view.specs.ShapedPayload.{shaped_value, table_of};
 ghost use Rattle.adb_view.specs.FieldIndexes.{INTENT_REMOVALS, INTENT_WRITES};
-ghost use Rattle.adb_fields.specs.Repeated.{repeated_between_packages_fault, field_number, repeated_file_name_in_folder, files_in, least_pair_of_repeated_name, repeated_folder_name_in_package, folders_in, repeated_within_package_fault, name_of, repeated_intent_name, repeated_package_name, pair_of_packages_listing_one_path, repeated_cause, repeated_fault, repeated_pair_in_one_list};
+ghost use Rattle.adb_fields.specs.Repeated.{fault_of_packages_sharing_name_or_path, field_place_in_causes, repeated_file_in_folder_of_packages, files_in, least_pair_of_repeated_name, repeated_folder_in_one_of_packages, folders_in, fault_of_repeated_folder_or_file_name, name_of, repeated_intent_name, repeated_package_name, pair_of_packages_listing_one_path, repeated_cause, repeated_fault, least_pair_of_repeated_name_in_one_list};
 ghost use Rattle.adb_fields.specs.Once.{HasNoRepeatedName};
 ghost use Rattle.adb_view.specs.Plain.{Plain};
 ghost use Rattle.adb_view.specs.declared.tables.Which.{Which};
-ghost use Rattle.adb_fields.specs.NamedTexts.{plains_at};
+ghost use Rattle.adb_fields.specs.NamedTexts.{plains_of_array_words};
 ghost use Rattle.adb_view.specs.declared.tables.Kind.TheVariants as Kinds;
 ghost use Rattle.adb_view.specs.declared.tables.Which.TheVariants as Tables;
 
@@ -102,7 +102,7 @@ fn in_package(alloc: Global, adb: Adb<'_>, pkg: Val) -> Result<Option<Cause>, Al
     requires { is_sound (payload_of adb) (Kinds.Obj Tables.Package) pkg ≡ true }
     // On Ok, the cause, or None, is that of the definition.
     ensures { IfOk result (λ cause. cause
-        ≡ repeated_within_package_fault (value_at (payload_of adb.entry)
+        ≡ fault_of_repeated_folder_or_file_name (value_at (payload_of adb.entry)
         (Kinds.Obj Tables.Package) pkg ∷ [])) }
 {
     let mut folders = KnownLists::new(alloc, adb, Which::Dir);
@@ -127,9 +127,10 @@ fn in_database(alloc: Global, adb: Adb<'_>, packages: Arr<'_>) -> Result<Option<
     // On Ok, the cause, or None, is that of the definition.
     ensures { IfOk result (λ cause. cause
         ≡ option_or
-        (repeated_within_package_fault (plains_at (payload_of adb.entry) (Kinds.Obj Tables.Package)
+        (fault_of_repeated_folder_or_file_name (plains_of_array_words (payload_of adb.entry)
+        (Kinds.Obj Tables.Package)
         (array_entries packages.entry)))
-        (repeated_between_packages_fault (plains_at (payload_of adb.entry)
+        (fault_of_packages_sharing_name_or_path (plains_of_array_words (payload_of adb.entry)
         (Kinds.Obj Tables.Package)
         (array_entries packages.entry)))) }
 {
@@ -151,17 +152,18 @@ fn inside_packages(
         ≡ true }
     // On Ok, the cause, or None, is that of the definition.
     ensures { IfOk result (λ cause. cause
-        ≡ repeated_within_package_fault (plains_at (payload_of adb.entry) (Kinds.Obj Tables.Package)
+        ≡ fault_of_repeated_folder_or_file_name (plains_of_array_words (payload_of adb.entry)
+        (Kinds.Obj Tables.Package)
         (array_entries packages.entry))) }
 {
     match repeated_cause(
         field_numbers::DIR_NAME,
-        repeated_folder_name_in_package(alloc, adb, packages)?,
+        repeated_folder_in_one_of_packages(alloc, adb, packages)?,
     ) {
         Some(cause) => Ok(Some(cause)),
         None => Ok(repeated_cause(
             field_numbers::FILE_NAME,
-            repeated_file_name_in_folder(alloc, adb, packages)?,
+            repeated_file_in_folder_of_packages(alloc, adb, packages)?,
         )),
     }
 }
@@ -177,7 +179,7 @@ fn between_packages(
         ≡ true }
     // On Ok, the cause, or None, is that of the definition.
     ensures { IfOk result (λ cause. cause
-        ≡ repeated_between_packages_fault (plains_at (payload_of adb.entry)
+        ≡ fault_of_packages_sharing_name_or_path (plains_of_array_words (payload_of adb.entry)
         (Kinds.Obj Tables.Package)
         (array_entries packages.entry))) }
 {
@@ -210,7 +212,7 @@ fn in_intent(alloc: Global, adb: Adb<'_>, intent: Val) -> Result<Option<Cause>, 
         < 2 ^ 32 }
     // On Ok, the cause, or None, is that of the definition.
     ensures { IfOk result (λ cause. cause
-        ≡ repeated_cause (field_number Tables.Intent INTENT_WRITES)
+        ≡ repeated_cause (field_place_in_causes Tables.Intent INTENT_WRITES)
         (repeated_intent_name (value_at (payload_of adb.entry) (Kinds.Obj Tables.Intent) intent))) }
 {
     let removals = texts_field(adb, Which::Intent, intent, INTENT_REMOVALS);
@@ -262,7 +264,7 @@ fn file_twice_in_package(
     // On Ok, the result is the first pair of positions of files with one name in one folder, if
     // there is one.
     ensures pair { IfOk result (λ pair. pair
-        ≡ repeated_pair_in_one_list (map (λ folder. map name_of (files_in folder))
+        ≡ least_pair_of_repeated_name_in_one_list (map (λ folder. map name_of (files_in folder))
         (folders_in (value_at (payload_of adb.entry) (Kinds.Obj Tables.Package) pkg)))) }
     // `lists` still remembers lists of objects of this table, in this payload.
     ensures lists { AreRememberedListsOf adb.entry Tables.File lists.new }
@@ -302,7 +304,7 @@ fn file_twice_in_folder(
 /// The first pair of positions at which one of the packages lists the same folder twice; None if
 /// there is none.
 #[tactic(auto, using(crate::proofs::FieldReads::entry_sound))]
-fn repeated_folder_name_in_package(
+fn repeated_folder_in_one_of_packages(
     alloc: Global,
     adb: Adb<'_>,
     packages: Arr<'_>,
@@ -312,7 +314,7 @@ fn repeated_folder_name_in_package(
         ≡ true }
     // On Ok, the pair, or None, is that of the definition.
     ensures { IfOk result (λ pair. pair
-        ≡ repeated_folder_name_in_package (plains_at (payload_of adb.entry)
+        ≡ repeated_folder_in_one_of_packages (plains_of_array_words (payload_of adb.entry)
         (Kinds.Obj Tables.Package)
         (array_entries packages.entry))) }
 {
@@ -329,7 +331,7 @@ fn repeated_folder_name_in_package(
 /// The first pair of positions at which a folder of one of the packages lists the same file twice;
 /// None if there is none.
 #[tactic(auto, using(crate::proofs::FieldReads::entry_sound))]
-fn repeated_file_name_in_folder(
+fn repeated_file_in_folder_of_packages(
     alloc: Global,
     adb: Adb<'_>,
     packages: Arr<'_>,
@@ -339,7 +341,8 @@ fn repeated_file_name_in_folder(
         ≡ true }
     // On Ok, the pair, or None, is that of the definition.
     ensures { IfOk result (λ pair. pair
-        ≡ repeated_file_name_in_folder (plains_at (payload_of adb.entry) (Kinds.Obj Tables.Package)
+        ≡ repeated_file_in_folder_of_packages (plains_of_array_words (payload_of adb.entry)
+        (Kinds.Obj Tables.Package)
         (array_entries packages.entry))) }
 {
     let mut lists = KnownLists::new(alloc, adb, Which::File);

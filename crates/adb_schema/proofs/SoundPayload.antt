@@ -13,7 +13,7 @@ use Rattle.adb_view.specs.declared.tables.Kind.TheVariants as Kinds
 use Rattle.adb_fields.specs.Repeated.{repeated_fault}
 use Rattle.adb_schema.specs.SoundValues.{ObeysFieldRulesOfTable}
 use Rattle.adb_schema.specs.Texts.{text_or_number_fault}
-use Rattle.adb_schema.specs.Soundness.{payload_fault, container_fault_except_contents, payload_in, root_value}
+use Rattle.adb_schema.specs.Soundness.{payload_fault, container_fault_except_contents, payload_in, root_value_of_payload}
 use Rattle.adb_schema.proofs.Sound.{sound_payload}
 
 -- what a law of `adb_view` says
@@ -38,14 +38,14 @@ payload_sound visited which p h =
 abbrev pub Kept : Type 0
 Kept = (which : Which) (v : Plain) → (text_or_number_fault which v ≡ None) ↔ ObeysFieldRulesOfTable which v
 
-pub payload_texts : (which : Which) (p : List ℕ) → payload_fault which p ≡ None → text_or_number_fault which (root_value which p) ≡ None
+pub payload_texts : (which : Which) (p : List ℕ) → payload_fault which p ≡ None → text_or_number_fault which (root_value_of_payload which p) ≡ None
 payload_texts which p h =
-    first_none (text_or_number_fault which (root_value which p)) (repeated_fault which (root_value which p))
+    first_none (text_or_number_fault which (root_value_of_payload which p)) (repeated_fault which (root_value_of_payload which p))
     (second_none (shape_fault p (shape_of (Kinds.Obj which)) (root_word_of_payload p)) _ (second_none (payload_head_fault p) _ h))
 
-pub payload_rules : Kept → (which : Which) (p : List ℕ) → payload_fault which p ≡ None → ObeysFieldRulesOfTable which (root_value which p)
+pub payload_rules : Kept → (which : Which) (p : List ℕ) → payload_fault which p ≡ None → ObeysFieldRulesOfTable which (root_value_of_payload which p)
 payload_rules kept which p h =
-    (kept which (root_value which p)).0 (payload_texts which p h)
+    (kept which (root_value_of_payload which p)).0 (payload_texts which p h)
 
 pub file_head : (which : Which) (file : List ℕ) → container_fault_except_contents which file ≡ None → is_none (payload_head_fault (payload_in file)) ≡ true
 file_head which file h = payload_head which (payload_in file) (sound_payload which file h)
@@ -53,5 +53,5 @@ file_head which file h = payload_head which (payload_in file) (sound_payload whi
 pub file_sound : Visited → (which : Which) (file : List ℕ) → container_fault_except_contents which file ≡ None → is_sound (payload_in file) (Kinds.Obj which) (root_word_of_payload (payload_in file)) ≡ true
 file_sound visited which file h = payload_sound visited which (payload_in file) (sound_payload which file h)
 
-pub file_texts : (which : Which) (file : List ℕ) → container_fault_except_contents which file ≡ None → text_or_number_fault which (root_value which (payload_in file)) ≡ None
+pub file_texts : (which : Which) (file : List ℕ) → container_fault_except_contents which file ≡ None → text_or_number_fault which (root_value_of_payload which (payload_in file)) ≡ None
 file_texts which file h = payload_texts which (payload_in file) (sound_payload which file h)

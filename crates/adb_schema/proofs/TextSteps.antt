@@ -23,29 +23,29 @@ use Rattle.adb_view.specs.declared.tables.Field.{Field}
 
 -- ---- the leaves of a value, by its kind
 
-pub int_leaves : (field_number : ℕ) (a : Surroundings) (v : Plain) → leaves (shape_of Int) field_number a v ≡ number_leaf field_number (int_in v) ∷ []
+pub int_leaves : (field_place_in_causes : ℕ) (a : Surroundings) (v : Plain) → leaves (shape_of Int) field_place_in_causes a v ≡ number_leaf field_place_in_causes (int_in v) ∷ []
 unfolding leaves
-int_leaves field_number a v = ap (λ s. leaves s field_number a v) int_shape
+int_leaves field_place_in_causes a v = ap (λ s. leaves s field_place_in_causes a v) int_shape
 
-pub text_leaves : (field_number : ℕ) (a : Surroundings) (v : Plain) → leaves (shape_of Text) field_number a v ≡ text_leaf field_number a (text_in v) ∷ []
+pub text_leaves : (field_place_in_causes : ℕ) (a : Surroundings) (v : Plain) → leaves (shape_of Text) field_place_in_causes a v ≡ text_leaf field_place_in_causes a (text_in v) ∷ []
 unfolding leaves
-text_leaves field_number a v = ap (λ s. leaves s field_number a v) text_shape
+text_leaves field_place_in_causes a v = ap (λ s. leaves s field_place_in_causes a v) text_shape
 
-pub hash_leaves : (field_number : ℕ) (a : Surroundings) (v : Plain) → leaves (shape_of Hash) field_number a v ≡ text_leaf field_number a (text_in v) ∷ []
+pub hash_leaves : (field_place_in_causes : ℕ) (a : Surroundings) (v : Plain) → leaves (shape_of Hash) field_place_in_causes a v ≡ text_leaf field_place_in_causes a (text_in v) ∷ []
 unfolding leaves
-hash_leaves field_number a v = ap (λ s. leaves s field_number a v) hash_shape
+hash_leaves field_place_in_causes a v = ap (λ s. leaves s field_place_in_causes a v) hash_shape
 
-pub texts_leaves : (field_number : ℕ) (a : Surroundings) (v : Plain) → leaves (shape_of TextArr) field_number a v ≡ leaves_of_all_values (leaves (shape_of Text) field_number a) (entries_in v)
+pub texts_leaves : (field_place_in_causes : ℕ) (a : Surroundings) (v : Plain) → leaves (shape_of TextArr) field_place_in_causes a v ≡ leaves_of_all_values (leaves (shape_of Text) field_place_in_causes a) (entries_in v)
 unfolding leaves
-texts_leaves field_number a v = ap (λ s. leaves s field_number a v) texts_shape
+texts_leaves field_place_in_causes a v = ap (λ s. leaves s field_place_in_causes a v) texts_shape
 
-pub objects_leaves : (which : Which) (field_number : ℕ) (a : Surroundings) (v : Plain) → leaves (shape_of (ObjArr which)) field_number a v ≡ leaves_of_all_values (leaves (shape_of (Obj which)) field_number a) (entries_in v)
+pub objects_leaves : (which : Which) (field_place_in_causes : ℕ) (a : Surroundings) (v : Plain) → leaves (shape_of (ObjArr which)) field_place_in_causes a v ≡ leaves_of_all_values (leaves (shape_of (Obj which)) field_place_in_causes a) (entries_in v)
 unfolding leaves
-objects_leaves which field_number a v = ap (λ s. leaves s field_number a v) (objects_shape which)
+objects_leaves which field_place_in_causes a v = ap (λ s. leaves s field_place_in_causes a v) (objects_shape which)
 
-pub object_leaves : (which : Which) (field_number : ℕ) (a : Surroundings) (v : Plain) → leaves (shape_of (Obj which)) field_number a v ≡ field_leaves (shapes_of (table which)) (100 * table_number which + 1) (surroundings_of_fields (table_number which) a v) (entries_in v)
+pub object_leaves : (which : Which) (field_place_in_causes : ℕ) (a : Surroundings) (v : Plain) → leaves (shape_of (Obj which)) field_place_in_causes a v ≡ field_leaves (shapes_of (table which)) (100 * table_number which + 1) (surroundings_of_fields (table_number which) a v) (entries_in v)
 unfolding leaves
-object_leaves which field_number a v = ap (λ s. leaves s field_number a v) (object_shape which)
+object_leaves which field_place_in_causes a v = ap (λ s. leaves s field_place_in_causes a v) (object_shape which)
 
 -- ---- the first bad leaf of two lists
 
@@ -137,33 +137,33 @@ behind-behind zero vs = refl
 behind-behind (suc i) none = refl
 behind-behind (suc i) (more v vs) = behind-behind i vs
 
-pub one_field : (f : Field) (fs : List Field) (field_number : ℕ) (a : Surroundings) (vs : Plains)
-    → field_leaves (shapes_of (f ∷ fs)) field_number a vs ≡ leaves (shape_of f.kind) field_number a (nth vs 0) ++ field_leaves (shapes_of fs) (field_number + 1) a (behind 1 vs)
+pub one_field : (f : Field) (fs : List Field) (field_place_in_causes : ℕ) (a : Surroundings) (vs : Plains)
+    → field_leaves (shapes_of (f ∷ fs)) field_place_in_causes a vs ≡ leaves (shape_of f.kind) field_place_in_causes a (nth vs 0) ++ field_leaves (shapes_of fs) (field_place_in_causes + 1) a (behind 1 vs)
 unfolding field_leaves behind
-one_field f fs field_number a none = refl
-one_field f fs field_number a (more v vs) = refl
+one_field f fs field_place_in_causes a none = refl
+one_field f fs field_place_in_causes a (more v vs) = refl
 
-field_here : (fs : List Field) (field_number : ℕ) (a : Surroundings) (vs : Plains) (i : ℕ) (d : Field) → i < length fs
-    → field_leaves (shapes_of (drop i fs)) field_number a (behind i vs) ≡ leaves (shape_of (get_or fs i d).kind) field_number a (nth vs i) ++ field_leaves (shapes_of (drop (i + 1) fs)) (field_number + 1) a (behind (i + 1) vs)
-field_here fs field_number a vs i d lt =
-    ap (λ gs. field_leaves (shapes_of gs) field_number a (behind i vs)) (drop_more fs i d lt)
-    ∙ one_field (get_or fs i d) (drop (i + 1) fs) field_number a (behind i vs)
-    ∙ ap (λ v. leaves (shape_of (get_or fs i d).kind) field_number a v ++ field_leaves (shapes_of (drop (i + 1) fs)) (field_number + 1) a (behind 1 (behind i vs))) (nth-behind i vs)
-    ∙ ap (λ us. leaves (shape_of (get_or fs i d).kind) field_number a (nth vs i) ++ field_leaves (shapes_of (drop (i + 1) fs)) (field_number + 1) a us) (behind-behind i vs ∙ ap (λ (j : ℕ). behind j vs) (omega arith))
+field_here : (fs : List Field) (field_place_in_causes : ℕ) (a : Surroundings) (vs : Plains) (i : ℕ) (d : Field) → i < length fs
+    → field_leaves (shapes_of (drop i fs)) field_place_in_causes a (behind i vs) ≡ leaves (shape_of (get_or fs i d).kind) field_place_in_causes a (nth vs i) ++ field_leaves (shapes_of (drop (i + 1) fs)) (field_place_in_causes + 1) a (behind (i + 1) vs)
+field_here fs field_place_in_causes a vs i d lt =
+    ap (λ gs. field_leaves (shapes_of gs) field_place_in_causes a (behind i vs)) (drop_more fs i d lt)
+    ∙ one_field (get_or fs i d) (drop (i + 1) fs) field_place_in_causes a (behind i vs)
+    ∙ ap (λ v. leaves (shape_of (get_or fs i d).kind) field_place_in_causes a v ++ field_leaves (shapes_of (drop (i + 1) fs)) (field_place_in_causes + 1) a (behind 1 (behind i vs))) (nth-behind i vs)
+    ∙ ap (λ us. leaves (shape_of (get_or fs i d).kind) field_place_in_causes a (nth vs i) ++ field_leaves (shapes_of (drop (i + 1) fs)) (field_place_in_causes + 1) a us) (behind-behind i vs ∙ ap (λ (j : ℕ). behind j vs) (omega arith))
 
-pub fields_more : (fs : List Field) (field_number : ℕ) (a : Surroundings) (vs : Plains) (i : ℕ) (d : Field) → i < length fs → first_bad_leaf (leaves (shape_of (get_or fs i d).kind) field_number a (nth vs i)) ≡ None
-    → first_bad_leaf (field_leaves (shapes_of (drop i fs)) field_number a (behind i vs)) ≡ first_bad_leaf (field_leaves (shapes_of (drop (i + 1) fs)) (field_number + 1) a (behind (i + 1) vs))
-fields_more fs field_number a vs i d lt good =
-    ap first_bad_leaf (field_here fs field_number a vs i d lt) ∙ behind_good (leaves (shape_of (get_or fs i d).kind) field_number a (nth vs i)) (field_leaves (shapes_of (drop (i + 1) fs)) (field_number + 1) a (behind (i + 1) vs)) good
+pub fields_more : (fs : List Field) (field_place_in_causes : ℕ) (a : Surroundings) (vs : Plains) (i : ℕ) (d : Field) → i < length fs → first_bad_leaf (leaves (shape_of (get_or fs i d).kind) field_place_in_causes a (nth vs i)) ≡ None
+    → first_bad_leaf (field_leaves (shapes_of (drop i fs)) field_place_in_causes a (behind i vs)) ≡ first_bad_leaf (field_leaves (shapes_of (drop (i + 1) fs)) (field_place_in_causes + 1) a (behind (i + 1) vs))
+fields_more fs field_place_in_causes a vs i d lt good =
+    ap first_bad_leaf (field_here fs field_place_in_causes a vs i d lt) ∙ behind_good (leaves (shape_of (get_or fs i d).kind) field_place_in_causes a (nth vs i)) (field_leaves (shapes_of (drop (i + 1) fs)) (field_place_in_causes + 1) a (behind (i + 1) vs)) good
 
-pub fields_stop : (fs : List Field) (field_number : ℕ) (a : Surroundings) (vs : Plains) (i : ℕ) (d : Field) (c : Cause) → i < length fs → first_bad_leaf (leaves (shape_of (get_or fs i d).kind) field_number a (nth vs i)) ≡ Some c
-    → first_bad_leaf (field_leaves (shapes_of (drop i fs)) field_number a (behind i vs)) ≡ Some c
-fields_stop fs field_number a vs i d c lt bad =
-    ap first_bad_leaf (field_here fs field_number a vs i d lt) ∙ after_bad (leaves (shape_of (get_or fs i d).kind) field_number a (nth vs i)) (field_leaves (shapes_of (drop (i + 1) fs)) (field_number + 1) a (behind (i + 1) vs)) c bad
+pub fields_stop : (fs : List Field) (field_place_in_causes : ℕ) (a : Surroundings) (vs : Plains) (i : ℕ) (d : Field) (c : Cause) → i < length fs → first_bad_leaf (leaves (shape_of (get_or fs i d).kind) field_place_in_causes a (nth vs i)) ≡ Some c
+    → first_bad_leaf (field_leaves (shapes_of (drop i fs)) field_place_in_causes a (behind i vs)) ≡ Some c
+fields_stop fs field_place_in_causes a vs i d c lt bad =
+    ap first_bad_leaf (field_here fs field_place_in_causes a vs i d lt) ∙ after_bad (leaves (shape_of (get_or fs i d).kind) field_place_in_causes a (nth vs i)) (field_leaves (shapes_of (drop (i + 1) fs)) (field_place_in_causes + 1) a (behind (i + 1) vs)) c bad
 
-pub fields_end : (fs : List Field) (field_number : ℕ) (a : Surroundings) (vs : Plains) (i : ℕ) → length fs ≤ i → first_bad_leaf (field_leaves (shapes_of (drop i fs)) field_number a vs) ≡ None
+pub fields_end : (fs : List Field) (field_place_in_causes : ℕ) (a : Surroundings) (vs : Plains) (i : ℕ) → length fs ≤ i → first_bad_leaf (field_leaves (shapes_of (drop i fs)) field_place_in_causes a vs) ≡ None
 unfolding field_leaves
-fields_end fs field_number a vs i le = rw (drop_all i fs le) refl
+fields_end fs field_place_in_causes a vs i le = rw (drop_all i fs le) refl
 
 -- the kind of the field at i
 pub kind_here : (fs : List Field) (i : ℕ) (d : Field) → i < length fs → option_map (λ f. f.kind) (slice_get fs i) ≡ Some (get_or fs i d).kind
@@ -220,19 +220,19 @@ field_sound p which w i word d lt is = (is (get_or (table which) i d).kind (kind
 field_value : (p : List ℕ) (which : Which) (w i word : ℕ) (d : Field) → i < length (table which) → IsFieldOf p which w i word → value_at p (get_or (table which) i d).kind word ≡ nth (entries_in (value_at p (Obj which) w)) i
 field_value p which w i word d lt is = (is (get_or (table which) i d).kind (kind_here (table which) i d lt)).1
 
-pub field_good : (p : List ℕ) (which : Which) (w i word : ℕ) (d : Field) (field_number : ℕ) (a : Surroundings) → i < length (table which) → IsFieldOf p which w i word
-    → None ≡ first_bad_leaf (leaves (shape_of (get_or (table which) i d).kind) field_number a (value_at p (get_or (table which) i d).kind word))
-    → first_bad_leaf (field_leaves (shapes_of (drop i (table which))) field_number a (behind i (entries_in (value_at p (Obj which) w)))) ≡ first_bad_leaf (field_leaves (shapes_of (drop (i + 1) (table which))) (field_number + 1) a (behind (i + 1) (entries_in (value_at p (Obj which) w))))
-field_good p which w i word d field_number a lt is good =
-    fields_more (table which) field_number a (entries_in (value_at p (Obj which) w)) i d lt
-    (ap (λ v. first_bad_leaf (leaves (shape_of (get_or (table which) i d).kind) field_number a v)) (sym (field_value p which w i word d lt is)) ∙ sym good)
+pub field_good : (p : List ℕ) (which : Which) (w i word : ℕ) (d : Field) (field_place_in_causes : ℕ) (a : Surroundings) → i < length (table which) → IsFieldOf p which w i word
+    → None ≡ first_bad_leaf (leaves (shape_of (get_or (table which) i d).kind) field_place_in_causes a (value_at p (get_or (table which) i d).kind word))
+    → first_bad_leaf (field_leaves (shapes_of (drop i (table which))) field_place_in_causes a (behind i (entries_in (value_at p (Obj which) w)))) ≡ first_bad_leaf (field_leaves (shapes_of (drop (i + 1) (table which))) (field_place_in_causes + 1) a (behind (i + 1) (entries_in (value_at p (Obj which) w))))
+field_good p which w i word d field_place_in_causes a lt is good =
+    fields_more (table which) field_place_in_causes a (entries_in (value_at p (Obj which) w)) i d lt
+    (ap (λ v. first_bad_leaf (leaves (shape_of (get_or (table which) i d).kind) field_place_in_causes a v)) (sym (field_value p which w i word d lt is)) ∙ sym good)
 
-pub field_bad : (p : List ℕ) (which : Which) (w i word : ℕ) (d : Field) (field_number : ℕ) (a : Surroundings) (c : Cause) → i < length (table which) → IsFieldOf p which w i word
-    → Some c ≡ first_bad_leaf (leaves (shape_of (get_or (table which) i d).kind) field_number a (value_at p (get_or (table which) i d).kind word))
-    → first_bad_leaf (field_leaves (shapes_of (drop i (table which))) field_number a (behind i (entries_in (value_at p (Obj which) w)))) ≡ Some c
-field_bad p which w i word d field_number a c lt is bad =
-    fields_stop (table which) field_number a (entries_in (value_at p (Obj which) w)) i d c lt
-    (ap (λ v. first_bad_leaf (leaves (shape_of (get_or (table which) i d).kind) field_number a v)) (sym (field_value p which w i word d lt is)) ∙ sym bad)
+pub field_bad : (p : List ℕ) (which : Which) (w i word : ℕ) (d : Field) (field_place_in_causes : ℕ) (a : Surroundings) (c : Cause) → i < length (table which) → IsFieldOf p which w i word
+    → Some c ≡ first_bad_leaf (leaves (shape_of (get_or (table which) i d).kind) field_place_in_causes a (value_at p (get_or (table which) i d).kind word))
+    → first_bad_leaf (field_leaves (shapes_of (drop i (table which))) field_place_in_causes a (behind i (entries_in (value_at p (Obj which) w)))) ≡ Some c
+field_bad p which w i word d field_place_in_causes a c lt is bad =
+    fields_stop (table which) field_place_in_causes a (entries_in (value_at p (Obj which) w)) i d c lt
+    (ap (λ v. first_bad_leaf (leaves (shape_of (get_or (table which) i d).kind) field_place_in_causes a v)) (sym (field_value p which w i word d lt is)) ∙ sym bad)
 
 -- the same of a list of fields that is the table's
 
@@ -244,26 +244,26 @@ pub field_below : (which : Which) (i : ℕ) (d : Field) (fs : List Field) → fs
 field_below which i d fs e lt =
     subst (λ (gs : List Field). i < length gs → rank (get_or gs i d).kind ≤ rank_of_all (table which)) (sym e) (λ lt. field_rank (table which) i d lt) lt
 
-pub field_good_of : (p : List ℕ) (which : Which) (w i word : ℕ) (d : Field) (field_number : ℕ) (a : Surroundings) (fs : List Field) → fs ≡ table which → i < length fs → IsFieldOf p which w i word
-    → None ≡ first_bad_leaf (leaves (shape_of (get_or fs i d).kind) field_number a (value_at p (get_or fs i d).kind word))
-    → first_bad_leaf (field_leaves (shapes_of (drop i (table which))) field_number a (behind i (entries_in (value_at p (Obj which) w)))) ≡ first_bad_leaf (field_leaves (shapes_of (drop (i + 1) (table which))) (field_number + 1) a (behind (i + 1) (entries_in (value_at p (Obj which) w))))
-field_good_of p which w i word d field_number a fs e lt is good =
+pub field_good_of : (p : List ℕ) (which : Which) (w i word : ℕ) (d : Field) (field_place_in_causes : ℕ) (a : Surroundings) (fs : List Field) → fs ≡ table which → i < length fs → IsFieldOf p which w i word
+    → None ≡ first_bad_leaf (leaves (shape_of (get_or fs i d).kind) field_place_in_causes a (value_at p (get_or fs i d).kind word))
+    → first_bad_leaf (field_leaves (shapes_of (drop i (table which))) field_place_in_causes a (behind i (entries_in (value_at p (Obj which) w)))) ≡ first_bad_leaf (field_leaves (shapes_of (drop (i + 1) (table which))) (field_place_in_causes + 1) a (behind (i + 1) (entries_in (value_at p (Obj which) w))))
+field_good_of p which w i word d field_place_in_causes a fs e lt is good =
     subst
-    (λ (gs : List Field). i < length gs → None ≡ first_bad_leaf (leaves (shape_of (get_or gs i d).kind) field_number a (value_at p (get_or gs i d).kind word)) → first_bad_leaf (field_leaves (shapes_of (drop i (table which))) field_number a (behind i (entries_in (value_at p (Obj which) w)))) ≡ first_bad_leaf (field_leaves (shapes_of (drop (i + 1) (table which))) (field_number + 1) a (behind (i + 1) (entries_in (value_at p (Obj which) w)))))
-    (sym e) (λ lt good. field_good p which w i word d field_number a lt is good) lt good
+    (λ (gs : List Field). i < length gs → None ≡ first_bad_leaf (leaves (shape_of (get_or gs i d).kind) field_place_in_causes a (value_at p (get_or gs i d).kind word)) → first_bad_leaf (field_leaves (shapes_of (drop i (table which))) field_place_in_causes a (behind i (entries_in (value_at p (Obj which) w)))) ≡ first_bad_leaf (field_leaves (shapes_of (drop (i + 1) (table which))) (field_place_in_causes + 1) a (behind (i + 1) (entries_in (value_at p (Obj which) w)))))
+    (sym e) (λ lt good. field_good p which w i word d field_place_in_causes a lt is good) lt good
 
-pub field_bad_of : (p : List ℕ) (which : Which) (w i word : ℕ) (d : Field) (field_number : ℕ) (a : Surroundings) (c : Cause) (fs : List Field) → fs ≡ table which → i < length fs → IsFieldOf p which w i word
-    → Some c ≡ first_bad_leaf (leaves (shape_of (get_or fs i d).kind) field_number a (value_at p (get_or fs i d).kind word))
-    → first_bad_leaf (field_leaves (shapes_of (drop i (table which))) field_number a (behind i (entries_in (value_at p (Obj which) w)))) ≡ Some c
-field_bad_of p which w i word d field_number a c fs e lt is bad =
+pub field_bad_of : (p : List ℕ) (which : Which) (w i word : ℕ) (d : Field) (field_place_in_causes : ℕ) (a : Surroundings) (c : Cause) (fs : List Field) → fs ≡ table which → i < length fs → IsFieldOf p which w i word
+    → Some c ≡ first_bad_leaf (leaves (shape_of (get_or fs i d).kind) field_place_in_causes a (value_at p (get_or fs i d).kind word))
+    → first_bad_leaf (field_leaves (shapes_of (drop i (table which))) field_place_in_causes a (behind i (entries_in (value_at p (Obj which) w)))) ≡ Some c
+field_bad_of p which w i word d field_place_in_causes a c fs e lt is bad =
     subst
-    (λ (gs : List Field). i < length gs → Some c ≡ first_bad_leaf (leaves (shape_of (get_or gs i d).kind) field_number a (value_at p (get_or gs i d).kind word)) → first_bad_leaf (field_leaves (shapes_of (drop i (table which))) field_number a (behind i (entries_in (value_at p (Obj which) w)))) ≡ Some c)
-    (sym e) (λ lt bad. field_bad p which w i word d field_number a c lt is bad) lt bad
+    (λ (gs : List Field). i < length gs → Some c ≡ first_bad_leaf (leaves (shape_of (get_or gs i d).kind) field_place_in_causes a (value_at p (get_or gs i d).kind word)) → first_bad_leaf (field_leaves (shapes_of (drop i (table which))) field_place_in_causes a (behind i (entries_in (value_at p (Obj which) w)))) ≡ Some c)
+    (sym e) (λ lt bad. field_bad p which w i word d field_place_in_causes a c lt is bad) lt bad
 
 -- ---- a value, by its kind
 
-at_kind : (p : List ℕ) (k j : Kind) (field_number : ℕ) (a : Surroundings) (w : ℕ) → k ≡ j → first_bad_leaf (leaves (shape_of j) field_number a (value_at p j w)) ≡ first_bad_leaf (leaves (shape_of k) field_number a (value_at p k w))
-at_kind p k j field_number a w e = sym (ap (λ (x : Kind). first_bad_leaf (leaves (shape_of x) field_number a (value_at p x w))) e)
+at_kind : (p : List ℕ) (k j : Kind) (field_place_in_causes : ℕ) (a : Surroundings) (w : ℕ) → k ≡ j → first_bad_leaf (leaves (shape_of j) field_place_in_causes a (value_at p j w)) ≡ first_bad_leaf (leaves (shape_of k) field_place_in_causes a (value_at p k w))
+at_kind p k j field_place_in_causes a w e = sym (ap (λ (x : Kind). first_bad_leaf (leaves (shape_of x) field_place_in_causes a (value_at p x w))) e)
 
 -- what is answered, if memory sufficed
 along : {E : Type 0} (r : Result (Option ℕ) E) (x y : Option Cause) → x ≡ y → IfOk r (λ o. bad_text_at o ≡ x) → IfOk r (λ o. bad_text_at o ≡ y)
@@ -274,30 +274,30 @@ pub hash_is_text : (p : List ℕ) (w : ℕ) → value_at p Hash w ≡ value_at p
 unfolding value_at plain_of shape_of
 hash_is_text p w = refl
 
-pub int_done : (p : List ℕ) (k : Kind) (field_number : ℕ) (a : Surroundings) (w n : ℕ) (o : Option Cause) → k ≡ Int → n ≡ int_in (value_at p Int w) → o ≡ first_bad_leaf (number_leaf field_number n ∷ []) → o ≡ first_bad_leaf (leaves (shape_of k) field_number a (value_at p k w))
-int_done p k field_number a w n o is read e =
-    e ∙ ap (λ (m : ℕ). first_bad_leaf (number_leaf field_number m ∷ [])) read ∙ ap first_bad_leaf (sym (int_leaves field_number a (value_at p Int w))) ∙ at_kind p k Int field_number a w is
+pub int_done : (p : List ℕ) (k : Kind) (field_place_in_causes : ℕ) (a : Surroundings) (w n : ℕ) (o : Option Cause) → k ≡ Int → n ≡ int_in (value_at p Int w) → o ≡ first_bad_leaf (number_leaf field_place_in_causes n ∷ []) → o ≡ first_bad_leaf (leaves (shape_of k) field_place_in_causes a (value_at p k w))
+int_done p k field_place_in_causes a w n o is read e =
+    e ∙ ap (λ (m : ℕ). first_bad_leaf (number_leaf field_place_in_causes m ∷ [])) read ∙ ap first_bad_leaf (sym (int_leaves field_place_in_causes a (value_at p Int w))) ∙ at_kind p k Int field_place_in_causes a w is
 
-pub text_done : (p : List ℕ) (k : Kind) (field_number : ℕ) (a : Surroundings) (w : ℕ) (bs : List ℕ) {E : Type 0} (r : Result (Option ℕ) E) → k ≡ Text → bs ≡ text_in (value_at p Text w) → IfOk r (λ o. bad_text_at o ≡ first_bad_leaf (text_leaf field_number a bs ∷ [])) → IfOk r (λ o. bad_text_at o ≡ first_bad_leaf (leaves (shape_of k) field_number a (value_at p k w)))
-text_done p k field_number a w bs r is read e =
-    along r _ _ (ap (λ (b : List ℕ). first_bad_leaf (text_leaf field_number a b ∷ [])) read ∙ ap first_bad_leaf (sym (text_leaves field_number a (value_at p Text w))) ∙ at_kind p k Text field_number a w is) e
+pub text_done : (p : List ℕ) (k : Kind) (field_place_in_causes : ℕ) (a : Surroundings) (w : ℕ) (bs : List ℕ) {E : Type 0} (r : Result (Option ℕ) E) → k ≡ Text → bs ≡ text_in (value_at p Text w) → IfOk r (λ o. bad_text_at o ≡ first_bad_leaf (text_leaf field_place_in_causes a bs ∷ [])) → IfOk r (λ o. bad_text_at o ≡ first_bad_leaf (leaves (shape_of k) field_place_in_causes a (value_at p k w)))
+text_done p k field_place_in_causes a w bs r is read e =
+    along r _ _ (ap (λ (b : List ℕ). first_bad_leaf (text_leaf field_place_in_causes a b ∷ [])) read ∙ ap first_bad_leaf (sym (text_leaves field_place_in_causes a (value_at p Text w))) ∙ at_kind p k Text field_place_in_causes a w is) e
 
-pub hash_done : (p : List ℕ) (k : Kind) (field_number : ℕ) (a : Surroundings) (w : ℕ) (bs : List ℕ) {E : Type 0} (r : Result (Option ℕ) E) → k ≡ Hash → bs ≡ text_in (value_at p Hash w) → IfOk r (λ o. bad_text_at o ≡ first_bad_leaf (text_leaf field_number a bs ∷ [])) → IfOk r (λ o. bad_text_at o ≡ first_bad_leaf (leaves (shape_of k) field_number a (value_at p k w)))
-hash_done p k field_number a w bs r is read e =
-    along r _ _ (ap (λ (b : List ℕ). first_bad_leaf (text_leaf field_number a b ∷ [])) read ∙ ap first_bad_leaf (sym (hash_leaves field_number a (value_at p Hash w))) ∙ at_kind p k Hash field_number a w is) e
+pub hash_done : (p : List ℕ) (k : Kind) (field_place_in_causes : ℕ) (a : Surroundings) (w : ℕ) (bs : List ℕ) {E : Type 0} (r : Result (Option ℕ) E) → k ≡ Hash → bs ≡ text_in (value_at p Hash w) → IfOk r (λ o. bad_text_at o ≡ first_bad_leaf (text_leaf field_place_in_causes a bs ∷ [])) → IfOk r (λ o. bad_text_at o ≡ first_bad_leaf (leaves (shape_of k) field_place_in_causes a (value_at p k w)))
+hash_done p k field_place_in_causes a w bs r is read e =
+    along r _ _ (ap (λ (b : List ℕ). first_bad_leaf (text_leaf field_place_in_causes a b ∷ [])) read ∙ ap first_bad_leaf (sym (hash_leaves field_place_in_causes a (value_at p Hash w))) ∙ at_kind p k Hash field_place_in_causes a w is) e
 
-pub texts_done : (p : List ℕ) (k : Kind) (field_number : ℕ) (a : Surroundings) (w : ℕ) (ws : List ℕ) {E : Type 0} (r : Result (Option ℕ) E) → k ≡ TextArr → array_at p Text ws ≡ value_at p TextArr w → IfOk r (λ o. bad_text_at o ≡ first_bad_leaf (leaves_of_all_values (leaves (shape_of Text) field_number a) (values_at p Text ws)))
-    → IfOk r (λ o. bad_text_at o ≡ first_bad_leaf (leaves (shape_of k) field_number a (value_at p k w)))
-texts_done p k field_number a w ws r is read e =
-    along r _ _ (ap (λ vs. first_bad_leaf (leaves_of_all_values (leaves (shape_of Text) field_number a) vs)) (sym (entries_arr (values_at p Text ws)) ∙ ap entries_in read) ∙ ap first_bad_leaf (sym (texts_leaves field_number a (value_at p TextArr w))) ∙ at_kind p k TextArr field_number a w is) e
+pub texts_done : (p : List ℕ) (k : Kind) (field_place_in_causes : ℕ) (a : Surroundings) (w : ℕ) (ws : List ℕ) {E : Type 0} (r : Result (Option ℕ) E) → k ≡ TextArr → array_at p Text ws ≡ value_at p TextArr w → IfOk r (λ o. bad_text_at o ≡ first_bad_leaf (leaves_of_all_values (leaves (shape_of Text) field_place_in_causes a) (values_at p Text ws)))
+    → IfOk r (λ o. bad_text_at o ≡ first_bad_leaf (leaves (shape_of k) field_place_in_causes a (value_at p k w)))
+texts_done p k field_place_in_causes a w ws r is read e =
+    along r _ _ (ap (λ vs. first_bad_leaf (leaves_of_all_values (leaves (shape_of Text) field_place_in_causes a) vs)) (sym (entries_arr (values_at p Text ws)) ∙ ap entries_in read) ∙ ap first_bad_leaf (sym (texts_leaves field_place_in_causes a (value_at p TextArr w))) ∙ at_kind p k TextArr field_place_in_causes a w is) e
 
-pub objects_done : (p : List ℕ) (k : Kind) (which : Which) (field_number : ℕ) (a : Surroundings) (w : ℕ) (ws : List ℕ) {E : Type 0} (r : Result (Option ℕ) E) → k ≡ ObjArr which → array_at p (Obj which) ws ≡ value_at p (ObjArr which) w
-    → IfOk r (λ o. bad_text_at o ≡ first_bad_leaf (leaves_of_all_values (leaves (shape_of (Obj which)) field_number a) (values_at p (Obj which) ws))) → IfOk r (λ o. bad_text_at o ≡ first_bad_leaf (leaves (shape_of k) field_number a (value_at p k w)))
-objects_done p k which field_number a w ws r is read e =
-    along r _ _ (ap (λ vs. first_bad_leaf (leaves_of_all_values (leaves (shape_of (Obj which)) field_number a) vs)) (sym (entries_arr (values_at p (Obj which) ws)) ∙ ap entries_in read) ∙ ap first_bad_leaf (sym (objects_leaves which field_number a (value_at p (ObjArr which) w))) ∙ at_kind p k (ObjArr which) field_number a w is) e
+pub objects_done : (p : List ℕ) (k : Kind) (which : Which) (field_place_in_causes : ℕ) (a : Surroundings) (w : ℕ) (ws : List ℕ) {E : Type 0} (r : Result (Option ℕ) E) → k ≡ ObjArr which → array_at p (Obj which) ws ≡ value_at p (ObjArr which) w
+    → IfOk r (λ o. bad_text_at o ≡ first_bad_leaf (leaves_of_all_values (leaves (shape_of (Obj which)) field_place_in_causes a) (values_at p (Obj which) ws))) → IfOk r (λ o. bad_text_at o ≡ first_bad_leaf (leaves (shape_of k) field_place_in_causes a (value_at p k w)))
+objects_done p k which field_place_in_causes a w ws r is read e =
+    along r _ _ (ap (λ vs. first_bad_leaf (leaves_of_all_values (leaves (shape_of (Obj which)) field_place_in_causes a) vs)) (sym (entries_arr (values_at p (Obj which) ws)) ∙ ap entries_in read) ∙ ap first_bad_leaf (sym (objects_leaves which field_place_in_causes a (value_at p (ObjArr which) w))) ∙ at_kind p k (ObjArr which) field_place_in_causes a w is) e
 
-pub object_done : (p : List ℕ) (k : Kind) (which : Which) (field_number : ℕ) (a inside : Surroundings) (w : ℕ) {E : Type 0} (r : Result (Option ℕ) E) → k ≡ Obj which → inside ≡ surroundings_of_fields (table_number which) a (value_at p (Obj which) w)
-    → IfOk r (λ o. bad_text_at o ≡ first_bad_leaf (field_leaves (shapes_of (table which)) (100 * table_number which + 1) inside (entries_in (value_at p (Obj which) w)))) → IfOk r (λ o. bad_text_at o ≡ first_bad_leaf (leaves (shape_of k) field_number a (value_at p k w)))
-object_done p k which field_number a inside w r is made e =
+pub object_done : (p : List ℕ) (k : Kind) (which : Which) (field_place_in_causes : ℕ) (a inside : Surroundings) (w : ℕ) {E : Type 0} (r : Result (Option ℕ) E) → k ≡ Obj which → inside ≡ surroundings_of_fields (table_number which) a (value_at p (Obj which) w)
+    → IfOk r (λ o. bad_text_at o ≡ first_bad_leaf (field_leaves (shapes_of (table which)) (100 * table_number which + 1) inside (entries_in (value_at p (Obj which) w)))) → IfOk r (λ o. bad_text_at o ≡ first_bad_leaf (leaves (shape_of k) field_place_in_causes a (value_at p k w)))
+object_done p k which field_place_in_causes a inside w r is made e =
     along r _ _ (ap (λ (b : Surroundings). first_bad_leaf (field_leaves (shapes_of (table which)) (100 * table_number which + 1) b (entries_in (value_at p (Obj which) w)))) made
-    ∙ ap first_bad_leaf (sym (object_leaves which field_number a (value_at p (Obj which) w))) ∙ at_kind p k (Obj which) field_number a w is) e
+    ∙ ap first_bad_leaf (sym (object_leaves which field_place_in_causes a (value_at p (Obj which) w))) ∙ at_kind p k (Obj which) field_place_in_causes a w is) e

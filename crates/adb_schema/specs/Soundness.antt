@@ -7,7 +7,7 @@ use Rattle.std.specs.Int.{w32, from_le_bytes}
 use Rattle.base_core.specs.declared.cause.Cause.{Cause}
 use Rattle.base_core.specs.declared.cause.Cause.TheVariants.{Truncated, WrongSchema, DataOrder}
 use Rattle.adb_block.specs.Header.{schema_of_header}
-use Rattle.adb_block.specs.ReaderPosition.{first_block_position}
+use Rattle.adb_block.specs.ReaderPosition.{first_block_position_of_schema_and_file}
 use Rattle.adb_block.specs.Reading.{Reading, done, fault, more, block_stream_from}
 use Rattle.adb_block.specs.declared.block.BlockKind.{BlockKind}
 use Rattle.adb_block.specs.declared.block.BlockKind.TheVariants.{Contents}
@@ -35,16 +35,16 @@ schema_word which = None
 -- ---- the first block
 
 -- the plain value of a payload with this table at its root
-abbrev pub root_value : Which → List ℕ → Plain
-root_value which payload = value_at payload (Obj which) (root_word_of_payload payload)
+abbrev pub root_value_of_payload : Which → List ℕ → Plain
+root_value_of_payload which payload = value_at payload (Obj which) (root_word_of_payload payload)
 
 -- the first fault of a payload: of its head, its shape, its texts, or a repeated name
 abbrev pub payload_fault : Which → List ℕ → Option Cause
 payload_fault which payload =
     option_or (payload_head_fault payload)
     (option_or (shape_fault payload (shape_of (Obj which)) (root_word_of_payload payload))
-    (option_or (text_or_number_fault which (root_value which payload))
-    (repeated_fault which (root_value which payload))))
+    (option_or (text_or_number_fault which (root_value_of_payload which payload))
+    (repeated_fault which (root_value_of_payload which payload))))
 
 -- ---- the blocks after the first
 
@@ -101,7 +101,7 @@ abbrev pub blocks_fault : (Plain → Reading → Option Cause) → Which → Rea
 blocks_fault rest which done = None
 blocks_fault rest which (fault c) = Some c
 blocks_fault rest which (more b at r) = option_or (payload_fault which b.payload)
-    (rest (root_value which b.payload) r)
+    (rest (root_value_of_payload which b.payload) r)
 
 -- the first fault of a file: of its header, of its schema, or of its blocks. The last argument is what the
 -- header gives: the schema, or the cause for which the header is refused
@@ -109,7 +109,7 @@ abbrev pub file_fault_after_header : (Plain → Reading → Option Cause) → Wh
     → Option Cause
 file_fault_after_header rest which file (Err c) = Some c
 file_fault_after_header rest which file (Ok schema) = option_or (schema_fault which schema)
-    (blocks_fault rest which (block_stream_from (first_block_position schema file)))
+    (blocks_fault rest which (block_stream_from (first_block_position_of_schema_and_file schema file)))
 
 -- the first fault of a file, if `rest` tests the blocks after the first
 abbrev pub file_fault_with_rest_test : (Plain → Reading → Option Cause) → Which → List ℕ → Option Cause
@@ -133,7 +133,7 @@ first_block_payload (more b at r) = b.payload
 -- header is refused
 abbrev pub payload_after_header : List ℕ → Result ℕ Cause → List ℕ
 payload_after_header file (Ok schema) =
-    first_block_payload (block_stream_from (first_block_position schema file))
+    first_block_payload (block_stream_from (first_block_position_of_schema_and_file schema file))
 payload_after_header file (Err c) = []
 
 -- the payload of the first block of a file; empty if it has none

@@ -23,10 +23,10 @@ pub record IsSameWordAsPrevious (words : List ℕ) (i : ℕ) : Type 0 where
 
 -- no text breaks the rule of the field with this number, whatever its surroundings
 abbrev pub AllowsEachText : ℕ → Type 0
-AllowsEachText field_number = (around : Surroundings) (text : List ℕ)
-    → is_allowed_text_of_field field_number around text ≡ true
+AllowsEachText field_place_in_causes = (around : Surroundings) (text : List ℕ)
+    → is_allowed_text_of_field field_place_in_causes around text ≡ true
 
 -- no value of the kind breaks a rule if it is the value of the field with this number, whatever its surroundings
 abbrev pub AllowsEachValueOfKind : Kind → ℕ → Type 0
-AllowsEachValueOfKind kind field_number = (around : Surroundings) (v : Plain)
-    → first_bad_leaf (leaves (shape_of kind) field_number around v) ≡ None
+AllowsEachValueOfKind kind field_place_in_causes = (around : Surroundings) (v : Plain)
+    → first_bad_leaf (leaves (shape_of kind) field_place_in_causes around v) ≡ None

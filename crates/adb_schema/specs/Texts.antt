@@ -11,7 +11,7 @@ use Rattle.base_core.specs.declared.cause.Cause.TheVariants.{BadText}
 use Rattle.adb_view.specs.Plain.{Plain, null, Plains, none, more, Shape, number, text, hash, array, object, Fields, no_fields, field}
 use Rattle.adb_schema.specs.Reserved.{is_reserved}
 use Rattle.adb_fields.specs.Paths.{path_of}
-use Rattle.adb_fields.specs.Repeated.{field_number}
+use Rattle.adb_fields.specs.Repeated.{field_place_in_causes}
 use Rattle.adb_schema.specs.Rules.{is_name_allowed_in_intent, is_digest_length, is_digest_length_or_none, is_valid_file_name_in_folder, is_folder_name, is_id_length, is_supported_pkgname_spec, is_link_target_or_none}
 use Rattle.adb_view.specs.FieldIndexes.{DEP_MATCH, DEP_NAME, DEP_VERSION, DIR_NAME, FILE_HASHES, FILE_NAME, FILE_SIZE, FILE_TARGET, INDEX_PKGNAME_SPEC, INFO_HASHES, INFO_NAME, INFO_VERSION, INTENT_REMOVALS, INTENT_WRITES}
 use Rattle.adb_view.specs.Schema.{shape_of, table_number}
@@ -66,24 +66,26 @@ is_file_hash_length around len =
 -- whether the number `n` obeys the rule of the field with the number `place`, which is 100 times that of the
 -- field's table plus the field's own. Only the match number of a dependency has a rule
 abbrev pub is_allowed_number_of_field : ℕ → ℕ → Bool
-is_allowed_number_of_field place n = if place == field_number Dep DEP_MATCH then is_match_number n else true
+is_allowed_number_of_field place n =
+    if place == field_place_in_causes Dep DEP_MATCH then is_match_number n else true
 
 -- whether a text obeys the rule of the field with the number `place` (as in *is_allowed_number_of_field*); fields
 -- that are not listed here have no rule
 unfoldable pub is_allowed_text_of_field : ℕ → Surroundings → List ℕ → Bool
 is_allowed_text_of_field place around bytes =
-    if place == field_number Dep DEP_NAME then is_dep_name bytes
-    else if place == field_number Dep DEP_VERSION then is_version_or_empty bytes
-    else if place == field_number PkgInfo INFO_NAME then is_package_name bytes
-    else if place == field_number PkgInfo INFO_VERSION then is_version bytes
-    else if place == field_number PkgInfo INFO_HASHES then is_package_hash_length around.root (length bytes)
-    else if place == field_number File FILE_NAME then is_allowed_file_name around bytes
-    else if place == field_number File FILE_HASHES then is_file_hash_length around (length bytes)
-    else if place == field_number File FILE_TARGET then is_link_target_or_none bytes
-    else if place == field_number Dir DIR_NAME then is_folder_name bytes
-    else if place == field_number Index INDEX_PKGNAME_SPEC then is_supported_pkgname_spec bytes
-    else if place == field_number Intent INTENT_REMOVALS then is_name_allowed_in_intent bytes
-    else if place == field_number Intent INTENT_WRITES then is_name_allowed_in_intent bytes
+    if place == field_place_in_causes Dep DEP_NAME then is_dep_name bytes
+    else if place == field_place_in_causes Dep DEP_VERSION then is_version_or_empty bytes
+    else if place == field_place_in_causes PkgInfo INFO_NAME then is_package_name bytes
+    else if place == field_place_in_causes PkgInfo INFO_VERSION then is_version bytes
+    else if place == field_place_in_causes PkgInfo INFO_HASHES then is_package_hash_length around.root
+    (length bytes)
+    else if place == field_place_in_causes File FILE_NAME then is_allowed_file_name around bytes
+    else if place == field_place_in_causes File FILE_HASHES then is_file_hash_length around (length bytes)
+    else if place == field_place_in_causes File FILE_TARGET then is_link_target_or_none bytes
+    else if place == field_place_in_causes Dir DIR_NAME then is_folder_name bytes
+    else if place == field_place_in_causes Index INDEX_PKGNAME_SPEC then is_supported_pkgname_spec bytes
+    else if place == field_place_in_causes Intent INTENT_REMOVALS then is_name_allowed_in_intent bytes
+    else if place == field_place_in_causes Intent INTENT_WRITES then is_name_allowed_in_intent bytes
     else true
 
 -- ---- the leaves of the walk, in order
@@ -96,13 +98,14 @@ pub data Leaf : Type 0 where
 
 -- whether a number or a text obeys the rule of its field
 abbrev pub keeps_rule : Leaf → Bool
-keeps_rule (number_leaf field_number n) = is_allowed_number_of_field field_number n
-keeps_rule (text_leaf field_number around bytes) = is_allowed_text_of_field field_number around bytes
+keeps_rule (number_leaf field_place_in_causes n) = is_allowed_number_of_field field_place_in_causes n
+keeps_rule (text_leaf field_place_in_causes around bytes) =
+    is_allowed_text_of_field field_place_in_causes around bytes
 
 -- the number of the field that has this number or text
 abbrev pub field_number_of_leaf : Leaf → ℕ
-field_number_of_leaf (number_leaf field_number n) = field_number
-field_number_of_leaf (text_leaf field_number around bytes) = field_number
+field_number_of_leaf (number_leaf field_place_in_causes n) = field_place_in_causes
+field_number_of_leaf (text_leaf field_place_in_causes around bytes) = field_place_in_causes
 
 -- whether a file has contents: it has no target, and a size above 0
 abbrev pub is_file_with_contents : Plain → Bool
@@ -127,22 +130,24 @@ leaves_of_all_values f (more v vs) = f v ++ leaves_of_all_values f vs
 -- An object has those of each field of its table; a missing field is Null
 unfoldable mutual
   pub leaves : Shape → ℕ → Surroundings → Plain → List Leaf
-  leaves number field_number around v = number_leaf field_number (int_in v) ∷ []
-  leaves text field_number around v = text_leaf field_number around (text_in v) ∷ []
-  leaves hash field_number around v = text_leaf field_number around (text_in v) ∷ []
-  leaves (array s) field_number around v =
-      leaves_of_all_values (leaves s field_number around) (entries_in v)
-  leaves (object schema fs) field_number around v = field_leaves fs (100 * schema + 1)
+  leaves number field_place_in_causes around v = number_leaf field_place_in_causes (int_in v) ∷ []
+  leaves text field_place_in_causes around v = text_leaf field_place_in_causes around (text_in v) ∷ []
+  leaves hash field_place_in_causes around v = text_leaf field_place_in_causes around (text_in v) ∷ []
+  leaves (array s) field_place_in_causes around v =
+      leaves_of_all_values (leaves s field_place_in_causes around) (entries_in v)
+  leaves (object schema fs) field_place_in_causes around v = field_leaves fs (100 * schema + 1)
       (surroundings_of_fields schema around v) (entries_in v)
 
-  -- the numbers and texts of the fields of an object. The first field has the number `field_number`, and
+  -- the numbers and texts of the fields of an object. The first field has the number `field_place_in_causes`, and
   -- `around` are the surroundings of each field
   pub field_leaves : Fields → ℕ → Surroundings → Plains → List Leaf
-  field_leaves no_fields field_number around vs = []
-  field_leaves (field name s fs) field_number around none = leaves s field_number around null
-      ++ field_leaves fs (field_number + 1) around none
-  field_leaves (field name s fs) field_number around (more v vs) = leaves s field_number around v
-      ++ field_leaves fs (field_number + 1) around vs
+  field_leaves no_fields field_place_in_causes around vs = []
+  field_leaves (field name s fs) field_place_in_causes around none =
+      leaves s field_place_in_causes around null
+      ++ field_leaves fs (field_place_in_causes + 1) around none
+  field_leaves (field name s fs) field_place_in_causes around (more v vs) =
+      leaves s field_place_in_causes around v
+      ++ field_leaves fs (field_place_in_causes + 1) around vs
 
 -- the surroundings of the root: no folder and no file
 abbrev pub surroundings_of_root : Which → Surroundings

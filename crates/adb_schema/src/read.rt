@@ -14,7 +14,7 @@ ghost use Rattle.adb_schema.specs.Checked.{checked_value, table_of_checked};
 ghost use Rattle.adb_view.specs.Plain.{IsNormal};
 ghost use Rattle.adb_view.specs.declared.tables.Which.{Which};
 ghost use Rattle.adb_schema.specs.SoundContainers.{IsSoundValue};
-ghost use Rattle.adb_schema.specs.Soundness.{unexpected_contents_block_fault, contents_positions, container_fault_except_contents, further_blocks_fault, payload_fault, is_schema_wanted, payload_in, further_blocks_fault_unless_package, root_value, schema_word, unexpected_contents_cause};
+ghost use Rattle.adb_schema.specs.Soundness.{unexpected_contents_block_fault, contents_positions, container_fault_except_contents, further_blocks_fault, payload_fault, is_schema_wanted, payload_in, further_blocks_fault_unless_package, root_value_of_payload, schema_word, unexpected_contents_cause};
 ghost use Rattle.adb_schema.specs.ReadFaults.{first_block_fault};
 ghost use Rattle.adb_schema.specs.ReadFaults.{IsAfterFirstBlock};
 ghost use Rattle.adb_schema.specs.ReadFaults.{IsReadFault};
@@ -138,7 +138,7 @@ pub fn read_adb<'a>(alloc: Global, bytes: &'a [u8], which: Which) -> Result<Chec
         ≡ payload_in bytes.entry.now) }
     // The value is that of the payload's root.
     ensures value { IfOk result (λ checked. checked_value checked
-        ≡ root_value which (payload_in bytes.entry.now)) }
+        ≡ root_value_of_payload which (payload_in bytes.entry.now)) }
 {
     let mut blocks = Blocks::new(bytes)?;
     let found = blocks.schema();
@@ -300,11 +300,12 @@ pub fn schema_words_are_as_listed()
 pub fn sound_containers_hold_sound_values()
     // The root of a sound container has a sound value.
     ensures value { (which : Which) (file : List ℕ)
-        → IsSoundContainer which file → IsSoundValue which (root_value which (payload_in file)) }
+        → IsSoundContainer which file
+        → IsSoundValue which (root_value_of_payload which (payload_in file)) }
     // If the payload consists of bytes, this value is normal.
     ensures normal { (which : Which) (file : List ℕ)
         → IsSoundContainer which file → All (λ b. b < 256) (payload_in file)
-        → IsNormal (root_value which (payload_in file)) }
+        → IsNormal (root_value_of_payload which (payload_in file)) }
 {
     values_of_few_visits_have_no_fault();
     values_have_their_shape();

@@ -184,10 +184,10 @@ fn has_contents(adb: Adb<'_>, file: Val) -> bool
 
 /// Whether a number obeys the rule of the field with this number; only the match number of a
 /// dependency has one.
-pub(crate) fn keeps_number_rule(field_number: u16, n: u64) -> bool
-    ensures { result ≡ is_allowed_number_of_field field_number n }
+pub(crate) fn keeps_number_rule(field_place_in_causes: u16, n: u64) -> bool
+    ensures { result ≡ is_allowed_number_of_field field_place_in_causes n }
 {
-    match field_number {
+    match field_place_in_causes {
         field_numbers::DEP_MATCH => is_match_number(n),
         _ => true,
     }
@@ -198,7 +198,7 @@ pub(crate) fn keeps_number_rule(field_number: u16, n: u64) -> bool
 #[tactic(auto, unfolding(crate::specs::Texts::is_allowed_text_of_field))]
 fn keeps_rule_of_field(
     judged: &mut Judged<'_>,
-    field_number: u16,
+    field_place_in_causes: u16,
     around: &Surroundings<'_>,
     word: Val,
     text: &[u8],
@@ -207,11 +207,12 @@ fn keeps_rule_of_field(
     requires { text.now ≡ text_at (payload_of judged.old.adb) word }
     // On Ok, the result says whether the text obeys the rule of the field.
     ensures value { IfOk result (λ kept.
-        kept ≡ is_allowed_text_of_field field_number (surroundings_of around.now) text.now) }
+        kept ≡ is_allowed_text_of_field field_place_in_causes
+        (surroundings_of around.now) text.now) }
     // The payload of `judged` is unchanged.
     ensures payload { judged.new.adb ≡ judged.old.adb }
 {
-    match field_number {
+    match field_place_in_causes {
         field_numbers::DEP_NAME => judged.keeps(TextRule::DependencyName, word, text),
         field_numbers::DEP_VERSION => judged.keeps(TextRule::VersionOrEmpty, word, text),
         field_numbers::INFO_NAME => judged.keeps(TextRule::PackageName, word, text),
@@ -287,7 +288,7 @@ pub fn check_texts(alloc: Global, shaped: Shaped<'_>) -> Result<Option<Cause>, A
 }
 
 /// Checks a value and the values inside it, and returns the number of the first field that breaks
-/// its rule. `word` is the word of the value, `kind` its kind, `field_number` its field, and
+/// its rule. `word` is the word of the value, `kind` its kind, `field_place_in_causes` its field, and
 /// `around` its surroundings; `judged` remembers long texts. (A cause has 150 bytes, too many to
 /// pass from value to value.)
 #[cycle(check)]
@@ -295,7 +296,7 @@ fn check_value<'a>(
     adb: Adb<'a>,
     judged: &mut Judged<'a>,
     kind: Kind,
-    field_number: u16,
+    field_place_in_causes: u16,
     around: &Surroundings<'a>,
     word: Val,
 ) -> Result<Option<u16>, AllocError>
@@ -305,22 +306,48 @@ fn check_value<'a>(
     requires payload { payload_of judged.old.adb ≡ payload_of adb }
     // On Ok, the result is the number of the first field whose rule is broken, or None.
     ensures place { IfOk result (λ place. bad_text_at place
-        ≡ first_bad_leaf (leaves (shape_of kind) field_number (surroundings_of around.now)
+        ≡ first_bad_leaf (leaves (shape_of kind) field_place_in_causes (surroundings_of around.now)
         (value_at (payload_of adb.entry) kind word))) }
     // The payload of `judged` is unchanged.
     ensures payload { judged.new.adb ≡ judged.old.adb }
 {
     match kind {
-        Kind::Int => Ok(check_number(field_number, int_word(adb, word))),
-        Kind::Text => check_text(judged, field_number, around, word, text_word(adb, word)),
-        Kind::Hash => check_text(judged, field_number, around, word, hash_word(adb, word)),
+        Kind::Int => Ok(check_number(field_place_in_causes, int_word(adb, word))),
+        Kind::Text => check_text(
+            judged,
+            field_place_in_causes,
+            around,
+            word,
+            text_word(adb, word),
+        ),
+        Kind::Hash => check_text(
+            judged,
+            field_place_in_causes,
+            around,
+            word,
+            hash_word(adb, word),
+        ),
         Kind::TextArr => {
             let texts = texts_word(adb, word);
-            check_entries(adb, judged, Kind::Text, field_number, around, texts)
+            check_entries(
+                adb,
+                judged,
+                Kind::Text,
+                field_place_in_causes,
+                around,
+                texts,
+            )
         }
         Kind::ObjArr(which) => {
             let objects = objects_word(adb, which, word);
-            check_entries(adb, judged, Kind::Obj(which), field_number, around, objects)
+            check_entries(
+                adb,
+                judged,
+                Kind::Obj(which),
+                field_place_in_causes,
+                around,
+                objects,
+            )
         }
         Kind::Obj(which) => {
             let inside = around.inside(adb, which, word);
@@ -330,13 +357,13 @@ fn check_value<'a>(
 }
 
 /// Checks the entries of an array, as `check_value` does for one value; of adjacent equal words it
-/// checks only the first. `kind` is the kind of each entry, `field_number` the field of the array.
+/// checks only the first. `kind` is the kind of each entry, `field_place_in_causes` the field of the array.
 #[cycle(check)]
 fn check_entries<'a>(
     adb: Adb<'a>,
     judged: &mut Judged<'a>,
     kind: Kind,
-    field_number: u16,
+    field_place_in_causes: u16,
     around: &Surroundings<'a>,
     entries: Arr<'a>,
 ) -> Result<Option<u16>, AllocError>
@@ -346,7 +373,7 @@ fn check_entries<'a>(
     requires payload { payload_of judged.old.adb ≡ payload_of adb }
     // On Ok, the result is the number of the first field whose rule is broken, or None.
     ensures place { IfOk result (λ place. bad_text_at place
-        ≡ first_bad_leaf (leaves_of_all_values (leaves (shape_of kind) field_number
+        ≡ first_bad_leaf (leaves_of_all_values (leaves (shape_of kind) field_place_in_causes
         (surroundings_of around.now))
         (values_at (payload_of adb.entry) kind (array_entries entries.entry)))) }
     // The payload of `judged` is unchanged.
@@ -357,7 +384,7 @@ fn check_entries<'a>(
             continue;
         }
         let word = entry_word(entries, i);
-        if let Some(place) = check_value(adb, judged, kind, field_number, around, word)? {
+        if let Some(place) = check_value(adb, judged, kind, field_place_in_causes, around, word)? {
             return Ok(Some(place));
         }
     }
@@ -400,14 +427,21 @@ fn check_fields<'a>(
 {
     let words = object_words(adb, which, object);
     // The number of the field before the next one. The fields of a table count from 1.
-    let mut field_number = 100 * number_of(which);
+    let mut field_place_in_causes = 100 * number_of(which);
     for (i, field) in fields_of(which).iter().enumerate() {
-        field_number += 1;
-        if !has_rule(field.kind, field_number) {
+        field_place_in_causes += 1;
+        if !has_rule(field.kind, field_place_in_causes) {
             continue;
         }
         let word = word_or_null(words, i);
-        if let Some(place) = check_value(adb, judged, field.kind, field_number, around, word)? {
+        if let Some(place) = check_value(
+            adb,
+            judged,
+            field.kind,
+            field_place_in_causes,
+            around,
+            word,
+        )? {
             return Ok(Some(place));
         }
     }
@@ -416,15 +450,15 @@ fn check_fields<'a>(
 
 /// Whether a value of this kind in this field may break a rule: the field, or a field below it, has
 /// one.
-fn has_rule(kind: Kind, field_number: u16) -> bool
+fn has_rule(kind: Kind, field_place_in_causes: u16) -> bool
     // False is returned only if no value of the kind breaks a rule in this field.
-    ensures { result ≡ false → AllowsEachValueOfKind kind field_number }
+    ensures { result ≡ false → AllowsEachValueOfKind kind field_place_in_causes }
 {
     match kind {
-        Kind::Int => field_number == field_numbers::DEP_MATCH,
-        Kind::Text => has_text_rule(field_number),
-        Kind::Hash => has_text_rule(field_number),
-        Kind::TextArr => has_text_rule(field_number),
+        Kind::Int => field_place_in_causes == field_numbers::DEP_MATCH,
+        Kind::Text => has_text_rule(field_place_in_causes),
+        Kind::Hash => has_text_rule(field_place_in_causes),
+        Kind::TextArr => has_text_rule(field_place_in_causes),
         Kind::Obj(which) => has_rule_below(which),
         // Each array of objects is checked, whatever its table.
         Kind::ObjArr(_) => true,
@@ -434,8 +468,8 @@ fn has_rule(kind: Kind, field_number: u16) -> bool
 /// Whether the objects of a table may break a rule.
 fn has_rule_below(which: Which) -> bool
     // False is returned only if no object of the table breaks a rule, in any field.
-    ensures { result ≡ false → (field_number : ℕ)
-        → AllowsEachValueOfKind (Kinds.Obj which) field_number }
+    ensures { result ≡ false → (field_place_in_causes : ℕ)
+        → AllowsEachValueOfKind (Kinds.Obj which) field_place_in_causes }
 {
     match which {
         // No field of these two tables has a rule.
@@ -448,12 +482,12 @@ fn has_rule_below(which: Which) -> bool
 
 /// Whether there is a rule for the texts of a field.
 #[tactic(auto, unfolding(crate::specs::Texts::is_allowed_text_of_field))]
-fn has_text_rule(field_number: u16) -> bool
+fn has_text_rule(field_place_in_causes: u16) -> bool
     // False is returned only if the field allows each text.
-    ensures { result ≡ false → AllowsEachText field_number }
+    ensures { result ≡ false → AllowsEachText field_place_in_causes }
 {
     matches!(
-        field_number,
+        field_place_in_causes,
         field_numbers::DEP_NAME
             | field_numbers::DEP_VERSION
             | field_numbers::INFO_NAME
@@ -469,21 +503,21 @@ fn has_text_rule(field_number: u16) -> bool
     )
 }
 
-/// Checks the number `n`, and returns `field_number` if `n` breaks the rule of this field.
-fn check_number(field_number: u16, n: u64) -> Option<u16>
-    ensures { bad_text_at result ≡ first_bad_leaf (number_leaf field_number n ∷ []) }
+/// Checks the number `n`, and returns `field_place_in_causes` if `n` breaks the rule of this field.
+fn check_number(field_place_in_causes: u16, n: u64) -> Option<u16>
+    ensures { bad_text_at result ≡ first_bad_leaf (number_leaf field_place_in_causes n ∷ []) }
 {
-    if keeps_number_rule(field_number, n) {
+    if keeps_number_rule(field_place_in_causes, n) {
         None
     } else {
-        Some(field_number)
+        Some(field_place_in_causes)
     }
 }
 
-/// Checks the text of a word, and returns `field_number` if the text breaks the rule of this field.
+/// Checks the text of a word, and returns `field_place_in_causes` if the text breaks the rule of this field.
 fn check_text(
     judged: &mut Judged<'_>,
-    field_number: u16,
+    field_place_in_causes: u16,
     around: &Surroundings<'_>,
     word: Val,
     text: &[u8],
@@ -492,14 +526,15 @@ fn check_text(
     requires { text.now ≡ text_at (payload_of judged.old.adb) word }
     // On Ok, the result is the number of the first field whose rule is broken, or None.
     ensures place { IfOk result (λ place. bad_text_at place
-        ≡ first_bad_leaf (text_leaf field_number (surroundings_of around.now) text.now ∷ [])) }
+        ≡ first_bad_leaf (text_leaf field_place_in_causes
+        (surroundings_of around.now) text.now ∷ [])) }
     // The payload of `judged` is unchanged.
     ensures payload { judged.new.adb ≡ judged.old.adb }
 {
-    if keeps_rule_of_field(judged, field_number, around, word, text)? {
+    if keeps_rule_of_field(judged, field_place_in_causes, around, word, text)? {
         Ok(None)
     } else {
-        Ok(Some(field_number))
+        Ok(Some(field_place_in_causes))
     }
 }
 

@@ -11,8 +11,8 @@ use Rattle.adb_block.specs.Container.{CanBlocksBeWrittenAfter}
 use Rattle.adb_block.specs.declared.block.BlockKind.TheVariants as Kinds
 use Rattle.pkg_core.specs.adb_schema.Soundness.{contents_positions}
 use Rattle.pkg_core.specs.Contents.{ExpectedFile, Contents, contents_bytes, contents_block_fault, contents_fault, fault_of_files_read, contents_fault_for_expected_file, files_read_from_blocks, has_positions_of, files_unless_fault, with_contents_of_next}
-use Rattle.pkg_core.specs.GoodContents.{IsContentsOf, AreContentsOf}
-use Rattle.adb_sound.specs.Container.{contents_payload, contents_piece}
+use Rattle.pkg_core.specs.GoodContents.{IsContentsOfExpectedFile, AreContentsOfExpectedFiles}
+use Rattle.adb_sound.specs.Container.{contents_payload, block_of_contents}
 use Rattle.adb_sound.proofs.LaidSizes.{AreShort}
 use Rattle.adb_sound.proofs.Positions.{AreBelow}
 
@@ -52,7 +52,7 @@ pair_again c a b = (from_le_bytes-to_le_bytes_4 c.folder a, from_le_bytes-to_le_
 bytes_again : (c : Contents) → contents_bytes (contents_payload c) ≡ c.bytes
 bytes_again c = refl
 
-file_good : (c : Contents) (e : ExpectedFile) → e.folder < 2 ^ 32 → e.file < 2 ^ 32 → IsContentsOf e c → contents_fault_for_expected_file (contents_payload c) e ≡ None
+file_good : (c : Contents) (e : ExpectedFile) → e.folder < 2 ^ 32 → e.file < 2 ^ 32 → IsContentsOfExpectedFile e c → contents_fault_for_expected_file (contents_payload c) e ≡ None
 file_good c e a b is =
     let folder = is.folder in
     let file = is.file in
@@ -62,29 +62,29 @@ file_good c e a b is =
     let two : eqb (length (contents_bytes (contents_payload c))) e.size ≡ true = eq-eqb _ _ size in
     rw (one, two) is.hash
 
-pub block_good : (c : Contents) (at : ℕ) (e : ExpectedFile) (es : List ExpectedFile) → e.folder < 2 ^ 32 → e.file < 2 ^ 32 → IsContentsOf e c → contents_block_fault (contents_payload c) at (e ∷ es) ≡ None
+pub block_good : (c : Contents) (at : ℕ) (e : ExpectedFile) (es : List ExpectedFile) → e.folder < 2 ^ 32 → e.file < 2 ^ 32 → IsContentsOfExpectedFile e c → contents_block_fault (contents_payload c) at (e ∷ es) ≡ None
 block_good c at e es a b is =
     let t : ltb (length (contents_payload c)) 8 ≡ false = le-ltb _ _ (omega arith) in
     rw t (file_good c e a b is)
 
 -- ---- all of them
 
-pub blocks_good : (es : List ExpectedFile) (cs : List Contents) (r : Reading) → blocks_of_stream r ≡ Ok (map contents_piece cs) → AreBelow (2 ^ 32) es → AreContentsOf es cs → contents_fault es r ≡ None
+pub blocks_good : (es : List ExpectedFile) (cs : List Contents) (r : Reading) → blocks_of_stream r ≡ Ok (map block_of_contents cs) → AreBelow (2 ^ 32) es → AreContentsOfExpectedFiles es cs → contents_fault es r ≡ None
 unfolding files_read_from_blocks
 blocks_good [] [] r p small all = subst (λ (q : Reading). contents_fault [] q ≡ None) (sym (none_of_blocks r p)) refl
 blocks_good [] (c ∷ cs) r p small all = absurd all
 blocks_good (e ∷ es) [] r p small all = absurd all
 blocks_good (e ∷ es) (c ∷ cs) r p small all =
-    let first = first_of r (contents_piece c) (map contents_piece cs) p in
+    let first = first_of r (block_of_contents c) (map block_of_contents cs) p in
     let good = block_good c first.at e es small.0 small.1 all.0 in
     subst (λ (q : Reading). contents_fault (e ∷ es) q ≡ None) (sym first.is)
     (ap (λ (o : Option Cause). fault_of_files_read (files_unless_fault o (with_contents_of_next (contents_payload c) (λ left. files_read_from_blocks left first.later) (e ∷ es)))) good ∙ blocks_good es cs first.later first.others small.2 all.1)
 
 -- and they may follow the value
-more_contents : (cs : List Contents) → AreShort cs → CanBlocksBeWrittenAfter (Some Kinds.Contents) (map contents_piece cs)
+more_contents : (cs : List Contents) → AreShort cs → CanBlocksBeWrittenAfter (Some Kinds.Contents) (map block_of_contents cs)
 more_contents [] short = tt
 more_contents (c ∷ cs) short = (record { order = refl; long = omega arith }, omega (arith, short.0), more_contents cs short.1)
 
-pub contents_stand : (cs : List Contents) → AreShort cs → CanBlocksBeWrittenAfter (Some Kinds.Adb) (map contents_piece cs)
+pub contents_stand : (cs : List Contents) → AreShort cs → CanBlocksBeWrittenAfter (Some Kinds.Adb) (map block_of_contents cs)
 contents_stand [] short = tt
 contents_stand (c ∷ cs) short = (record { order = refl; long = omega arith }, omega (arith, short.0), more_contents cs short.1)

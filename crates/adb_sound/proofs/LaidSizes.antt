@@ -11,8 +11,8 @@ use Rattle.adb_view.specs.Plain.{Plain}
 use Rattle.adb_write.specs.Canonical.{canonical}
 use Rattle.adb_write.specs.File.{adb_block_of_payload}
 use Rattle.pkg_core.specs.Contents.{Contents}
-use Rattle.adb_sound.specs.Contents.{contents_size}
-use Rattle.adb_sound.specs.Container.{contents_payload, contents_piece, container_of_value_and_contents}
+use Rattle.adb_sound.specs.Contents.{total_size_of_file_contents}
+use Rattle.adb_sound.specs.Container.{contents_payload, block_of_contents, container_of_value_and_contents}
 
 -- each block's size fits in its header
 abbrev pub AreShort : List Contents → Type 0
@@ -37,32 +37,32 @@ contents_long : (c : Contents) → length (contents_payload c) ≡ 8 + length c.
 contents_long c = omega (arith, length-append (to_le_bytes w32 c.folder) (to_le_bytes w32 c.file ++ c.bytes), length-append (to_le_bytes w32 c.file) c.bytes)
 
 abbrev laid_blocks : List Contents → List ℕ
-laid_blocks cs = flat_map block_bytes (map contents_piece cs)
+laid_blocks cs = flat_map block_bytes (map block_of_contents cs)
 
-blocks_cons : (c : Contents) (cs : List Contents) → length (laid_blocks (c ∷ cs)) ≡ length (block_bytes (contents_piece c)) + length (laid_blocks cs)
-blocks_cons c cs = ap length (flat_map-cons block_bytes (contents_piece c) (map contents_piece cs)) ∙ length-append (block_bytes (contents_piece c)) (laid_blocks cs)
+blocks_cons : (c : Contents) (cs : List Contents) → length (laid_blocks (c ∷ cs)) ≡ length (block_bytes (block_of_contents c)) + length (laid_blocks cs)
+blocks_cons c cs = ap length (flat_map-cons block_bytes (block_of_contents c) (map block_of_contents cs)) ∙ length-append (block_bytes (block_of_contents c)) (laid_blocks cs)
 
-pub total_held : (cs : List Contents) → contents_size cs ≤ length (laid_blocks cs)
+pub total_held : (cs : List Contents) → total_size_of_file_contents cs ≤ length (laid_blocks cs)
 total_held [] = omega arith
-total_held (c ∷ cs) = omega (arith, blocks_cons c cs, block_long (contents_piece c), contents_long c, total_held cs)
+total_held (c ∷ cs) = omega (arith, blocks_cons c cs, block_long (block_of_contents c), contents_long c, total_held cs)
 
 short_held : (cs : List Contents) → length (laid_blocks cs) + 12 < 2 ^ 64 → AreShort cs
 short_held [] h = tt
 short_held (c ∷ cs) h =
     let more = blocks_cons c cs in
-    let this = block_long (contents_piece c) in
+    let this = block_long (block_of_contents c) in
     let long = contents_long c in
     (omega arith, short_held cs (omega arith))
 
 laid_long : (schema : ℕ) (v : Plain) (cs : List Contents) → 12 + length (laid_blocks cs) ≤ length (container_of_value_and_contents schema v cs)
 laid_long schema v cs =
-    let blocks : List ℕ = flat_map block_bytes (adb_block_of_payload (canonical v) ∷ map contents_piece cs) in
-    let split = ap length (flat_map-cons block_bytes (adb_block_of_payload (canonical v)) (map contents_piece cs)) in
+    let blocks : List ℕ = flat_map block_bytes (adb_block_of_payload (canonical v) ∷ map block_of_contents cs) in
+    let split = ap length (flat_map-cons block_bytes (adb_block_of_payload (canonical v)) (map block_of_contents cs)) in
     let parts = length-append (block_bytes (adb_block_of_payload (canonical v))) (laid_blocks cs) in
     omega (arith, length-append (codes "ADB.") (to_le_bytes w32 schema ++ blocks), length-append (to_le_bytes w32 schema) blocks, split, parts, block_long (adb_block_of_payload (canonical v)))
 
 pub laid_short : (schema : ℕ) (v : Plain) (cs : List Contents) → length (container_of_value_and_contents schema v cs) < 2 ^ 64 → AreShort cs
 laid_short schema v cs h = short_held cs (omega (arith, laid_long schema v cs))
 
-pub laid_total : (schema : ℕ) (v : Plain) (cs : List Contents) → length (container_of_value_and_contents schema v cs) < 2 ^ 64 → contents_size cs < 2 ^ 64
+pub laid_total : (schema : ℕ) (v : Plain) (cs : List Contents) → length (container_of_value_and_contents schema v cs) < 2 ^ 64 → total_size_of_file_contents cs < 2 ^ 64
 laid_total schema v cs h = omega (arith, laid_long schema v cs, total_held cs)

@@ -12,7 +12,7 @@ use Rattle.adb_view.specs.Values.{value_at}
 use Rattle.adb_view.specs.Walk.{shape_fault}
 use Rattle.pkg_core.specs.adb_schema.Texts.{text_or_number_fault}
 use Rattle.pkg_core.specs.adb_fields.Repeated.{repeated_fault}
-use Rattle.pkg_core.specs.adb_schema.Soundness.{payload_fault, root_value}
+use Rattle.pkg_core.specs.adb_schema.Soundness.{payload_fault, root_value_of_payload}
 use Rattle.adb_view.specs.declared.tables.Which.{Which}
 use Rattle.adb_view.specs.declared.tables.Kind.TheVariants.{Obj}
 use Rattle.adb_write.specs.Canonical.{canonical, payload_with_root, Layout, empty_layout, write}
@@ -34,7 +34,7 @@ shape_good laws which v g =
     (laws.faultless (canonical v) (shape_of (Obj which)) (root_word_of_payload (canonical v))).1
     (ap is_some (laws.back (shape_of (Obj which)) v g.normal g.shaped g.fits), omega arith)
 
-pub value_is : Lower → (which : Which) (v : Plain) → IsValidRootValueOfTable which v → root_value which (canonical v) ≡ v
+pub value_is : Lower → (which : Which) (v : Plain) → IsValidRootValueOfTable which v → root_value_of_payload which (canonical v) ≡ v
 unfolding value_at
 value_is laws which v g = ap (λ (o : Option Plain). unwrap_or o null) (laws.back (shape_of (Obj which)) v g.normal g.shaped g.fits)
 

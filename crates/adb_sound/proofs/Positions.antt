@@ -5,7 +5,7 @@ use Rattle.adb_view.specs.Values.{nth, entries_in, entry_in, int_in, text_in}
 use Rattle.pkg_core.specs.adb_fields.Repeated.{list_of, files_in}
 use Rattle.pkg_core.specs.adb_schema.Texts.{is_file_with_contents}
 use Rattle.adb_write.specs.Size.{entries_of, entries_of_all}
-use Rattle.pkg_core.specs.Contents.{ExpectedFile, expected_at, expected_files_of_folder, expected_files_of_folders, expected_files_of_package}
+use Rattle.pkg_core.specs.Contents.{ExpectedFile, expected_file_if_with_contents, expected_files_of_folder, expected_files_of_folders, expected_files_of_package}
 
 -- both positions of each are below n
 abbrev pub AreBelow : ℕ → List ExpectedFile → Type 0
@@ -37,7 +37,7 @@ entry_held v i = omega (arith, held v, nth_held (entries_in v) i)
 
 -- ---- so positions are small
 
-at_below : (n d i : ℕ) (f : Plain) → d < n → i < n → AreBelow n (expected_at d i f)
+at_below : (n d i : ℕ) (f : Plain) → d < n → i < n → AreBelow n (expected_file_if_with_contents d i f)
 at_below n d i f a b = by_contents (is_file_with_contents f)
   where
     by_contents : (c : Bool) → AreBelow n (if c then record { folder = d; file = i; size = int_in (entry_in f 2); hash = text_in (entry_in f 4) } ∷ [] else [])
@@ -47,7 +47,7 @@ at_below n d i f a b = by_contents (is_file_with_contents f)
 files_below : (n d i : ℕ) (vs : Plains) → d < n → i + count_of vs ≤ n → AreBelow n (expected_files_of_folder d i (list_of vs))
 files_below n d i none a b = tt
 files_below n d i (more f vs) a b =
-    below-append n (expected_at d i f) (expected_files_of_folder d (i + 1) (list_of vs)) (at_below n d i f a (omega arith)) (files_below n d (i + 1) vs a (omega arith))
+    below-append n (expected_file_if_with_contents d i f) (expected_files_of_folder d (i + 1) (list_of vs)) (at_below n d i f a (omega arith)) (files_below n d (i + 1) vs a (omega arith))
 
 folders_below : (n d : ℕ) (vs : Plains) → d + count_of vs ≤ n → 1 + entries_of_all vs ≤ n → AreBelow n (expected_files_of_folders d (list_of vs))
 unfolding entries_of entries_of_all

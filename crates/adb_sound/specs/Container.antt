@@ -18,14 +18,14 @@ abbrev pub contents_payload : Contents → List ℕ
 contents_payload c = to_le_bytes w32 c.folder ++ (to_le_bytes w32 c.file ++ c.bytes)
 
 -- the block with the contents of one file
-abbrev pub contents_piece : Contents → Piece
-contents_piece c = record { kind = Kinds.Contents; payload = contents_payload c }
+abbrev pub block_of_contents : Contents → Piece
+block_of_contents c = record { kind = Kinds.Contents; payload = contents_payload c }
 
 -- the container of this schema: first a block with the canonical payload of the value v, then a block for the contents
 -- of each file
 abbrev pub container_of_value_and_contents : ℕ → Plain → List Contents → List ℕ
 container_of_value_and_contents schema v contents =
-    container schema (adb_block_of_payload (canonical v) ∷ map contents_piece contents)
+    container schema (adb_block_of_payload (canonical v) ∷ map block_of_contents contents)
 
 -- a package as its value, and the contents of its files
 abbrev pub package_with_contents_from_parts : Plain → List Contents → PackageWithContents

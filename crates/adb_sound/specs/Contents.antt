@@ -4,6 +4,6 @@ use Rattle.std.specs.Prelude.{ℕ, ◌+◌, List, [], ◌∷◌, length}
 use Rattle.pkg_core.specs.Contents.{Contents}
 
 -- how many bytes the contents of these files have together
-abbrev pub contents_size : List Contents → ℕ
-contents_size [] = 0
-contents_size (c ∷ cs) = length c.bytes + contents_size cs
+abbrev pub total_size_of_file_contents : List Contents → ℕ
+total_size_of_file_contents [] = 0
+total_size_of_file_contents (c ∷ cs) = length c.bytes + total_size_of_file_contents cs

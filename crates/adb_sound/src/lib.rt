@@ -10,18 +10,18 @@
 #![tactic(auto)]
 
 ghost use Rattle.adb_block.specs.Written.{block_bytes};
-ghost use Rattle.pkg_core.specs.adb_schema.Soundness.{payload_in, root_value, schema_word};
+ghost use Rattle.pkg_core.specs.adb_schema.Soundness.{payload_in, root_value_of_payload, schema_word};
 ghost use Rattle.pkg_core.specs.adb_schema.declared.read.TheConstants.{PACKAGE_WORD};
 ghost use Rattle.adb_view.specs.declared.tables.Which.{Which};
 ghost use Rattle.adb_view.specs.declared.tables.Which.TheVariants as Tables;
-ghost use Rattle.adb_sound.specs.Container.{contents_piece, container_of_value_and_contents, package_with_contents_from_parts};
-ghost use Rattle.adb_sound.specs.Contents.{contents_size};
+ghost use Rattle.adb_sound.specs.Container.{block_of_contents, container_of_value_and_contents, package_with_contents_from_parts};
+ghost use Rattle.adb_sound.specs.Contents.{total_size_of_file_contents};
 ghost use Rattle.adb_sound.specs.Root.{IsValidRootValueOfTable};
 ghost use Rattle.adb_view.specs.Plain.{Plain};
 ghost use Rattle.adb_write.specs.Canonical.{canonical};
 ghost use Rattle.adb_write.specs.File.{file_of};
 ghost use Rattle.pkg_core.specs.Contents.{Contents, expected_files_of_package};
-ghost use Rattle.pkg_core.specs.GoodContents.{AreContentsOf};
+ghost use Rattle.pkg_core.specs.GoodContents.{AreContentsOfExpectedFiles};
 ghost use Rattle.pkg_core.specs.Whole.{container_fault, package_with_contents};
 ghost use Rattle.std.specs.List.{flat_map};
 ghost use Rattle.std.specs.Prelude.{◌≡◌, ◌≢◌, ◌<◌, ◌≤◌, ◌^◌, ℕ, List, length, map, Some, None};
@@ -51,7 +51,7 @@ pub fn a_container_of_a_good_value_is_sound()
 pub fn a_package_of_a_good_value_and_its_contents_is_sound()
     ensures { (v : Plain) (contents : List Contents)
         → IsValidRootValueOfTable Tables.Package v
-        → AreContentsOf (expected_files_of_package v) contents
+        → AreContentsOfExpectedFiles (expected_files_of_package v) contents
         → length (container_of_value_and_contents PACKAGE_WORD v contents) < 2 ^ 64
         → container_fault (container_of_value_and_contents PACKAGE_WORD v contents) ≡ None }
 {
@@ -68,11 +68,12 @@ pub fn a_package_of_a_good_value_and_its_contents_is_sound()
 pub fn contents_are_in_their_container()
     // The contents have at most as many bytes as their blocks.
     ensures blocks { (contents : List Contents)
-        → contents_size contents ≤ length (flat_map block_bytes (map contents_piece contents)) }
+        → total_size_of_file_contents contents ≤ length (flat_map block_bytes
+        (map block_of_contents contents)) }
     // In a container of fewer than 2^64 bytes, the contents have fewer than 2^64 bytes.
     ensures container { (schema : ℕ) (v : Plain) (contents : List Contents)
         → length (container_of_value_and_contents schema v contents) < 2 ^ 64
-        → contents_size contents < 2 ^ 64 }
+        → total_size_of_file_contents contents < 2 ^ 64 }
 {}
 
 /// A law: what a container was made from is read back: its value, and for a package also the
@@ -81,11 +82,11 @@ pub fn what_a_container_is_made_of_is_read_back()
     // The value of a container without contents is read back.
     ensures value { (which : Which) (schema : ℕ) (v : Plain)
         → schema_word which ≡ Some schema → IsValidRootValueOfTable which v
-        → root_value which (payload_in (file_of schema (canonical v))) ≡ v }
+        → root_value_of_payload which (payload_in (file_of schema (canonical v))) ≡ v }
     // The value and the contents of a package are read back.
     ensures contents { (v : Plain) (contents : List Contents)
         → IsValidRootValueOfTable Tables.Package v
-        → AreContentsOf (expected_files_of_package v) contents
+        → AreContentsOfExpectedFiles (expected_files_of_package v) contents
         → length (container_of_value_and_contents PACKAGE_WORD v contents) < 2 ^ 64
         → package_with_contents (container_of_value_and_contents PACKAGE_WORD v contents)
         ≡ package_with_contents_from_parts v contents }

@@ -1,7 +1,7 @@
 -- A draft of one value ends with what the writer makes of it.
 use Rattle.std.proofs.Common.{◌≡◌, ◌≤◌, ℕ, List, [], ◌∷◌, length, Result, Ok, Err, IfOk, sym, ap, subst, ◌∙◌, inl, inr, arith}
 use Rattle.adb_view.specs.Plain.{Plain}
-use Rattle.adb_write.specs.Canonical.{PayloadCounts, MOST_BYTES, canonical, empty_layout, end_offset, layout_counts, or_overflow, counts_after_values, write, payload_or_overflow}
+use Rattle.adb_write.specs.Canonical.{ByteAndValueCounts, MOST_BYTES, canonical, empty_layout, end_offset, layout_counts, payload_unless_overflow, counts_after_values, write, payload_or_overflow}
 use Rattle.adb_write.specs.DepthFirst.{WritesValue}
 use Rattle.adb_write.specs.WriterState.{IsFinishResult}
 use Rattle.adb_write.specs.Writing.{Writing, calls, empty_writing, finish_result}
@@ -23,7 +23,7 @@ only_value v w words starts root is root_is =
     let later : w ≡ (calls v empty_writing).1 = ap (λ (d : DraftState). d.writing) is in
     record { is = ap (λ (k : ℕ). (k, w)) word ∙ ap (λ (e : Writing). (x, e)) later }
 
-told : {A : Type 0} (view : A → List ℕ) (w : Writing) (r : Result A WriteFault) (answer : Result (List ℕ) PayloadCounts) → IsFinishResult view w r answer → IsWrittenAs view r answer
+told : {A : Type 0} (view : A → List ℕ) (w : Writing) (r : Result A WriteFault) (answer : Result (List ℕ) ByteAndValueCounts) → IsFinishResult view w r answer → IsWrittenAs view r answer
 told view w (Ok payload) answer h = h
 told view w (Err (TooLarge bytes values)) answer h = h
 told view w (Err Memory) answer h = tt
@@ -31,7 +31,7 @@ told view w (Err Memory) answer h = tt
 pub finishes : {A : Type 0} (view : A → List ℕ) (v : Plain) (w : Writing) (words starts : List ℕ) (root : ℕ) (r : Result A WriteFault)
     → draft_from_parts w words starts ≡ draft_with v empty_draft → root ≡ last_word words → IsFinishResult view w r (finish_result root w) → IsWrittenAs view r (payload_or_overflow v)
 finishes view v w words starts root r is root_is h =
-    told view w r (payload_or_overflow v) (subst (λ (a : Result (List ℕ) PayloadCounts). IsFinishResult view w r a) (writes_finished v root w (only_value v w words starts root is root_is)) h)
+    told view w r (payload_or_overflow v) (subst (λ (a : Result (List ℕ) ByteAndValueCounts). IsFinishResult view w r a) (writes_finished v root w (only_value v w words starts root is root_is)) h)
 
 -- what is written within the limits is short
 pub payload_small : (v : Plain) (payload : List ℕ) → payload_or_overflow v ≡ Ok payload → length payload ≤ MOST_BYTES
@@ -43,9 +43,9 @@ payload_small v payload is = go (calls-end v empty_layout start_fine)
         let within = a.3 in
         let fits : end_offset (write v empty_layout).1 ≤ MOST_BYTES = fits_of (layout_counts (write v empty_layout).1) within.fine in
         let size : end_offset (write v empty_layout).1 ≡ length (canonical v) = omega arith in
-        let same : payload ≡ canonical v = (let e = sym is ∙ ap (or_overflow (canonical v)) a.0 in cc) in
+        let same : payload ≡ canonical v = (let e = sym is ∙ ap (payload_unless_overflow (canonical v)) a.0 in cc) in
         subst (λ (p : List ℕ). length p ≤ MOST_BYTES) (sym same) (subst (λ (k : ℕ). k ≤ MOST_BYTES) size fits)
-    go (inr b) = absurd (let e = sym is ∙ ap (or_overflow (canonical v)) b.1 in cc)
+    go (inr b) = absurd (let e = sym is ∙ ap (payload_unless_overflow (canonical v)) b.1 in cc)
 
 pub finish_small : {A : Type 0} (view : A → List ℕ) (v : Plain) (r : Result A WriteFault) → IsWrittenAs view r (payload_or_overflow v) → IfOk r (λ payload. length (view payload) ≤ MOST_BYTES)
 finish_small view v (Ok payload) h = payload_small v (view payload) h

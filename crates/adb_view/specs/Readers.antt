@@ -50,13 +50,15 @@ blob_of payload word =
 
 -- the entries of a run at the offset `at`, given the first word of the run: this is the number of its words, including
 -- the first one. None if the number is 0, or the words are not within the payload
-abbrev pub run_entries_for_count : List ℕ → ℕ → ℕ → Option (List ℕ)
-run_entries_for_count payload at zero = None
-run_entries_for_count payload at (suc n) = option_map (words n) (bytes_at_with_len payload (at + 4) (4 * n))
+abbrev pub run_entries_at_with_word_count : List ℕ → ℕ → ℕ → Option (List ℕ)
+run_entries_at_with_word_count payload at zero = None
+run_entries_at_with_word_count payload at (suc n) =
+    option_map (words n) (bytes_at_with_len payload (at + 4) (4 * n))
 
 -- the entries of the run at the offset `at`; the first word of the run is the number of its words
 abbrev pub run_entries_at : List ℕ → ℕ → Option (List ℕ)
-run_entries_at payload at = option_and_then (run_entries_for_count payload at) (number_at w32 payload at)
+run_entries_at payload at =
+    option_and_then (run_entries_at_with_word_count payload at) (number_at w32 payload at)
 
 -- the entries of the array or object to which `word` refers; the word must have the kind `kind` (13 or 14). NULL has
 -- no entries

@@ -8,12 +8,12 @@ use Rattle.std.proofs.lemmas.List.{take_at, drop_at, length-append, length-drop,
 use Rattle.std.proofs.lemmas.Slice.Eq.{bytes_eq-Decides}
 use Rattle.adb_view.specs.Plain.{Plain, null, int, blob, arr, obj, Plains, none, more, IsNormal, AreNormal, count_of}
 use Rattle.adb_view.specs.Readers.{ARRAY, OBJECT}
-use Rattle.adb_write.specs.Canonical.{padding_to_alignment, Item, WrittenItem, Cell, in_place, apart, int_item, int_cell, blob_item, blob_cell, run_bytes, run_item, run_cell, words_without_last_nulls, Layout, empty_layout, end_offset, is_equal_item, word_of_written_item, put_new_item, put_item_unless_written, put_item, put_cell, put_run, write, write_all, payload_with_root, MOST_BYTES}
+use Rattle.adb_write.specs.Canonical.{padding_to_alignment_from_offset, Item, WrittenItem, Cell, in_place, apart, int_item, int_cell, blob_item, blob_cell, run_bytes, run_item, run_cell, words_without_last_nulls, Layout, empty_layout, end_offset, is_equal_item, word_of_written_item, word_and_layout_with_new_item, word_and_layout_with_item_unless_written, word_and_layout_with_item, word_and_layout_with_cell, word_and_layout_with_run, write, write_all, payload_with_root, MOST_BYTES}
 use Rattle.adb_write.specs.Again.{len_of_length_field, HasLengthInFront, IsItemInBytes, HasItemsInBytes, item_len_from_front}
 use Rattle.adb_write.specs.Size.{entries_of, entries_of_all, with_value_count_raised}
 use Rattle.adb_write.proofs.Found.{equal_kind, equal_bytes, equal_within}
 use Rattle.adb_write.proofs.Placed.{wide8, wide16, wide32, wide64}
-use Rattle.adb_write.proofs.RoundTrip.{Grows-here, put_run-grows, write-grows, write_all-grows, write_all-made, words_stay, item_within}
+use Rattle.adb_write.proofs.RoundTrip.{Grows-here, word_and_layout_with_run-grows, write-grows, write_all-grows, write_all-made, words_stay, item_within}
 use Rattle.adb_write.proofs.StoredWords.{blob_long, run_long}
 use Rattle.adb_write.proofs.Overflow.{entries_in, int_entries, blob_entries, run_entries, words_count}
 
@@ -88,19 +88,19 @@ int_cell_framed n = go (ltb n (2 ^ 28))
     go true = tt
     go false = int_framed n
 
-pub blob_cell_framed : (b : List ℕ) (out : Layout) → end_offset (put_cell (blob_cell b) out).1 ≤ MOST_BYTES → IsFramedCell (blob_cell b)
+pub blob_cell_framed : (b : List ℕ) (out : Layout) → end_offset (word_and_layout_with_cell (blob_cell b) out).1 ≤ MOST_BYTES → IsFramedCell (blob_cell b)
 blob_cell_framed [] out fits = tt
 blob_cell_framed (x ∷ xs) out fits =
     let long = blob_long (x ∷ xs) in
     blob_framed (x ∷ xs) (omega (arith, item_within (blob_item (x ∷ xs)) out (omega arith)))
 
-pub array_cell_framed : (ws : List ℕ) (out : Layout) → end_offset (put_run ARRAY ws out).1 ≤ MOST_BYTES → IsFramedCell (run_cell ARRAY ws)
+pub array_cell_framed : (ws : List ℕ) (out : Layout) → end_offset (word_and_layout_with_run ARRAY ws out).1 ≤ MOST_BYTES → IsFramedCell (run_cell ARRAY ws)
 array_cell_framed [] out fits = tt
 array_cell_framed (w ∷ ws) out fits =
     let long = run_long (w ∷ ws) in
     array_framed (w ∷ ws) (omega (arith, item_within (run_item ARRAY (w ∷ ws)) out (omega arith)))
 
-pub object_cell_framed : (ws : List ℕ) (out : Layout) → end_offset (put_run OBJECT ws out).1 ≤ MOST_BYTES → IsFramedCell (run_cell OBJECT ws)
+pub object_cell_framed : (ws : List ℕ) (out : Layout) → end_offset (word_and_layout_with_run OBJECT ws out).1 ≤ MOST_BYTES → IsFramedCell (run_cell OBJECT ws)
 object_cell_framed [] out fits = tt
 object_cell_framed (w ∷ ws) out fits =
     let long = run_long (w ∷ ws) in
@@ -169,20 +169,20 @@ keeps_then a b c p q = record { found = λ i x f e. q.found i x f (p.found i x f
 -- ---- one item more
 
 abbrev added : Item → Layout → List ℕ
-added i out = replicate (padding_to_alignment i.align (end_offset out)) 0 ++ i.bytes
+added i out = replicate (padding_to_alignment_from_offset i.align (end_offset out)) 0 ++ i.bytes
 
 abbrev new_item : Item → Layout → WrittenItem
-new_item i out = record { kind = i.kind; offset = length out.body + padding_to_alignment i.align (end_offset out) }
+new_item i out = record { kind = i.kind; offset = length out.body + padding_to_alignment_from_offset i.align (end_offset out) }
 
 new_equal : (i : Item) (out : Layout) → is_equal_item (out.body ++ added i out) i (new_item i out) ≡ true
 new_equal i out =
-    let zeros : List ℕ = replicate (padding_to_alignment i.align (end_offset out)) 0 in
-    let at : length (out.body ++ zeros) ≡ length out.body + padding_to_alignment i.align (end_offset out) = omega (arith, length-append out.body zeros, length-replicate {A = ℕ} (padding_to_alignment i.align (end_offset out)) 0) in
+    let zeros : List ℕ = replicate (padding_to_alignment_from_offset i.align (end_offset out)) 0 in
+    let at : length (out.body ++ zeros) ≡ length out.body + padding_to_alignment_from_offset i.align (end_offset out) = omega (arith, length-append out.body zeros, length-replicate {A = ℕ} (padding_to_alignment_from_offset i.align (end_offset out)) 0) in
     is_equal (out.body ++ added i out) i (new_item i out) refl
-    (ap (λ (x : List ℕ). take (length i.bytes) (drop (length out.body + padding_to_alignment i.align (end_offset out)) x)) (sym (append_assoc out.body zeros i.bytes))
-    ∙ ap (take (length i.bytes)) (drop_at (out.body ++ zeros) i.bytes (length out.body + padding_to_alignment i.align (end_offset out)) at) ∙ take_all (length i.bytes) i.bytes (omega arith))
+    (ap (λ (x : List ℕ). take (length i.bytes) (drop (length out.body + padding_to_alignment_from_offset i.align (end_offset out)) x)) (sym (append_assoc out.body zeros i.bytes))
+    ∙ ap (take (length i.bytes)) (drop_at (out.body ++ zeros) i.bytes (length out.body + padding_to_alignment_from_offset i.align (end_offset out)) at) ∙ take_all (length i.bytes) i.bytes (omega arith))
 
-new_whole : (i : Item) (out : Layout) → HasLengthInFront i → HasItemsInBytes out → HasItemsInBytes (put_new_item i out).1
+new_whole : (i : Item) (out : Layout) → HasLengthInFront i → HasItemsInBytes out → HasItemsInBytes (word_and_layout_with_new_item i out).1
 new_whole i out f w = record {
   all = (
     record { what = i; framed = f; equal = new_equal i out },
@@ -190,7 +190,7 @@ new_whole i out f w = record {
   );
 }
 
-new_keeps : (i : Item) (out : Layout) → HasLengthInFront i → HasItemsInBytes out → find (is_equal_item out.body i) out.items ≡ None → Keeps out (put_new_item i out).1
+new_keeps : (i : Item) (out : Layout) → HasLengthInFront i → HasItemsInBytes out → find (is_equal_item out.body i) out.items ≡ None → Keeps out (word_and_layout_with_new_item i out).1
 new_keeps i out f w absent = record { found = λ j x g e. go j x g e (is_equal_item (out.body ++ added i out) j (new_item i out)) refl }
   where
     go : (j : Item) (x : WrittenItem) → HasLengthInFront j → find (is_equal_item out.body j) out.items ≡ Some x → (b : Bool) → is_equal_item (out.body ++ added i out) j (new_item i out) ≡ b
@@ -208,14 +208,14 @@ pub record Stays (out later : Layout) : Type 0 where
   pub whole : HasItemsInBytes later
   pub keeps : Keeps out later
 
-put_item_stays : (i : Item) (out : Layout) → HasLengthInFront i → HasItemsInBytes out → Stays out (put_item i out).1
+put_item_stays : (i : Item) (out : Layout) → HasLengthInFront i → HasItemsInBytes out → Stays out (word_and_layout_with_item i out).1
 put_item_stays i out f w = go (find (is_equal_item out.body i) out.items) refl
   where
-    go : (found : Option WrittenItem) → find (is_equal_item out.body i) out.items ≡ found → Stays out (put_item_unless_written found i out).1
+    go : (found : Option WrittenItem) → find (is_equal_item out.body i) out.items ≡ found → Stays out (word_and_layout_with_item_unless_written found i out).1
     go None e = record { whole = new_whole i out f w; keeps = new_keeps i out f w e }
     go (Some there) e = record { whole = record { all = w.all }; keeps = record { found = λ j x g h. h } }
 
-pub put_cell_stays : (c : Cell) (out : Layout) → IsFramedCell c → HasItemsInBytes out → Stays out (put_cell c out).1
+pub put_cell_stays : (c : Cell) (out : Layout) → IsFramedCell c → HasItemsInBytes out → Stays out (word_and_layout_with_cell c out).1
 put_cell_stays (in_place word) out f w = record { whole = w; keeps = keeps_itself out }
 put_cell_stays (apart i) out f w = put_item_stays i out f w
 
@@ -225,10 +225,10 @@ pub record IsFoundAgain (i : Item) (r : ℕ × Layout) : Type 0 where
   pub is : find (is_equal_item r.1.body i) r.1.items ≡ Some item
   pub word : word_of_written_item item ≡ r.0
 
-pub put_item_found : (i : Item) (out : Layout) → IsFoundAgain i (put_item i out)
+pub put_item_found : (i : Item) (out : Layout) → IsFoundAgain i (word_and_layout_with_item i out)
 put_item_found i out = go (find (is_equal_item out.body i) out.items) refl
   where
-    go : (found : Option WrittenItem) → find (is_equal_item out.body i) out.items ≡ found → IsFoundAgain i (put_item_unless_written found i out)
+    go : (found : Option WrittenItem) → find (is_equal_item out.body i) out.items ≡ found → IsFoundAgain i (word_and_layout_with_item_unless_written found i out)
     go None e =
         let t = new_equal i out in
         record { item = new_item i out; is = ap (λ (b : Bool). cond b (Some (new_item i out)) (find (is_equal_item (out.body ++ added i out) i) out.items)) t; word = omega arith }
@@ -242,15 +242,15 @@ with_none out = ap (λ (n : ℕ). record out { values = n }) (omega arith)
 with_both : (m n : ℕ) (out : Layout) → with_value_count_raised n (with_value_count_raised m out) ≡ with_value_count_raised (n + m) out
 with_both m n out = ap (λ (k : ℕ). record out { values = k }) (omega arith)
 
-cell_again : (c : Cell) (out later : Layout) → IsFramedCell c → Keeps (put_cell c out).1 later → put_cell c later ≡ ((put_cell c out).0, with_value_count_raised (entries_in c) later)
+cell_again : (c : Cell) (out later : Layout) → IsFramedCell c → Keeps (word_and_layout_with_cell c out).1 later → word_and_layout_with_cell c later ≡ ((word_and_layout_with_cell c out).0, with_value_count_raised (entries_in c) later)
 cell_again (in_place word) out later f k = ap (λ (l : Layout). (word, l)) (with_none later)
 cell_again (apart i) out later f k =
     let found = put_item_found i out in
-    ap (λ (o : Option WrittenItem). put_item_unless_written o i later) (k.found i found.item f found.is) ∙ ap (λ (word : ℕ). (word, with_value_count_raised i.entries later)) found.word
+    ap (λ (o : Option WrittenItem). word_and_layout_with_item_unless_written o i later) (k.found i found.item f found.is) ∙ ap (λ (word : ℕ). (word, with_value_count_raised i.entries later)) found.word
 
 -- the entries of a cell, as a value counts them
-cell_counts : (c : Cell) (out later : Layout) (n : ℕ) → entries_in c ≡ n → IsFramedCell c → Keeps (put_cell c out).1 later → put_cell c later ≡ ((put_cell c out).0, with_value_count_raised n later)
-cell_counts c out later n e f k = cell_again c out later f k ∙ ap (λ (m : ℕ). ((put_cell c out).0, with_value_count_raised m later)) e
+cell_counts : (c : Cell) (out later : Layout) (n : ℕ) → entries_in c ≡ n → IsFramedCell c → Keeps (word_and_layout_with_cell c out).1 later → word_and_layout_with_cell c later ≡ ((word_and_layout_with_cell c out).0, with_value_count_raised n later)
+cell_counts c out later n e f k = cell_again c out later f k ∙ ap (λ (m : ℕ). ((word_and_layout_with_cell c out).0, with_value_count_raised m later)) e
 
 mutual
   unfolding write
@@ -261,14 +261,14 @@ mutual
   write_stays (blob b) out w fits = put_cell_stays (blob_cell b) out (blob_cell_framed b out fits) w
   write_stays (arr vs) out w fits =
       let r = write_all vs out in
-      let s = write_all_stays vs out w (le_trans (Grows-here _ _ (put_run-grows ARRAY r.0 r.1)) fits) in
+      let s = write_all_stays vs out w (le_trans (Grows-here _ _ (word_and_layout_with_run-grows ARRAY r.0 r.1)) fits) in
       let t = put_cell_stays (run_cell ARRAY r.0) r.1 (array_cell_framed r.0 r.1 fits) s.whole in
-      record { whole = t.whole; keeps = keeps_then out r.1 (put_run ARRAY r.0 r.1).1 s.keeps t.keeps }
+      record { whole = t.whole; keeps = keeps_then out r.1 (word_and_layout_with_run ARRAY r.0 r.1).1 s.keeps t.keeps }
   write_stays (obj vs) out w fits =
       let r = write_all vs out in
-      let s = write_all_stays vs out w (le_trans (Grows-here _ _ (put_run-grows OBJECT (words_without_last_nulls r.0) r.1)) fits) in
+      let s = write_all_stays vs out w (le_trans (Grows-here _ _ (word_and_layout_with_run-grows OBJECT (words_without_last_nulls r.0) r.1)) fits) in
       let t = put_cell_stays (run_cell OBJECT (words_without_last_nulls r.0)) r.1 (object_cell_framed (words_without_last_nulls r.0) r.1 fits) s.whole in
-      record { whole = t.whole; keeps = keeps_then out r.1 (put_run OBJECT (words_without_last_nulls r.0) r.1).1 s.keeps t.keeps }
+      record { whole = t.whole; keeps = keeps_then out r.1 (word_and_layout_with_run OBJECT (words_without_last_nulls r.0) r.1).1 s.keeps t.keeps }
 
   write_all_stays : (vs : Plains) (out : Layout) → HasItemsInBytes out → end_offset (write_all vs out).1 ≤ MOST_BYTES → Stays out (write_all vs out).1
   write_all_stays none out w fits = record { whole = w; keeps = keeps_itself out }
@@ -286,28 +286,28 @@ mutual
   write_again (blob b) out later n w fits k = cell_counts (blob_cell b) out later 0 (blob_entries b) (blob_cell_framed b out fits) k
   write_again (arr vs) out later n w fits k =
       let r = write_all vs out in
-      let within = le_trans (Grows-here _ _ (put_run-grows ARRAY r.0 r.1)) fits in
+      let within = le_trans (Grows-here _ _ (word_and_layout_with_run-grows ARRAY r.0 r.1)) fits in
       let s = write_all_stays vs out w within in
       let f = array_cell_framed r.0 r.1 fits in
       let t = put_cell_stays (run_cell ARRAY r.0) r.1 f s.whole in
-      let all = write_all_again vs out later n.1 w within (keeps_then r.1 (put_run ARRAY r.0 r.1).1 later t.keeps k) in
+      let all = write_all_again vs out later n.1 w within (keeps_then r.1 (word_and_layout_with_run ARRAY r.0 r.1).1 later t.keeps k) in
       let further : Layout = with_value_count_raised (entries_of_all vs) later in
-      ap (λ (q : List ℕ × Layout). put_run ARRAY q.0 q.1) all
+      ap (λ (q : List ℕ × Layout). word_and_layout_with_run ARRAY q.0 q.1) all
       ∙ cell_counts (run_cell ARRAY r.0) r.1 further (count_of vs) (run_entries ARRAY r.0 ∙ words_count vs out) f (record { found = k.found })
-      ∙ ap (λ (l : Layout). ((put_run ARRAY r.0 r.1).0, l)) (with_both (entries_of_all vs) (count_of vs) later)
+      ∙ ap (λ (l : Layout). ((word_and_layout_with_run ARRAY r.0 r.1).0, l)) (with_both (entries_of_all vs) (count_of vs) later)
   write_again (obj vs) out later n w fits k =
       let r = write_all vs out in
-      let within = le_trans (Grows-here _ _ (put_run-grows OBJECT (words_without_last_nulls r.0) r.1)) fits in
+      let within = le_trans (Grows-here _ _ (word_and_layout_with_run-grows OBJECT (words_without_last_nulls r.0) r.1)) fits in
       let s = write_all_stays vs out w within in
       let made = write_all-made vs out n.2 within in
       let stay : words_without_last_nulls r.0 ≡ r.0 = words_stay (payload_with_root 0 r.1) vs r.0 n.1 (made.0 0) in
       let f = object_cell_framed (words_without_last_nulls r.0) r.1 fits in
       let t = put_cell_stays (run_cell OBJECT (words_without_last_nulls r.0)) r.1 f s.whole in
-      let all = write_all_again vs out later n.2 w within (keeps_then r.1 (put_run OBJECT (words_without_last_nulls r.0) r.1).1 later t.keeps k) in
+      let all = write_all_again vs out later n.2 w within (keeps_then r.1 (word_and_layout_with_run OBJECT (words_without_last_nulls r.0) r.1).1 later t.keeps k) in
       let further : Layout = with_value_count_raised (entries_of_all vs) later in
-      ap (λ (q : List ℕ × Layout). put_run OBJECT (words_without_last_nulls q.0) q.1) all
+      ap (λ (q : List ℕ × Layout). word_and_layout_with_run OBJECT (words_without_last_nulls q.0) q.1) all
       ∙ cell_counts (run_cell OBJECT (words_without_last_nulls r.0)) r.1 further (count_of vs) (run_entries OBJECT (words_without_last_nulls r.0) ∙ ap length stay ∙ words_count vs out) f (record { found = k.found })
-      ∙ ap (λ (l : Layout). ((put_run OBJECT (words_without_last_nulls r.0) r.1).0, l)) (with_both (entries_of_all vs) (count_of vs) later)
+      ∙ ap (λ (l : Layout). ((word_and_layout_with_run OBJECT (words_without_last_nulls r.0) r.1).0, l)) (with_both (entries_of_all vs) (count_of vs) later)
 
   write_all_again : (vs : Plains) (out later : Layout) → AreNormal vs → HasItemsInBytes out → end_offset (write_all vs out).1 ≤ MOST_BYTES → Keeps (write_all vs out).1 later → write_all vs later ≡ ((write_all vs out).0, with_value_count_raised (entries_of_all vs) later)
   write_all_again none out later n w fits k = ap (λ (l : Layout). ([], l)) (with_none later)

@@ -3,7 +3,7 @@ use Rattle.std.proofs.Common.{◌≡◌, ℕ, ◌+◌, ◌-◌, ◌*◌, ◌^◌
 use Rattle.std.specs.List.{concat}
 use Rattle.std.proofs.lemmas.List.{append-nil, length-append, length-replicate, length-drop, drop-drop, drop_at, take_at}
 use Rattle.adb_view.specs.Readers.{kind_of_word, low_28_bits}
-use Rattle.adb_write.specs.Canonical.{padding_to_alignment, Item, WrittenItem, MOST_BYTES}
+use Rattle.adb_write.specs.Canonical.{padding_to_alignment_from_offset, Item, WrittenItem, MOST_BYTES}
 use Rattle.adb_write.specs.Items.{item_of, HasNumbersInRange}
 use Rattle.adb_write.specs.declared.item.Parts.{Parts}
 use Rattle.adb_write.specs.declared.word_pages.Slot.{Slot}
@@ -40,7 +40,7 @@ new_there p new bytes g at h is =
     ap (λ (k : ℕ). drop k new) (is ∙ omega arith) ∙ sym (drop-drop (length body + g) 8 new) ∙ ap (drop (length body + g)) parted ∙ drop_at (body ++ zeros) bytes (length body + g) front in
     ap (take (length bytes)) (far ∙ sym (append-nil bytes)) ∙ take_at bytes [] (length bytes) refl
 
-pub appended : (p new : List ℕ) (pages new_pages : List (List ℕ)) (parts : Parts) (slot : Slot) (bytes g w : ℕ) → IsEmptyOrHasHead p → bytes ≡ 8 + length (drop 8 p) → g ≡ padding_to_alignment (item_of parts).align bytes
+pub appended : (p new : List ℕ) (pages new_pages : List (List ℕ)) (parts : Parts) (slot : Slot) (bytes g w : ℕ) → IsEmptyOrHasHead p → bytes ≡ 8 + length (drop 8 p) → g ≡ padding_to_alignment_from_offset (item_of parts).align bytes
     → HaveRisingKeys p (concat pages) → AreStored p (concat pages) → HasNumbersInRange parts → bytes + g + length (item_of parts).bytes ≤ MOST_BYTES → IsBetween p pages (key_of parts) slot
     → new ≡ p ++ (replicate (bytes + g - length p) 0 ++ (item_of parts).bytes)
     → concat new_pages ≡ locators_before_slot pages slot.page slot.index ++ w ∷ locators_from_slot pages slot.page slot.index
@@ -60,7 +60,7 @@ appended p new pages new_pages parts slot bytes g w head agree gap_is rising sto
     let small = parts_small parts room (omega arith) in
     let old_stored : AreStored p (before ++ behind) = subst (AreStored p) (sym whole) stored in
     let old_rising : HaveRisingKeys p (before ++ behind) = subst (HaveRisingKeys p) (sym whole) rising in
-    let first : written_item w ≡ written_at i (drop 8 p) = same_item (kind_of_word (word_of_locator w)) i.kind (low_28_bits (word_of_locator w) - 8) (length (drop 8 p) + padding_to_alignment i.align (8 + length (drop 8 p))) kind (omega (arith, ap (padding_to_alignment i.align) agree)) in
+    let first : written_item w ≡ written_at i (drop 8 p) = same_item (kind_of_word (word_of_locator w)) i.kind (low_28_bits (word_of_locator w) - 8) (length (drop 8 p) + padding_to_alignment_from_offset i.align (8 + length (drop 8 p))) kind (omega (arith, ap (padding_to_alignment_from_offset i.align) agree)) in
     record {
       rising = subst (λ (x : List ℕ). HaveRisingKeys x (concat new_pages)) (sym new_is) (subst (HaveRisingKeys (p ++ q)) (sym words_are) (rising_new p q (key_of parts) w before behind old_stored old_rising (parts_key (p ++ q) w parts small print kind behind_head there) between.lower between.higher));
       stored = subst (λ (x : List ℕ). AreStored x (concat new_pages)) (sym new_is) (subst (AreStored (p ++ q)) (sym words_are) (stored_with p q w before behind old_stored (parts_stored (p ++ q) w parts small print kind behind_head there)));

@@ -2,7 +2,7 @@
 use Rattle.std.proofs.Common.{◌≡◌, ℕ, ◌+◌, ◌<◌, ◌≤◌, Bool, true, false, cond, List, [], ◌∷◌, ◌++◌, length, replicate, Option, Some, None, refl, sym, ap, subst, ◌∙◌, length-append, arith}
 use Rattle.std.specs.Prelude.{find}
 use Rattle.adb_view.specs.Readers.{ARRAY, OBJECT}
-use Rattle.adb_write.specs.Canonical.{padding_to_alignment, Item, WrittenItem, Cell, in_place, apart, int_cell, blob_item, blob_cell, run_cell, words_without_last_nulls, Layout, end_offset, is_equal_item, word_of_written_item, put_item_unless_written, put_item, layout_counts, exceeds_a_limit, MOST_BYTES}
+use Rattle.adb_write.specs.Canonical.{padding_to_alignment_from_offset, Item, WrittenItem, Cell, in_place, apart, int_cell, blob_item, blob_cell, run_cell, words_without_last_nulls, Layout, end_offset, is_equal_item, word_of_written_item, word_and_layout_with_item_unless_written, word_and_layout_with_item, layout_counts, exceeds_a_limit, MOST_BYTES}
 use Rattle.adb_write.specs.Writing.{Writing, empty_writing, writing_from_parts, is_past_limit, layout_of, writing_of, unless_past_limit, call, int_call, blob_call, arr_call, obj_call}
 use Rattle.adb_write.specs.Again.{HasAllItemsUnlessPastLimit, HasLengthInFront, HasItemsInBytes, HasAllItemsInBytes, IsWordOfBlob}
 use Rattle.adb_write.proofs.Again.{array_cell_framed, blob_cell_framed, blob_framed, int_cell_framed, IsFoundAgain, IsFramedCell, Keeps, nothing_whole, object_cell_framed, put_cell_stays, put_item_found}
@@ -24,10 +24,10 @@ call_bytes (apart i) w e o = go (is_past_limit w) o
     past true r q f = absurd cc
     past false r q f = refl
 
-    go : (b : Bool) → is_past_limit (cond {A = ℕ × Writing} b (0, w) (unless_past_limit w (put_item i (layout_of w)))).1 ≡ false
-        → (cond {A = ℕ × Writing} b (0, w) (unless_past_limit w (put_item i (layout_of w)))).1.bytes ≡ 8 + length (cond {A = ℕ × Writing} b (0, w) (unless_past_limit w (put_item i (layout_of w)))).1.body
+    go : (b : Bool) → is_past_limit (cond {A = ℕ × Writing} b (0, w) (unless_past_limit w (word_and_layout_with_item i (layout_of w)))).1 ≡ false
+        → (cond {A = ℕ × Writing} b (0, w) (unless_past_limit w (word_and_layout_with_item i (layout_of w)))).1.bytes ≡ 8 + length (cond {A = ℕ × Writing} b (0, w) (unless_past_limit w (word_and_layout_with_item i (layout_of w)))).1.body
     go true f = e
-    go false f = past (exceeds_a_limit (layout_counts (put_item i (layout_of w)).1)) (put_item i (layout_of w)) refl f
+    go false f = past (exceeds_a_limit (layout_counts (word_and_layout_with_item i (layout_of w)).1)) (word_and_layout_with_item i (layout_of w)) refl f
 
 record Left (c : Cell) (w : Writing) : Type 0 where
   pub whole : HasAllItemsInBytes (call c w).1
@@ -61,29 +61,29 @@ object_is_framed (x ∷ xs) w o = object_cell_framed (x ∷ xs) (layout_of w) (c
 found_call : (i : Item) (there : WrittenItem) (w : Writing) → HasAllItemsInBytes w → is_past_limit w ≡ false → i.entries ≡ 0 → find (is_equal_item w.body i) w.items ≡ Some there → ◌≡◌ {A = ℕ × Writing} (call (apart i) w) (word_of_written_item there, w)
 unfolding call
 found_call i there w g o none found =
-    let put : ◌≡◌ {A = ℕ × Layout} (put_item i (layout_of w)) (word_of_written_item there, record (layout_of w) { values = w.values + i.entries }) = ap (λ (f : Option WrittenItem). put_item_unless_written f i (layout_of w)) found in
+    let put : ◌≡◌ {A = ℕ × Layout} (word_and_layout_with_item i (layout_of w)) (word_of_written_item there, record (layout_of w) { values = w.values + i.entries }) = ap (λ (f : Option WrittenItem). word_and_layout_with_item_unless_written f i (layout_of w)) found in
     let same : w.values + i.entries ≡ w.values = omega (arith, none) in
-    let again : ◌≡◌ {A = ℕ × Layout} (put_item i (layout_of w)) (word_of_written_item there, layout_of w) = put ∙ ap (λ (n : ℕ). (word_of_written_item there, record (layout_of w) { values = n })) same in
+    let again : ◌≡◌ {A = ℕ × Layout} (word_and_layout_with_item i (layout_of w)) (word_of_written_item there, layout_of w) = put ∙ ap (λ (n : ℕ). (word_of_written_item there, record (layout_of w) { values = n })) same in
     let fine : exceeds_a_limit (8 + length w.body, w.values) ≡ false = ap (λ (n : ℕ). exceeds_a_limit (n, w.values)) (sym g.bytes) ∙ o in
     let stays : ◌≡◌ {A = ℕ × Writing} (unless_past_limit w (word_of_written_item there, layout_of w)) (word_of_written_item there, w) =
     rw fine (ap (λ (n : ℕ). (word_of_written_item there, writing_from_parts w.body w.items n w.values)) (sym g.bytes)) in
     rw o (ap (unless_past_limit w) again ∙ stays)
 
-call_step : (i : Item) (w : Writing) → is_past_limit w ≡ false → ◌≡◌ {A = ℕ × Writing} (call (apart i) w) (unless_past_limit w (put_item i (layout_of w)))
+call_step : (i : Item) (w : Writing) → is_past_limit w ≡ false → ◌≡◌ {A = ℕ × Writing} (call (apart i) w) (unless_past_limit w (word_and_layout_with_item i (layout_of w)))
 unfolding call
 call_step i w o = rw o refl
 
 -- an item that is not found changes the writer
 new_call : (i : Item) (w : Writing) (word : ℕ) → is_past_limit w ≡ false → 0 < length i.bytes → find (is_equal_item w.body i) w.items ≡ None → ◌≡◌ {A = ℕ × Writing} (call (apart i) w) (word, w) → ⊥
 new_call i w word o some absent e =
-    let put : ◌≡◌ {A = ℕ × Layout} (put_item i (layout_of w)) (put_item_unless_written None i (layout_of w)) = ap (λ (f : Option WrittenItem). put_item_unless_written f i (layout_of w)) absent in
-    go (exceeds_a_limit (layout_counts (put_item_unless_written None i (layout_of w)).1)) refl (sym (ap (unless_past_limit w) put) ∙ sym (call_step i w o) ∙ e)
+    let put : ◌≡◌ {A = ℕ × Layout} (word_and_layout_with_item i (layout_of w)) (word_and_layout_with_item_unless_written None i (layout_of w)) = ap (λ (f : Option WrittenItem). word_and_layout_with_item_unless_written f i (layout_of w)) absent in
+    go (exceeds_a_limit (layout_counts (word_and_layout_with_item_unless_written None i (layout_of w)).1)) refl (sym (ap (unless_past_limit w) put) ∙ sym (call_step i w o) ∙ e)
   where
-    go : (b : Bool) → exceeds_a_limit (layout_counts (put_item_unless_written None i (layout_of w)).1) ≡ b
-        → ◌≡◌ {A = ℕ × Writing} (cond {A = ℕ × Writing} b (0, record (writing_of (put_item_unless_written None i (layout_of w)).1) { body = w.body; items = w.items }) ((put_item_unless_written None i (layout_of w)).0, writing_of (put_item_unless_written None i (layout_of w)).1)) (word, w) → ⊥
+    go : (b : Bool) → exceeds_a_limit (layout_counts (word_and_layout_with_item_unless_written None i (layout_of w)).1) ≡ b
+        → ◌≡◌ {A = ℕ × Writing} (cond {A = ℕ × Writing} b (0, record (writing_of (word_and_layout_with_item_unless_written None i (layout_of w)).1) { body = w.body; items = w.items }) ((word_and_layout_with_item_unless_written None i (layout_of w)).0, writing_of (word_and_layout_with_item_unless_written None i (layout_of w)).1)) (word, w) → ⊥
     go true q f = let over : true ≡ is_past_limit w = sym q ∙ ap (λ (r : ℕ × Writing). is_past_limit r.1) f in absurd cc
     go false q f =
-        let zeros : List ℕ = replicate (padding_to_alignment i.align (end_offset (layout_of w))) 0 in
+        let zeros : List ℕ = replicate (padding_to_alignment_from_offset i.align (end_offset (layout_of w))) 0 in
         let len : length (w.body ++ (zeros ++ i.bytes)) ≡ length w.body = ap (λ (r : ℕ × Writing). length r.1.body) f in
         absurd (omega (arith, len, some, length-append w.body (zeros ++ i.bytes), length-append zeros i.bytes))
 
@@ -156,7 +156,7 @@ unfolding call
 new_word [] w h o = rw o refl
 new_word (y ∷ ys) w h o =
     let s = call_stored (blob_cell (y ∷ ys)) w o in
-    let found : IsFoundAgain (blob_item (y ∷ ys)) (put_item (blob_item (y ∷ ys)) (layout_of w)) = put_item_found (blob_item (y ∷ ys)) (layout_of w) in
+    let found : IsFoundAgain (blob_item (y ∷ ys)) (word_and_layout_with_item (blob_item (y ∷ ys)) (layout_of w)) = put_item_found (blob_item (y ∷ ys)) (layout_of w) in
     let later : Writing = (blob_call (y ∷ ys) w).1 in
     let l = left (blob_cell (y ∷ ys)) w (blob_is_framed (y ∷ ys) w o) (h s.before) o in
     let there : find (is_equal_item later.body (blob_item (y ∷ ys))) later.items ≡ Some found.item = subst (λ (out : Layout). find (is_equal_item out.body (blob_item (y ∷ ys))) out.items ≡ Some found.item) (sym s.state) found.is in

@@ -4,10 +4,10 @@ use Rattle.std.proofs.Common.{◌≡◌, ℕ, Bool, true, false, cond, List, [],
 use Rattle.std.specs.Prelude.{find}
 use Rattle.adb_view.specs.Plain.{Plain, null, int, blob, arr, obj, Plains, none, more}
 use Rattle.adb_view.specs.Readers.{ARRAY, OBJECT}
-use Rattle.adb_write.specs.Canonical.{Cell, in_place, apart, int_cell, blob_cell, run_cell, words_without_last_nulls, Layout, empty_layout, put_cell, put_run, write, write_all, payload_with_root, canonical, PayloadCounts, layout_counts, exceeds_a_limit, counts_after_values, trace_all, overflow_of, or_overflow, payload_or_overflow}
+use Rattle.adb_write.specs.Canonical.{Cell, in_place, apart, int_cell, blob_cell, run_cell, words_without_last_nulls, Layout, empty_layout, word_and_layout_with_cell, word_and_layout_with_run, write, write_all, payload_with_root, canonical, ByteAndValueCounts, layout_counts, exceeds_a_limit, counts_after_values, trace_all, overflow_of, payload_unless_overflow, payload_or_overflow}
 use Rattle.adb_write.specs.Writing.{Writing, empty_writing, writing_counts, is_past_limit, writing_of, call, finish_result, calls, calls_all}
 
-find-none : (xs ys : List PayloadCounts) → find exceeds_a_limit xs ≡ None → find exceeds_a_limit (xs ++ ys) ≡ find exceeds_a_limit ys
+find-none : (xs ys : List ByteAndValueCounts) → find exceeds_a_limit xs ≡ None → find exceeds_a_limit (xs ++ ys) ≡ find exceeds_a_limit ys
 find-none [] ys e = refl
 find-none (x ∷ xs) ys e = go (exceeds_a_limit x) (λ f. find-none xs ys f) e
   where
@@ -15,7 +15,7 @@ find-none (x ∷ xs) ys e = go (exceeds_a_limit x) (λ f. find-none xs ys f) e
     go true h e = absurd cc
     go false h e = h e
 
-find-some : (xs ys : List PayloadCounts) (c : PayloadCounts) → find exceeds_a_limit xs ≡ Some c → find exceeds_a_limit (xs ++ ys) ≡ Some c
+find-some : (xs ys : List ByteAndValueCounts) (c : ByteAndValueCounts) → find exceeds_a_limit xs ≡ Some c → find exceeds_a_limit (xs ++ ys) ≡ Some c
 find-some [] ys c e = absurd cc
 find-some (x ∷ xs) ys c e = go (exceeds_a_limit x) (λ f. find-some xs ys c f) e
   where
@@ -55,22 +55,22 @@ pub record Within (out : Layout) : Type 0 where
   pub fine : exceeds_a_limit (layout_counts out) ≡ false
 
 -- either all is written, or the writer follows the first value past a limit
-abbrev pub Ends : {A : Type 0} → List PayloadCounts → A × Writing → A × Layout → Type 0
-Ends writing_counts r s = ((find exceeds_a_limit writing_counts ≡ None) × (r.0 ≡ s.0) × (r.1 ≡ writing_of s.1) × Within s.1) ⊎ ((c : PayloadCounts) × (find exceeds_a_limit writing_counts ≡ Some c) × ((r.1.bytes, r.1.values) ≡ c) × (is_past_limit r.1 ≡ true))
+abbrev pub Ends : {A : Type 0} → List ByteAndValueCounts → A × Writing → A × Layout → Type 0
+Ends writing_counts r s = ((find exceeds_a_limit writing_counts ≡ None) × (r.0 ≡ s.0) × (r.1 ≡ writing_of s.1) × Within s.1) ⊎ ((c : ByteAndValueCounts) × (find exceeds_a_limit writing_counts ≡ Some c) × ((r.1.bytes, r.1.values) ≡ c) × (is_past_limit r.1 ≡ true))
 
-call-ends : (c : Cell) (out : Layout) → Within out → Ends (layout_counts (put_cell c out).1 ∷ []) (call c (writing_of out)) (put_cell c out)
+call-ends : (c : Cell) (out : Layout) → Within out → Ends (layout_counts (word_and_layout_with_cell c out).1 ∷ []) (call c (writing_of out)) (word_and_layout_with_cell c out)
 unfolding call
 call-ends (in_place word) out w = rw w.fine (inl (refl, refl, refl, w))
-call-ends (apart i) out w = rw w.fine (go (exceeds_a_limit (layout_counts (put_cell (apart i) out).1)) refl)
+call-ends (apart i) out w = rw w.fine (go (exceeds_a_limit (layout_counts (word_and_layout_with_cell (apart i) out).1)) refl)
   where
-    go : (b : Bool) → exceeds_a_limit (layout_counts (put_cell (apart i) out).1) ≡ b
-        → Ends (layout_counts (put_cell (apart i) out).1 ∷ []) (cond b (0, record (writing_of (put_cell (apart i) out).1) { body = out.body; items = out.items }) ((put_cell (apart i) out).0, writing_of (put_cell (apart i) out).1)) (put_cell (apart i) out)
-    go true e = inr (layout_counts (put_cell (apart i) out).1, rw e refl, refl, e)
+    go : (b : Bool) → exceeds_a_limit (layout_counts (word_and_layout_with_cell (apart i) out).1) ≡ b
+        → Ends (layout_counts (word_and_layout_with_cell (apart i) out).1 ∷ []) (cond b (0, record (writing_of (word_and_layout_with_cell (apart i) out).1) { body = out.body; items = out.items }) ((word_and_layout_with_cell (apart i) out).0, writing_of (word_and_layout_with_cell (apart i) out).1)) (word_and_layout_with_cell (apart i) out)
+    go true e = inr (layout_counts (word_and_layout_with_cell (apart i) out).1, rw e refl, refl, e)
     go false e = inl (rw e refl, refl, refl, record { fine = e })
 
 -- ---- all calls
 
-then_ends : {A B : Type 0} (xs ys : List PayloadCounts) (r : A × Writing) (s : A × Layout) (r' : B × Writing) (s' : B × Layout) → Ends xs r s → (r.0 ≡ s.0 → r.1 ≡ writing_of s.1 → Within s.1 → Ends ys r' s') → (is_past_limit r.1 ≡ true → r'.1 ≡ r.1) → Ends (xs ++ ys) r' s'
+then_ends : {A B : Type 0} (xs ys : List ByteAndValueCounts) (r : A × Writing) (s : A × Layout) (r' : B × Writing) (s' : B × Layout) → Ends xs r s → (r.0 ≡ s.0 → r.1 ≡ writing_of s.1 → Within s.1 → Ends ys r' s') → (is_past_limit r.1 ≡ true → r'.1 ≡ r.1) → Ends (xs ++ ys) r' s'
 then_ends xs ys r s r' s' (inl a) f g =
     elim (f a.1 a.2 a.3) [
       | inl b ↦ inl (find-none xs ys a.0 ∙ b.0, b.1, b.2, b.3)
@@ -82,7 +82,7 @@ then_ends xs ys r s r' s' (inr b) f g =
 
 -- a run over what was written
 run_ends : (kind : ℕ) (f : List ℕ → List ℕ) (r : List ℕ × Writing) (s : List ℕ × Layout) → r.0 ≡ s.0 → r.1 ≡ writing_of s.1 → Within s.1
-    → Ends (layout_counts (put_run kind (f s.0) s.1).1 ∷ []) (call (run_cell kind (f r.0)) r.1) (put_run kind (f s.0) s.1)
+    → Ends (layout_counts (word_and_layout_with_run kind (f s.0) s.1).1 ∷ []) (call (run_cell kind (f r.0)) r.1) (word_and_layout_with_run kind (f s.0) s.1)
 run_ends kind f r s words state fine = rw (words, state) (call-ends (run_cell kind (f s.0)) s.1 fine)
 
 cons_ends : (v : Plain) (vs : Plains) (out : Layout) → (calls v (writing_of out)).0 ≡ (write v out).0 → (calls v (writing_of out)).1 ≡ writing_of (write v out).1
@@ -133,6 +133,6 @@ calls-written v = go (calls-end v empty_layout start_fine)
     past : (word : ℕ) (w : Writing) → is_past_limit w ≡ true → finish_result word w ≡ Err (writing_counts w)
     past word w o = rw o refl
 
-    go : Ends (counts_after_values v empty_layout) (calls v empty_writing) (write v empty_layout) → finish_result (calls v empty_writing).0 (calls v empty_writing).1 ≡ or_overflow (canonical v) (overflow_of v)
-    go (inl a) = fitting (calls v empty_writing) (write v empty_layout) a.1 a.2 a.3 ∙ ap (or_overflow (canonical v)) (sym a.0)
-    go (inr b) = past (calls v empty_writing).0 (calls v empty_writing).1 b.3 ∙ ap Err b.2 ∙ ap (or_overflow (canonical v)) (sym b.1)
+    go : Ends (counts_after_values v empty_layout) (calls v empty_writing) (write v empty_layout) → finish_result (calls v empty_writing).0 (calls v empty_writing).1 ≡ payload_unless_overflow (canonical v) (overflow_of v)
+    go (inl a) = fitting (calls v empty_writing) (write v empty_layout) a.1 a.2 a.3 ∙ ap (payload_unless_overflow (canonical v)) (sym a.0)
+    go (inr b) = past (calls v empty_writing).0 (calls v empty_writing).1 b.3 ∙ ap Err b.2 ∙ ap (payload_unless_overflow (canonical v)) (sym b.1)

@@ -6,10 +6,10 @@ use Rattle.std.proofs.lemmas.Bool.{cases_lt, lt-ltb, le-ltb, ltb-true, or_cases}
 use Rattle.std.proofs.Math.Bool.{or-true}
 use Rattle.adb_view.specs.Plain.{Plain, null, int, blob, arr, obj, Plains, none, more, IsNormal, AreNormal, count_of}
 use Rattle.adb_view.specs.Readers.{ARRAY, OBJECT}
-use Rattle.adb_write.specs.Canonical.{Item, WrittenItem, Cell, in_place, apart, int_cell, blob_cell, run_cell, words_without_last_nulls, Layout, empty_layout, end_offset, is_equal_item, put_item_unless_written, put_cell, write, write_all, payload_with_root, PayloadCounts, layout_counts, exceeds_a_limit, counts_after_values, trace_all, overflow_of, canonical, or_overflow, payload_or_overflow, MOST_BYTES, MOST_VALUES}
+use Rattle.adb_write.specs.Canonical.{Item, WrittenItem, Cell, in_place, apart, int_cell, blob_cell, run_cell, words_without_last_nulls, Layout, empty_layout, end_offset, is_equal_item, word_and_layout_with_item_unless_written, word_and_layout_with_cell, write, write_all, payload_with_root, ByteAndValueCounts, layout_counts, exceeds_a_limit, counts_after_values, trace_all, overflow_of, canonical, payload_unless_overflow, payload_or_overflow, MOST_BYTES, MOST_VALUES}
 use Rattle.adb_write.specs.Size.{payload_size_of, entries_of, entries_of_all, value_count}
 use Rattle.adb_write.specs.Writing.{empty_writing, calls}
-use Rattle.adb_write.proofs.RoundTrip.{Grows-here, stored-grows, put_run-grows, write_all-grows, write_all-made, words_stay}
+use Rattle.adb_write.proofs.RoundTrip.{Grows-here, stored-grows, word_and_layout_with_run-grows, write_all-grows, write_all-made, words_stay}
 use Rattle.adb_write.proofs.Limits.{Ends, calls-end, start_fine}
 
 -- ---- the number of values that were written
@@ -18,11 +18,11 @@ abbrev pub entries_in : Cell → ℕ
 entries_in (in_place w) = 0
 entries_in (apart i) = i.entries
 
-unless_values : (found : Option WrittenItem) (i : Item) (out : Layout) → (put_item_unless_written found i out).1.values ≡ out.values + i.entries
+unless_values : (found : Option WrittenItem) (i : Item) (out : Layout) → (word_and_layout_with_item_unless_written found i out).1.values ≡ out.values + i.entries
 unless_values None i out = refl
 unless_values (Some there) i out = refl
 
-stored_values : (c : Cell) (out : Layout) → (put_cell c out).1.values ≡ out.values + entries_in c
+stored_values : (c : Cell) (out : Layout) → (word_and_layout_with_cell c out).1.values ≡ out.values + entries_in c
 stored_values (in_place w) out = omega arith
 stored_values (apart i) out = unless_values (find (is_equal_item out.body i) out.items) i out
 
@@ -61,11 +61,11 @@ mutual
   write_values (blob b) out n fits = stored_values (blob_cell b) out ∙ ap (λ (e : ℕ). out.values + e) (blob_entries b)
   write_values (arr vs) out n fits =
       let r = write_all vs out in
-      let g = put_run-grows ARRAY r.0 r.1 in
+      let g = word_and_layout_with_run-grows ARRAY r.0 r.1 in
       omega (arith, stored_values (run_cell ARRAY r.0) r.1, run_entries ARRAY r.0, words_count vs out, write_all_values vs out n.1 (le_trans (Grows-here _ _ g) fits))
   write_values (obj vs) out n fits =
       let r = write_all vs out in
-      let g = put_run-grows OBJECT (words_without_last_nulls r.0) r.1 in
+      let g = word_and_layout_with_run-grows OBJECT (words_without_last_nulls r.0) r.1 in
       let within = le_trans (Grows-here _ _ g) fits in
       let all = write_all-made vs out n.2 within in
       let stay : words_without_last_nulls r.0 ≡ r.0 = words_stay (payload_with_root 0 r.1) vs r.0 n.1 (all.0 0) in
@@ -79,14 +79,14 @@ mutual
 
 -- ---- the counts only rise
 
-passes_more : (c d : PayloadCounts) → c.0 ≤ d.0 → c.1 ≤ d.1 → exceeds_a_limit c ≡ true → exceeds_a_limit d ≡ true
+passes_more : (c d : ByteAndValueCounts) → c.0 ≤ d.0 → c.1 ≤ d.1 → exceeds_a_limit c ≡ true → exceeds_a_limit d ≡ true
 passes_more c d p q e =
     elim (or_cases (ltb MOST_BYTES c.0) (ltb MOST_VALUES c.1) e) [
       | inl a ↦ let lt = ltb-true _ _ a in let t : ltb MOST_BYTES d.0 ≡ true = lt-ltb _ _ (omega arith) in rw t refl
       | inr a ↦ let lt = ltb-true _ _ a in let t : ltb MOST_VALUES d.1 ≡ true = lt-ltb _ _ (omega arith) in rw t (or-true (ltb MOST_BYTES d.0))
     ]
 
-stored_more : (c : Cell) (out : Layout) → exceeds_a_limit (layout_counts out) ≡ true → exceeds_a_limit (layout_counts (put_cell c out).1) ≡ true
+stored_more : (c : Cell) (out : Layout) → exceeds_a_limit (layout_counts out) ≡ true → exceeds_a_limit (layout_counts (word_and_layout_with_cell c out).1) ≡ true
 stored_more c out e = passes_more _ _ (Grows-here _ _ (stored-grows c out)) (omega (arith, stored_values c out)) e
 
 mutual
@@ -103,7 +103,7 @@ mutual
   write_all_more none out e = e
   write_all_more (more v vs) out e = write_all_more vs (write v out).1 (write_more v out e)
 
-find_either : (xs ys : List PayloadCounts) (c : PayloadCounts) → find exceeds_a_limit (xs ++ ys) ≡ Some c → (find exceeds_a_limit xs ≡ Some c) ⊎ (find exceeds_a_limit ys ≡ Some c)
+find_either : (xs ys : List ByteAndValueCounts) (c : ByteAndValueCounts) → find exceeds_a_limit (xs ++ ys) ≡ Some c → (find exceeds_a_limit xs ≡ Some c) ⊎ (find exceeds_a_limit ys ≡ Some c)
 find_either [] ys c e = inr e
 find_either (x ∷ xs) ys c e = go (exceeds_a_limit x) (λ f. find_either xs ys c f) e
   where
@@ -111,7 +111,7 @@ find_either (x ∷ xs) ys c e = go (exceeds_a_limit x) (λ f. find_either xs ys 
     go true h e = inl e
     go false h e = h e
 
-find_one : (x c : PayloadCounts) → find exceeds_a_limit (x ∷ []) ≡ Some c → exceeds_a_limit x ≡ true
+find_one : (x c : ByteAndValueCounts) → find exceeds_a_limit (x ∷ []) ≡ Some c → exceeds_a_limit x ≡ true
 find_one x c e = go (exceeds_a_limit x) refl e
   where
     go : (b : Bool) → exceeds_a_limit x ≡ b → cond b (Some x) None ≡ Some c → exceeds_a_limit x ≡ true
@@ -121,7 +121,7 @@ find_one x c e = go (exceeds_a_limit x) refl e
 mutual
   unfolding write counts_after_values
 
-  trace_over : (v : Plain) (out : Layout) (c : PayloadCounts) → find exceeds_a_limit (counts_after_values v out) ≡ Some c → exceeds_a_limit (layout_counts (write v out).1) ≡ true
+  trace_over : (v : Plain) (out : Layout) (c : ByteAndValueCounts) → find exceeds_a_limit (counts_after_values v out) ≡ Some c → exceeds_a_limit (layout_counts (write v out).1) ≡ true
   trace_over null out c e = absurd cc
   trace_over (int n) out c e = find_one (layout_counts (write (int n) out).1) c e
   trace_over (blob b) out c e = find_one (layout_counts (write (blob b) out).1) c e
@@ -136,7 +136,7 @@ mutual
         | inr a ↦ find_one (layout_counts (write (obj vs) out).1) c a
       ]
 
-  trace_all_over : (vs : Plains) (out : Layout) (c : PayloadCounts) → find exceeds_a_limit (trace_all vs out) ≡ Some c → exceeds_a_limit (layout_counts (write_all vs out).1) ≡ true
+  trace_all_over : (vs : Plains) (out : Layout) (c : ByteAndValueCounts) → find exceeds_a_limit (trace_all vs out) ≡ Some c → exceeds_a_limit (layout_counts (write_all vs out).1) ≡ true
   trace_all_over none out c e = absurd cc
   trace_all_over (more v vs) out c e =
       elim (find_either (counts_after_values v out) (trace_all vs (write v out).1) c e) [
@@ -175,7 +175,7 @@ overflow_exact v n = overflow_final v ∙ same
 
 pub fits_written : (v : Plain) → IsNormal v → payload_size_of v < 2 ^ 28 → value_count v ≤ 2 ^ 22 → payload_or_overflow v ≡ Ok (canonical v)
 unfolding payload_or_overflow
-fits_written v n size values = ap (or_overflow (canonical v)) (nothing (overflow_of v) (overflow_exact v n ∙ fine))
+fits_written v n size values = ap (payload_unless_overflow (canonical v)) (nothing (overflow_of v) (overflow_exact v n ∙ fine))
   where
     fine : exceeds_a_limit (payload_size_of v, value_count v) ≡ false
     fine =
@@ -183,7 +183,7 @@ fits_written v n size values = ap (or_overflow (canonical v)) (nothing (overflow
         let u : ltb MOST_VALUES (value_count v) ≡ false = le-ltb _ _ (omega arith) in
         rw (t, u) refl
 
-    nothing : (o : Option PayloadCounts) → is_some o ≡ false → o ≡ None
+    nothing : (o : Option ByteAndValueCounts) → is_some o ≡ false → o ≡ None
     nothing None e = refl
     nothing (Some c) e = absurd cc
 

@@ -8,8 +8,8 @@ use Rattle.std.proofs.lemmas.List.{append-nil, take_at, drop_at, length-append, 
 use Rattle.adb_view.specs.Bytes.{bytes_at_with_len, number_at, words}
 use Rattle.adb_view.specs.Plain.{IsNormal, AreNormal, Plain, null, int, blob, arr, obj, Plains, none, more, without_last_nulls, blob_or_null, array_or_null, object_or_null, trimmed_object_or_null, Shape, number, text, hash, array, object, Fields, no_fields, field, null_plain_if_null_word, option_of_ok_value, plains_of_all_words, plain_of, plains_of, root_value_with_shape}
 use Rattle.adb_view.specs.Head.{root_word_of_payload}
-use Rattle.adb_view.specs.Readers.{kind_of_word, low_28_bits, or_outside_cause, length_prefixed_bytes_at, run_entries_for_count, run_entries_at, int_of, blob_of, run_entries_of_word, ARRAY, OBJECT}
-use Rattle.adb_write.specs.Canonical.{padding_to_alignment, Item, WrittenItem, Cell, in_place, apart, int_cell, blob_cell, run_cell, run_bytes, prepend_unless_last_null, words_without_last_nulls, Layout, empty_layout, end_offset, is_equal_item, word_of_written_item, put_new_item, put_item_unless_written, put_item, put_cell, put_run, write, write_all, payload_with_root, canonical, MOST_BYTES}
+use Rattle.adb_view.specs.Readers.{kind_of_word, low_28_bits, or_outside_cause, length_prefixed_bytes_at, run_entries_at_with_word_count, run_entries_at, int_of, blob_of, run_entries_of_word, ARRAY, OBJECT}
+use Rattle.adb_write.specs.Canonical.{padding_to_alignment_from_offset, Item, WrittenItem, Cell, in_place, apart, int_cell, blob_cell, run_cell, run_bytes, prepend_unless_last_null, words_without_last_nulls, Layout, empty_layout, end_offset, is_equal_item, word_of_written_item, word_and_layout_with_new_item, word_and_layout_with_item_unless_written, word_and_layout_with_item, word_and_layout_with_cell, word_and_layout_with_run, write, write_all, payload_with_root, canonical, MOST_BYTES}
 use Rattle.adb_view.specs.Shaped.{Each, HasShape, HaveShapes}
 use Rattle.adb_view.proofs.Normal.{trimmed-more}
 use Rattle.adb_write.specs.Denotes.{Holds, HoldAll, IsWordOf}
@@ -50,16 +50,16 @@ length_prefixed_bytes_at-append w p q at b e =
     let (n, is, y) = some_then (λ len. bytes_at_with_len p (at + byte_len w) len) (number_at w p at) b e in
     ap (option_and_then (λ len. bytes_at_with_len (p ++ q) (at + byte_len w) len)) (number_at-append w p q at n is) ∙ bytes_at_with_len-append p q (at + byte_len w) n b y
 
-run_entries_for_count-append : (p q : List ℕ) (at n : ℕ) (ws : List ℕ) → run_entries_for_count p at n ≡ Some ws → run_entries_for_count (p ++ q) at n ≡ Some ws
-run_entries_for_count-append p q at zero ws e = absurd cc
-run_entries_for_count-append p q at (suc n) ws e =
+run_entries_at_with_word_count-append : (p q : List ℕ) (at n : ℕ) (ws : List ℕ) → run_entries_at_with_word_count p at n ≡ Some ws → run_entries_at_with_word_count (p ++ q) at n ≡ Some ws
+run_entries_at_with_word_count-append p q at zero ws e = absurd cc
+run_entries_at_with_word_count-append p q at (suc n) ws e =
     let (x, is, y) = some_map (words n) (bytes_at_with_len p (at + 4) (4 * n)) ws e in
     ap (option_map (words n)) (bytes_at_with_len-append p q (at + 4) (4 * n) x is) ∙ ap Some y
 
 run_entries_at-append : (p q : List ℕ) (at : ℕ) (ws : List ℕ) → run_entries_at p at ≡ Some ws → run_entries_at (p ++ q) at ≡ Some ws
 run_entries_at-append p q at ws e =
-    let (n, is, y) = some_then (run_entries_for_count p at) (number_at w32 p at) ws e in
-    ap (option_and_then (run_entries_for_count (p ++ q) at)) (number_at-append w32 p q at n is) ∙ run_entries_for_count-append p q at n ws y
+    let (n, is, y) = some_then (run_entries_at_with_word_count p at) (number_at w32 p at) ws e in
+    ap (option_and_then (run_entries_at_with_word_count (p ++ q) at)) (number_at-append w32 p q at n is) ∙ run_entries_at_with_word_count-append p q at n ws y
 
 inside_ok : {A : Type 0} (w : ℕ) (o : Option A) (x : A) → or_outside_cause w o ≡ Ok x → o ≡ Some x
 inside_ok w (Some y) x e = cc
@@ -194,16 +194,16 @@ Grows-then a b c p q = record { more = p.more ++ q.more; is = q.is ∙ ap (λ (x
 pub Grows-here : (a b : Layout) → Grows a b → end_offset a ≤ end_offset b
 Grows-here a b g = omega (arith, ap length g.is, length-append a.body g.more)
 
-unless-grows : (found : Option WrittenItem) (i : Item) (out : Layout) → Grows out (put_item_unless_written found i out).1
-unless-grows None i out = record { more = replicate (padding_to_alignment i.align (end_offset out)) 0 ++ i.bytes; is = refl }
+unless-grows : (found : Option WrittenItem) (i : Item) (out : Layout) → Grows out (word_and_layout_with_item_unless_written found i out).1
+unless-grows None i out = record { more = replicate (padding_to_alignment_from_offset i.align (end_offset out)) 0 ++ i.bytes; is = refl }
 unless-grows (Some there) i out = record { more = []; is = sym (append-nil out.body) }
 
-pub stored-grows : (c : Cell) (out : Layout) → Grows out (put_cell c out).1
+pub stored-grows : (c : Cell) (out : Layout) → Grows out (word_and_layout_with_cell c out).1
 stored-grows (in_place w) out = Grows-refl out
 stored-grows (apart i) out = unless-grows (find (is_equal_item out.body i) out.items) i out
 
-pub put_run-grows : (kind : ℕ) (ws : List ℕ) (out : Layout) → Grows out (put_run kind ws out).1
-put_run-grows kind ws out = stored-grows (run_cell kind ws) out
+pub word_and_layout_with_run-grows : (kind : ℕ) (ws : List ℕ) (out : Layout) → Grows out (word_and_layout_with_run kind ws out).1
+word_and_layout_with_run-grows kind ws out = stored-grows (run_cell kind ws) out
 
 mutual
   unfolding write
@@ -212,8 +212,8 @@ mutual
   write-grows null out = Grows-refl out
   write-grows (int n) out = stored-grows (int_cell n) out
   write-grows (blob b) out = stored-grows (blob_cell b) out
-  write-grows (arr vs) out = Grows-then _ _ _ (write_all-grows vs out) (put_run-grows ARRAY (write_all vs out).0 (write_all vs out).1)
-  write-grows (obj vs) out = Grows-then _ _ _ (write_all-grows vs out) (put_run-grows OBJECT (words_without_last_nulls (write_all vs out).0) (write_all vs out).1)
+  write-grows (arr vs) out = Grows-then _ _ _ (write_all-grows vs out) (word_and_layout_with_run-grows ARRAY (write_all vs out).0 (write_all vs out).1)
+  write-grows (obj vs) out = Grows-then _ _ _ (write_all-grows vs out) (word_and_layout_with_run-grows OBJECT (words_without_last_nulls (write_all vs out).0) (write_all vs out).1)
 
   pub write_all-grows : (vs : Plains) (out : Layout) → Grows out (write_all vs out).1
   write_all-grows none out = Grows-refl out
@@ -236,12 +236,12 @@ pub record Leads (p : List ℕ) (i : Item) (w : ℕ) : Type 0 where
   pub kind_is : kind_of_word w ≡ i.kind
   pub located : (back : List ℕ) × Stands p (low_28_bits w) (i.bytes ++ back)
 
-new_leads : (i : Item) (out : Layout) (root : ℕ) → 0 < i.kind → i.kind < 15 → end_offset (put_new_item i out).1 ≤ MOST_BYTES → Leads (payload_with_root root (put_new_item i out).1) i (put_new_item i out).0
+new_leads : (i : Item) (out : Layout) (root : ℕ) → 0 < i.kind → i.kind < 15 → end_offset (word_and_layout_with_new_item i out).1 ≤ MOST_BYTES → Leads (payload_with_root root (word_and_layout_with_new_item i out).1) i (word_and_layout_with_new_item i out).0
 new_leads i out root pos few fits =
-    let zeros : List ℕ = replicate (padding_to_alignment i.align (end_offset out)) 0 in
+    let zeros : List ℕ = replicate (padding_to_alignment_from_offset i.align (end_offset out)) 0 in
     let total = length-append out.body (zeros ++ i.bytes) in
     let mid = length-append zeros i.bytes in
-    let len : length zeros ≡ padding_to_alignment i.align (end_offset out) = length-replicate {A = ℕ} (padding_to_alignment i.align (end_offset out)) 0 in
+    let len : length zeros ≡ padding_to_alignment_from_offset i.align (end_offset out) = length-replicate {A = ℕ} (padding_to_alignment_from_offset i.align (end_offset out)) 0 in
     let at : place i out < 2 ^ 28 = omega arith in
     record {
       nonzero = λ e. absurd (omega arith);
@@ -264,11 +264,11 @@ found_leads i out root there pos few some fits e =
       located = (drop (length i.bytes) (drop there.offset out.body), rw (word_low there.kind (8 + there.offset) at) (equal_stands out i there root some e));
     }
 
-pub placed_leads : (i : Item) (out : Layout) (root : ℕ) → 0 < i.kind → i.kind < 15 → 0 < length i.bytes → end_offset (put_item i out).1 ≤ MOST_BYTES → Leads (payload_with_root root (put_item i out).1) i (put_item i out).0
+pub placed_leads : (i : Item) (out : Layout) (root : ℕ) → 0 < i.kind → i.kind < 15 → 0 < length i.bytes → end_offset (word_and_layout_with_item i out).1 ≤ MOST_BYTES → Leads (payload_with_root root (word_and_layout_with_item i out).1) i (word_and_layout_with_item i out).0
 placed_leads i out root pos few some fits = go (find (is_equal_item out.body i) out.items) refl fits
   where
-    go : (found : Option WrittenItem) → find (is_equal_item out.body i) out.items ≡ found → end_offset (put_item_unless_written found i out).1 ≤ MOST_BYTES
-        → Leads (payload_with_root root (put_item_unless_written found i out).1) i (put_item_unless_written found i out).0
+    go : (found : Option WrittenItem) → find (is_equal_item out.body i) out.items ≡ found → end_offset (word_and_layout_with_item_unless_written found i out).1 ≤ MOST_BYTES
+        → Leads (payload_with_root root (word_and_layout_with_item_unless_written found i out).1) i (word_and_layout_with_item_unless_written found i out).0
     go None is within = new_leads i out root pos few within
     go (Some there) is within = found_leads i out root there pos few some within (find-passes (is_equal_item out.body i) out.items there is)
 
@@ -322,9 +322,9 @@ run_entries_of_word-placed kind p w ws small few l =
 -- an item has room in a payload; a value that its word holds whole needs none
 abbrev pub Fits : Cell → Layout → Type 0
 Fits (in_place word) out = Unit {0}
-Fits (apart i) out = end_offset (put_item i out).1 ≤ MOST_BYTES
+Fits (apart i) out = end_offset (word_and_layout_with_item i out).1 ≤ MOST_BYTES
 
-fits_here : (c : Cell) (out : Layout) → end_offset (put_cell c out).1 ≤ MOST_BYTES → Fits c out
+fits_here : (c : Cell) (out : Layout) → end_offset (word_and_layout_with_cell c out).1 ≤ MOST_BYTES → Fits c out
 fits_here (in_place word) out h = tt
 fits_here (apart i) out h = h
 
@@ -332,10 +332,10 @@ fits_here (apart i) out h = h
 abbrev pub Made : Plain → ℕ × Layout → Type 0
 Made v r = IsWordOf r.1 v r.0
 
-pub int_made : (n : ℕ) (out : Layout) → n < 2 ^ 64 → Fits (int_cell n) out → Made (int n) (put_cell (int_cell n) out)
+pub int_made : (n : ℕ) (out : Layout) → n < 2 ^ 64 → Fits (int_cell n) out → Made (int n) (word_and_layout_with_cell (int_cell n) out)
 unfolding Holds
 int_made n out lt =
-    let P : Cell → Type 0 = λ c. Fits c out → Made (int n) (put_cell c out) in
+    let P : Cell → Type 0 = λ c. Fits c out → Made (int n) (word_and_layout_with_cell c out) in
     elim (cases_lt n (2 ^ 28)) [
       | inl a ↦
           let t : ltb n (2 ^ 28) ≡ true = lt-ltb _ _ a in
@@ -348,43 +348,43 @@ int_made n out lt =
                 let u : ltb n (2 ^ 32) ≡ true = lt-ltb _ _ b in
                 let is : int_cell n ≡ apart (record { kind = 2; align = 4; bytes = to_le_bytes w32 n; entries = 0 }) = rw (t, u) refl in
                 subst P (sym is) (λ fits.
-                let l : (root : ℕ) → Leads (payload_with_root root (put_item (record { kind = 2; align = 4; bytes = to_le_bytes w32 n; entries = 0 }) out).1) (record { kind = 2; align = 4; bytes = to_le_bytes w32 n; entries = 0 }) (put_item (record { kind = 2; align = 4; bytes = to_le_bytes w32 n; entries = 0 }) out).0 = λ root. placed_leads _ out root (lit< tt) (lit< tt) (lit< tt) fits in
+                let l : (root : ℕ) → Leads (payload_with_root root (word_and_layout_with_item (record { kind = 2; align = 4; bytes = to_le_bytes w32 n; entries = 0 }) out).1) (record { kind = 2; align = 4; bytes = to_le_bytes w32 n; entries = 0 }) (word_and_layout_with_item (record { kind = 2; align = 4; bytes = to_le_bytes w32 n; entries = 0 }) out).0 = λ root. placed_leads _ out root (lit< tt) (lit< tt) (lit< tt) fits in
                 record { holds = λ root. ((l root).nonzero, int_of-32 _ _ n b (l root)); small = (l 0).small })
             | inr b ↦
                 let u : ltb n (2 ^ 32) ≡ false = le-ltb _ _ b in
                 let is : int_cell n ≡ apart (record { kind = 3; align = 8; bytes = to_le_bytes w64 n; entries = 0 }) = rw (t, u) refl in
                 subst P (sym is) (λ fits.
-                let l : (root : ℕ) → Leads (payload_with_root root (put_item (record { kind = 3; align = 8; bytes = to_le_bytes w64 n; entries = 0 }) out).1) (record { kind = 3; align = 8; bytes = to_le_bytes w64 n; entries = 0 }) (put_item (record { kind = 3; align = 8; bytes = to_le_bytes w64 n; entries = 0 }) out).0 = λ root. placed_leads _ out root (lit< tt) (lit< tt) (lit< tt) fits in
+                let l : (root : ℕ) → Leads (payload_with_root root (word_and_layout_with_item (record { kind = 3; align = 8; bytes = to_le_bytes w64 n; entries = 0 }) out).1) (record { kind = 3; align = 8; bytes = to_le_bytes w64 n; entries = 0 }) (word_and_layout_with_item (record { kind = 3; align = 8; bytes = to_le_bytes w64 n; entries = 0 }) out).0 = λ root. placed_leads _ out root (lit< tt) (lit< tt) (lit< tt) fits in
                 record { holds = λ root. ((l root).nonzero, int_of-64 _ _ n lt (l root)); small = (l 0).small })
           ]
     ]
 
 -- an item's bytes are in the payload, so there are not too many
-pub new_len : (i : Item) (out : Layout) → end_offset out + padding_to_alignment i.align (end_offset out) + length i.bytes ≡ end_offset (put_new_item i out).1
+pub new_len : (i : Item) (out : Layout) → end_offset out + padding_to_alignment_from_offset i.align (end_offset out) + length i.bytes ≡ end_offset (word_and_layout_with_new_item i out).1
 new_len i out =
-    let zeros : List ℕ = replicate (padding_to_alignment i.align (end_offset out)) 0 in
-    omega (arith, length-append out.body (zeros ++ i.bytes), length-append zeros i.bytes, length-replicate {A = ℕ} (padding_to_alignment i.align (end_offset out)) 0)
+    let zeros : List ℕ = replicate (padding_to_alignment_from_offset i.align (end_offset out)) 0 in
+    omega (arith, length-append out.body (zeros ++ i.bytes), length-append zeros i.bytes, length-replicate {A = ℕ} (padding_to_alignment_from_offset i.align (end_offset out)) 0)
 
-pub item_within : (i : Item) (out : Layout) → 0 < length i.bytes → length i.bytes ≤ end_offset (put_item i out).1
+pub item_within : (i : Item) (out : Layout) → 0 < length i.bytes → length i.bytes ≤ end_offset (word_and_layout_with_item i out).1
 item_within i out some = go (find (is_equal_item out.body i) out.items) refl
   where
-    go : (found : Option WrittenItem) → find (is_equal_item out.body i) out.items ≡ found → length i.bytes ≤ end_offset (put_item_unless_written found i out).1
+    go : (found : Option WrittenItem) → find (is_equal_item out.body i) out.items ≡ found → length i.bytes ≤ end_offset (word_and_layout_with_item_unless_written found i out).1
     go None is = omega (arith, new_len i out)
     go (Some there) is = omega (arith, equal_within out.body there.offset i.bytes some (equal_bytes out.body i there (find-passes (is_equal_item out.body i) out.items there is)))
 
-pub blob_made : (b : List ℕ) (out : Layout) → b ≢ [] → Fits (blob_cell b) out → Made (blob b) (put_cell (blob_cell b) out)
+pub blob_made : (b : List ℕ) (out : Layout) → b ≢ [] → Fits (blob_cell b) out → Made (blob b) (word_and_layout_with_cell (blob_cell b) out)
 unfolding Holds
 blob_made [] out ne = absurd (ne refl)
 blob_made (x ∷ xs) out ne =
     let b : List ℕ = x ∷ xs in
-    let P : Cell → Type 0 = λ c. Fits c out → Made (blob b) (put_cell c out) in
+    let P : Cell → Type 0 = λ c. Fits c out → Made (blob b) (word_and_layout_with_cell c out) in
     elim (cases_lt (length b) (2 ^ 8)) [
       | inl a ↦
           let t : ltb (length b) (2 ^ 8) ≡ true = lt-ltb _ _ a in
           let i : Item = record { kind = 8; align = 1; bytes = to_le_bytes w8 (length b) ++ b; entries = 0 } in
           let is : blob_cell b ≡ apart i = rw t refl in
           subst P (sym is) (λ fits.
-          let l : (root : ℕ) → Leads (payload_with_root root (put_item i out).1) i (put_item i out).0 = λ root. placed_leads i out root (lit< tt) (lit< tt) (omega arith) fits in
+          let l : (root : ℕ) → Leads (payload_with_root root (word_and_layout_with_item i out).1) i (word_and_layout_with_item i out).0 = λ root. placed_leads i out root (lit< tt) (lit< tt) (omega arith) fits in
           record { holds = λ root. ((l root).nonzero, blob_of-8 _ _ b a (l root)); small = (l 0).small })
       | inr a ↦
           let t : ltb (length b) (2 ^ 8) ≡ false = le-ltb _ _ a in
@@ -394,14 +394,14 @@ blob_made (x ∷ xs) out ne =
                 let i : Item = record { kind = 9; align = 2; bytes = to_le_bytes w16 (length b) ++ b; entries = 0 } in
                 let is : blob_cell b ≡ apart i = rw (t, u) refl in
                 subst P (sym is) (λ fits.
-                let l : (root : ℕ) → Leads (payload_with_root root (put_item i out).1) i (put_item i out).0 = λ root. placed_leads i out root (lit< tt) (lit< tt) (omega arith) fits in
+                let l : (root : ℕ) → Leads (payload_with_root root (word_and_layout_with_item i out).1) i (word_and_layout_with_item i out).0 = λ root. placed_leads i out root (lit< tt) (lit< tt) (omega arith) fits in
                 record { holds = λ root. ((l root).nonzero, blob_of-16 _ _ b c (l root)); small = (l 0).small })
             | inr c ↦
                 let u : ltb (length b) (2 ^ 16) ≡ false = le-ltb _ _ c in
                 let i : Item = record { kind = 10; align = 4; bytes = to_le_bytes w32 (length b) ++ b; entries = 0 } in
                 let is : blob_cell b ≡ apart i = rw (t, u) refl in
                 subst P (sym is) (λ fits.
-                let l : (root : ℕ) → Leads (payload_with_root root (put_item i out).1) i (put_item i out).0 = λ root. placed_leads i out root (lit< tt) (lit< tt) (omega arith) fits in
+                let l : (root : ℕ) → Leads (payload_with_root root (word_and_layout_with_item i out).1) i (word_and_layout_with_item i out).0 = λ root. placed_leads i out root (lit< tt) (lit< tt) (omega arith) fits in
                 let few : length b < 2 ^ 32 = omega (arith, item_within i out (omega arith), length-append (to_le_bytes w32 (length b)) b) in
                 record { holds = λ root. ((l root).nonzero, blob_of-32 _ _ b few (l root)); small = (l 0).small })
           ]
@@ -413,10 +413,10 @@ pub record MadeRun (kind : ℕ) (ws : List ℕ) (r : ℕ × Layout) : Type 0 whe
   pub small : r.0 < 2 ^ 32
   pub reads : (root : ℕ) → run_entries_of_word kind (payload_with_root root r.1) r.0 ≡ Ok ws
 
-pub run_made : (kind : ℕ) (w : ℕ) (ws : List ℕ) (out : Layout) → 0 < kind → kind < 15 → AllByRecursion (λ w. w < 2 ^ 32) (w ∷ ws) → end_offset (put_run kind (w ∷ ws) out).1 ≤ MOST_BYTES → MadeRun kind (w ∷ ws) (put_run kind (w ∷ ws) out)
+pub run_made : (kind : ℕ) (w : ℕ) (ws : List ℕ) (out : Layout) → 0 < kind → kind < 15 → AllByRecursion (λ w. w < 2 ^ 32) (w ∷ ws) → end_offset (word_and_layout_with_run kind (w ∷ ws) out).1 ≤ MOST_BYTES → MadeRun kind (w ∷ ws) (word_and_layout_with_run kind (w ∷ ws) out)
 run_made kind w ws out pos lt15 small fits =
     let i : Item = record { kind = kind; align = 4; bytes = run_bytes (w ∷ ws); entries = length (w ∷ ws) } in
-    let l : (root : ℕ) → Leads (payload_with_root root (put_item i out).1) i (put_item i out).0 = λ root. placed_leads i out root pos lt15 (omega arith) fits in
+    let l : (root : ℕ) → Leads (payload_with_root root (word_and_layout_with_item i out).1) i (word_and_layout_with_item i out).0 = λ root. placed_leads i out root pos lt15 (omega arith) fits in
     let few : suc (length (w ∷ ws)) < 2 ^ 32 = omega (arith, item_within i out (omega arith), length-append (to_le_bytes w32 (suc (length (w ∷ ws)))) (flat_map (to_le_bytes w32) (w ∷ ws)), words_len (w ∷ ws)) in
     record { nonzero = (l 0).nonzero; small = (l 0).small; reads = λ root. run_entries_of_word-placed kind _ _ (w ∷ ws) small few (l root) }
 
@@ -461,19 +461,19 @@ mutual
   write-made (arr none) out n fits = absurd (n.0 refl)
   write-made (arr (more v vs)) out n fits =
       let r = write_all (more v vs) out in
-      let g = put_run-grows ARRAY r.0 r.1 in
+      let g = word_and_layout_with_run-grows ARRAY r.0 r.1 in
       let all = write_all-made (more v vs) out n.1 (le_trans (Grows-here _ _ g) fits) in
-      let run : MadeRun ARRAY r.0 (put_run ARRAY r.0 r.1) = run_made ARRAY _ _ r.1 (lit< tt) (lit< tt) all.1 fits in
+      let run : MadeRun ARRAY r.0 (word_and_layout_with_run ARRAY r.0 r.1) = run_made ARRAY _ _ r.1 (lit< tt) (lit< tt) all.1 fits in
       record { holds = λ root. (run.nonzero, r.0, run.reads root, Grows-HoldAll _ _ root (more v vs) r.0 g (all.0 root)); small = run.small }
   write-made (obj none) out n fits = absurd (n.0 refl)
   write-made (obj (more v vs)) out n fits =
       let r = write_all (more v vs) out in
-      let g = put_run-grows OBJECT (words_without_last_nulls r.0) r.1 in
+      let g = word_and_layout_with_run-grows OBJECT (words_without_last_nulls r.0) r.1 in
       let all = write_all-made (more v vs) out n.2 (le_trans (Grows-here _ _ g) fits) in
       let stay : words_without_last_nulls r.0 ≡ r.0 = words_stay (payload_with_root 0 r.1) (more v vs) r.0 n.1 (all.0 0) in
-      let run : MadeRun OBJECT r.0 (put_run OBJECT r.0 r.1) = run_made OBJECT _ _ r.1 (lit< tt) (lit< tt) all.1 (subst (λ (ws : List ℕ). end_offset (put_run OBJECT ws r.1).1 ≤ MOST_BYTES) stay fits) in
-      subst (λ (ws : List ℕ). Made (obj (more v vs)) (put_run OBJECT ws r.1)) (sym stay)
-      (record { holds = λ root. (run.nonzero, r.0, run.reads root, Grows-HoldAll _ _ root (more v vs) r.0 (put_run-grows OBJECT r.0 r.1) (all.0 root)); small = run.small })
+      let run : MadeRun OBJECT r.0 (word_and_layout_with_run OBJECT r.0 r.1) = run_made OBJECT _ _ r.1 (lit< tt) (lit< tt) all.1 (subst (λ (ws : List ℕ). end_offset (word_and_layout_with_run OBJECT ws r.1).1 ≤ MOST_BYTES) stay fits) in
+      subst (λ (ws : List ℕ). Made (obj (more v vs)) (word_and_layout_with_run OBJECT ws r.1)) (sym stay)
+      (record { holds = λ root. (run.nonzero, r.0, run.reads root, Grows-HoldAll _ _ root (more v vs) r.0 (word_and_layout_with_run-grows OBJECT r.0 r.1) (all.0 root)); small = run.small })
 
   pub write_all-made : (vs : Plains) (out : Layout) → AreNormal vs → end_offset (write_all vs out).1 ≤ MOST_BYTES → ((root : ℕ) → HoldAll (payload_with_root root (write_all vs out).1) vs (write_all vs out).0) × AllByRecursion (λ w. w < 2 ^ 32) (write_all vs out).0
   write_all-made none out n fits = (λ root. tt, tt)

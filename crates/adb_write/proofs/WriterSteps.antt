@@ -2,7 +2,7 @@
 use Rattle.std.proofs.Common.{◌≡◌, ◌<◌, ℕ, ◌+◌, ◌*◌, ◌^◌, Bool, true, false, List, [], ◌∷◌, ◌++◌, length, replicate, if◌then◌else◌, Option, Some, None, Result, Ok, Err, OnErr, refl, sym, ap, ◌∙◌, arith}
 use Rattle.std.specs.Prelude.{find, option_map}
 use Rattle.std.proofs.lemmas.List.{length-append, length-replicate}
-use Rattle.adb_write.specs.Canonical.{padding_to_alignment, Item, WrittenItem, apart, in_place, is_equal_item, word_of_written_item, blob_cell, run_cell, Layout, put_new_item, put_item_unless_written, put_item, layout_counts, exceeds_a_limit}
+use Rattle.adb_write.specs.Canonical.{padding_to_alignment_from_offset, Item, WrittenItem, apart, in_place, is_equal_item, word_of_written_item, blob_cell, run_cell, Layout, word_and_layout_with_new_item, word_and_layout_with_item_unless_written, word_and_layout_with_item, layout_counts, exceeds_a_limit}
 use Rattle.adb_write.specs.Writing.{Writing, Grows, layout_of, writing_of, unless_past_limit, call, writing_from_parts}
 use Rattle.adb_write.specs.WriterState.{IsWordOfEqualItem}
 
@@ -19,7 +19,7 @@ call_null w = go (exceeds_a_limit (w.bytes, w.values))
     go false = refl
 
 -- within the limits a call takes the step of the layout
-call_steps : (i : Item) (w : Writing) → exceeds_a_limit (w.bytes, w.values) ≡ false → call (apart i) w ≡ unless_past_limit w (put_item i (layout_of w))
+call_steps : (i : Item) (w : Writing) → exceeds_a_limit (w.bytes, w.values) ≡ false → call (apart i) w ≡ unless_past_limit w (word_and_layout_with_item i (layout_of w))
 unfolding call
 call_steps i w fine = rw fine refl
 
@@ -27,7 +27,7 @@ call_steps i w fine = rw fine refl
 
 call_step_found : (i : Item) (w : Writing) (there : WrittenItem) → exceeds_a_limit (w.bytes, w.values) ≡ false → find (is_equal_item w.body i) w.items ≡ Some there
     → call (apart i) w ≡ unless_past_limit w (word_of_written_item there, record (layout_of w) { values = w.values + i.entries })
-call_step_found i w there fine found = call_steps i w fine ∙ ap (λ (o : Option WrittenItem). unless_past_limit w (put_item_unless_written o i (layout_of w))) found
+call_step_found i w there fine found = call_steps i w fine ∙ ap (λ (o : Option WrittenItem). unless_past_limit w (word_and_layout_with_item_unless_written o i (layout_of w))) found
 
 pub repeat_stops : (i : Item) (body : List ℕ) (items : List WrittenItem) (bytes values : ℕ) (there : WrittenItem) → exceeds_a_limit (bytes, values) ≡ false → bytes ≡ 8 + length body
     → find (is_equal_item body i) items ≡ Some there → exceeds_a_limit (bytes, values + i.entries) ≡ true
@@ -47,20 +47,20 @@ repeat_fits i body items bytes values there fine e found fits =
 
 -- where an item ends that begins after so many bytes
 abbrev pub end_of : Item → ℕ → ℕ
-end_of i bytes = bytes + padding_to_alignment i.align bytes + length i.bytes
+end_of i bytes = bytes + padding_to_alignment_from_offset i.align bytes + length i.bytes
 
 -- if it begins, after the head
 abbrev pub written_at : Item → List ℕ → WrittenItem
-written_at i body = record { kind = i.kind; offset = length body + padding_to_alignment i.align (8 + length body) }
+written_at i body = record { kind = i.kind; offset = length body + padding_to_alignment_from_offset i.align (8 + length body) }
 
 call_step_new : (i : Item) (w : Writing) → exceeds_a_limit (w.bytes, w.values) ≡ false → find (is_equal_item w.body i) w.items ≡ None
-    → call (apart i) w ≡ unless_past_limit w (put_new_item i (layout_of w))
-call_step_new i w fine none = call_steps i w fine ∙ ap (λ (o : Option WrittenItem). unless_past_limit w (put_item_unless_written o i (layout_of w))) none
+    → call (apart i) w ≡ unless_past_limit w (word_and_layout_with_new_item i (layout_of w))
+call_step_new i w fine none = call_steps i w fine ∙ ap (λ (o : Option WrittenItem). unless_past_limit w (word_and_layout_with_item_unless_written o i (layout_of w))) none
 
-placed_counts : (i : Item) (body : List ℕ) (items : List WrittenItem) (bytes values : ℕ) → bytes ≡ 8 + length body → layout_counts (put_new_item i (layout_of (writing_from_parts body items bytes values))).1 ≡ (end_of i bytes, values + i.entries)
+placed_counts : (i : Item) (body : List ℕ) (items : List WrittenItem) (bytes values : ℕ) → bytes ≡ 8 + length body → layout_counts (word_and_layout_with_new_item i (layout_of (writing_from_parts body items bytes values))).1 ≡ (end_of i bytes, values + i.entries)
 placed_counts i body items bytes values e =
-    let zeros : List ℕ = replicate (padding_to_alignment i.align (8 + length body)) 0 in
-    let len : 8 + length (body ++ (zeros ++ i.bytes)) ≡ end_of i (8 + length body) = omega (arith, length-append body (zeros ++ i.bytes), length-append zeros i.bytes, length-replicate {A = ℕ} (padding_to_alignment i.align (8 + length body)) 0) in
+    let zeros : List ℕ = replicate (padding_to_alignment_from_offset i.align (8 + length body)) 0 in
+    let len : 8 + length (body ++ (zeros ++ i.bytes)) ≡ end_of i (8 + length body) = omega (arith, length-append body (zeros ++ i.bytes), length-append zeros i.bytes, length-replicate {A = ℕ} (padding_to_alignment_from_offset i.align (8 + length body)) 0) in
     ap (λ (k : ℕ). (k, values + i.entries)) (len ∙ ap (λ (k : ℕ). end_of i k) (sym e))
 
 pub call_stops : (i : Item) (body : List ℕ) (items : List WrittenItem) (bytes values : ℕ) → exceeds_a_limit (bytes, values) ≡ false → bytes ≡ 8 + length body
@@ -68,34 +68,34 @@ pub call_stops : (i : Item) (body : List ℕ) (items : List WrittenItem) (bytes 
     → call (apart i) (writing_from_parts body items bytes values) ≡ (0, writing_from_parts body items (end_of i bytes) (values + i.entries))
 call_stops i body items bytes values a e none r =
     let counts = placed_counts i body items bytes values e in
-    let b : exceeds_a_limit (layout_counts (put_new_item i (layout_of (writing_from_parts body items bytes values))).1) ≡ true = ap exceeds_a_limit counts ∙ r in
+    let b : exceeds_a_limit (layout_counts (word_and_layout_with_new_item i (layout_of (writing_from_parts body items bytes values))).1) ≡ true = ap exceeds_a_limit counts ∙ r in
     call_step_new i (writing_from_parts body items bytes values) a none ∙ rw b (ap (λ (k : ℕ × ℕ). (0, writing_from_parts body items k.0 k.1)) counts)
 
 pub call_fits : (i : Item) (body : List ℕ) (items : List WrittenItem) (bytes values : ℕ) → exceeds_a_limit (bytes, values) ≡ false → bytes ≡ 8 + length body
     → find (is_equal_item body i) items ≡ None → exceeds_a_limit (end_of i bytes, values + i.entries) ≡ false
-    → call (apart i) (writing_from_parts body items bytes values) ≡ (i.kind * 2 ^ 28 + (bytes + padding_to_alignment i.align bytes), writing_from_parts (body ++ (replicate (padding_to_alignment i.align bytes) 0 ++ i.bytes)) (written_at i body ∷ items) (end_of i bytes) (values + i.entries))
+    → call (apart i) (writing_from_parts body items bytes values) ≡ (i.kind * 2 ^ 28 + (bytes + padding_to_alignment_from_offset i.align bytes), writing_from_parts (body ++ (replicate (padding_to_alignment_from_offset i.align bytes) 0 ++ i.bytes)) (written_at i body ∷ items) (end_of i bytes) (values + i.entries))
 call_fits i body items bytes values a e none r =
     let counts = placed_counts i body items bytes values e in
-    let b : exceeds_a_limit (layout_counts (put_new_item i (layout_of (writing_from_parts body items bytes values))).1) ≡ false = ap exceeds_a_limit counts ∙ r in
+    let b : exceeds_a_limit (layout_counts (word_and_layout_with_new_item i (layout_of (writing_from_parts body items bytes values))).1) ≡ false = ap exceeds_a_limit counts ∙ r in
     call_step_new i (writing_from_parts body items bytes values) a none
-    ∙ rw b (pair_same _ _ _ _ (ap (λ (k : ℕ). i.kind * 2 ^ 28 + (k + padding_to_alignment i.align k)) (sym e)) (writing_same _ _ counts (ap (λ (k : ℕ). body ++ (replicate (padding_to_alignment i.align k) 0 ++ i.bytes)) (sym e)) refl))
+    ∙ rw b (pair_same _ _ _ _ (ap (λ (k : ℕ). i.kind * 2 ^ 28 + (k + padding_to_alignment_from_offset i.align k)) (sym e)) (writing_same _ _ counts (ap (λ (k : ℕ). body ++ (replicate (padding_to_alignment_from_offset i.align k) 0 ++ i.bytes)) (sym e)) refl))
   where
     pair_same : (x y : ℕ) (u v : Writing) → x ≡ y → u ≡ v → ◌≡◌ {A = ℕ × Writing} (x, u) (y, v)
     pair_same x y u v f g = cc
 
-    writing_same : (x : Layout) (c : ℕ × ℕ) → layout_counts x ≡ c → x.body ≡ body ++ (replicate (padding_to_alignment i.align bytes) 0 ++ i.bytes) → x.items ≡ written_at i body ∷ items
-        → writing_of x ≡ writing_from_parts (body ++ (replicate (padding_to_alignment i.align bytes) 0 ++ i.bytes)) (written_at i body ∷ items) c.0 c.1
+    writing_same : (x : Layout) (c : ℕ × ℕ) → layout_counts x ≡ c → x.body ≡ body ++ (replicate (padding_to_alignment_from_offset i.align bytes) 0 ++ i.bytes) → x.items ≡ written_at i body ∷ items
+        → writing_of x ≡ writing_from_parts (body ++ (replicate (padding_to_alignment_from_offset i.align bytes) 0 ++ i.bytes)) (written_at i body ∷ items) c.0 c.1
     writing_same x c f g h =
         ap (λ (b : List ℕ). writing_from_parts b x.items (layout_counts x).0 (layout_counts x).1) g
-        ∙ ap (λ (is : List WrittenItem). writing_from_parts (body ++ (replicate (padding_to_alignment i.align bytes) 0 ++ i.bytes)) is (layout_counts x).0 (layout_counts x).1) h
-        ∙ ap (λ (k : ℕ × ℕ). writing_from_parts (body ++ (replicate (padding_to_alignment i.align bytes) 0 ++ i.bytes)) (written_at i body ∷ items) k.0 k.1) f
+        ∙ ap (λ (is : List WrittenItem). writing_from_parts (body ++ (replicate (padding_to_alignment_from_offset i.align bytes) 0 ++ i.bytes)) is (layout_counts x).0 (layout_counts x).1) h
+        ∙ ap (λ (k : ℕ × ℕ). writing_from_parts (body ++ (replicate (padding_to_alignment_from_offset i.align bytes) 0 ++ i.bytes)) (written_at i body ∷ items) k.0 k.1) f
 
 -- an item that fits adds its bytes
 pub call_grows : (i : Item) (body : List ℕ) (items : List WrittenItem) (bytes values : ℕ) → exceeds_a_limit (bytes, values) ≡ false → bytes ≡ 8 + length body
     → find (is_equal_item body i) items ≡ None → exceeds_a_limit (end_of i bytes, values + i.entries) ≡ false → 0 < length i.bytes
     → Grows (writing_from_parts body items bytes values) (call (apart i) (writing_from_parts body items bytes values)).1
 call_grows i body items bytes values a e none r some =
-    let zeros : List ℕ = replicate (padding_to_alignment i.align bytes) 0 in
+    let zeros : List ℕ = replicate (padding_to_alignment_from_offset i.align bytes) 0 in
     let is : length (call (apart i) (writing_from_parts body items bytes values)).1.body ≡ length (body ++ (zeros ++ i.bytes)) = ap (λ (p : ℕ × Writing). length p.1.body) (call_fits i body items bytes values a e none r) in
     omega (arith, is, length-append body (zeros ++ i.bytes), length-append zeros i.bytes)
 

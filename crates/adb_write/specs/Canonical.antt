@@ -8,8 +8,8 @@ use Rattle.adb_view.specs.Readers.{ARRAY, OBJECT}
 pub use Rattle.adb_view.specs.Visits.{MOST_VALUES}
 
 -- how many zeros are between the offset n and the next multiple of `align`
-abbrev pub padding_to_alignment : ℕ → ℕ → ℕ
-padding_to_alignment align n = (align - n % align) % align
+abbrev pub padding_to_alignment_from_offset : ℕ → ℕ → ℕ
+padding_to_alignment_from_offset align n = (align - n % align) % align
 
 -- an item: the stored bytes of a value that does not fit into its word, before it is written at an offset
 pub record Item : Type 0 where
@@ -116,14 +116,14 @@ word_of_written_item there = there.kind * 2 ^ 28 + (8 + there.offset)
 
 -- the word of the new item i, and the layout with this item: it is at the next offset that its alignment allows, with
 -- zeros before it
-abbrev pub put_new_item : Item → Layout → ℕ × Layout
-put_new_item i out = (
-  i.kind * 2 ^ 28 + (end_offset out + padding_to_alignment i.align (end_offset out)),
+abbrev pub word_and_layout_with_new_item : Item → Layout → ℕ × Layout
+word_and_layout_with_new_item i out = (
+  i.kind * 2 ^ 28 + (end_offset out + padding_to_alignment_from_offset i.align (end_offset out)),
   record {
-    body = out.body ++ (replicate (padding_to_alignment i.align (end_offset out)) 0 ++ i.bytes);
+    body = out.body ++ (replicate (padding_to_alignment_from_offset i.align (end_offset out)) 0 ++ i.bytes);
     items = (record {
       kind = i.kind;
-      offset = length out.body + padding_to_alignment i.align (end_offset out);
+      offset = length out.body + padding_to_alignment_from_offset i.align (end_offset out);
     }) ∷ out.items;
     values = out.values + i.entries;
   },
@@ -131,32 +131,34 @@ put_new_item i out = (
 
 -- the word of the item i, and the layout with this item. If an equal item was written (`there`), the word of that item
 -- is returned, no bytes are added, and only the entries are counted
-abbrev pub put_item_unless_written : Option WrittenItem → Item → Layout → ℕ × Layout
-put_item_unless_written None i out = put_new_item i out
-put_item_unless_written (Some there) i out =
+abbrev pub word_and_layout_with_item_unless_written : Option WrittenItem → Item → Layout → ℕ × Layout
+word_and_layout_with_item_unless_written None i out = word_and_layout_with_new_item i out
+word_and_layout_with_item_unless_written (Some there) i out =
     (word_of_written_item there, record out { values = out.values + i.entries })
 
 -- the word of the item i, and the layout with this item, which is written unless an equal item was written before
-abbrev pub put_item : Item → Layout → ℕ × Layout
-put_item i out = put_item_unless_written (find (is_equal_item out.body i) out.items) i out
+abbrev pub word_and_layout_with_item : Item → Layout → ℕ × Layout
+word_and_layout_with_item i out =
+    word_and_layout_with_item_unless_written (find (is_equal_item out.body i) out.items) i out
 
 -- the word of a value, and the layout with the value's item, if the word does not contain the value itself
-abbrev pub put_cell : Cell → Layout → ℕ × Layout
-put_cell (in_place w) out = (w, out)
-put_cell (apart i) out = put_item i out
+abbrev pub word_and_layout_with_cell : Cell → Layout → ℕ × Layout
+word_and_layout_with_cell (in_place w) out = (w, out)
+word_and_layout_with_cell (apart i) out = word_and_layout_with_item i out
 
 -- the word of an array or an object with these words (`kind` is 13 or 14), and the layout with this list
-abbrev pub put_run : ℕ → List ℕ → Layout → ℕ × Layout
-put_run kind ws out = put_cell (run_cell kind ws) out
+abbrev pub word_and_layout_with_run : ℕ → List ℕ → Layout → ℕ × Layout
+word_and_layout_with_run kind ws out = word_and_layout_with_cell (run_cell kind ws) out
 
 -- the word of a value, and the layout with this value: its entries are written in order, then its own item
 unfoldable mutual
   pub write : Plain → Layout → ℕ × Layout
   write null out = (0, out)
-  write (int n) out = put_cell (int_cell n) out
-  write (blob b) out = put_cell (blob_cell b) out
-  write (arr vs) out = put_run ARRAY (write_all vs out).0 (write_all vs out).1
-  write (obj vs) out = put_run OBJECT (words_without_last_nulls (write_all vs out).0) (write_all vs out).1
+  write (int n) out = word_and_layout_with_cell (int_cell n) out
+  write (blob b) out = word_and_layout_with_cell (blob_cell b) out
+  write (arr vs) out = word_and_layout_with_run ARRAY (write_all vs out).0 (write_all vs out).1
+  write (obj vs) out =
+      word_and_layout_with_run OBJECT (words_without_last_nulls (write_all vs out).0) (write_all vs out).1
 
   -- the words of values that are written in order, and the layout with these values
   pub write_all : Plains → Layout → List ℕ × Layout
@@ -180,20 +182,20 @@ abbrev pub MOST_BYTES : ℕ
 MOST_BYTES = 268435455
 
 -- how many bytes a payload has, and how many values, in this order
-abbrev pub PayloadCounts : Type 0
-PayloadCounts = ℕ × ℕ
+abbrev pub ByteAndValueCounts : Type 0
+ByteAndValueCounts = ℕ × ℕ
 
 -- the two counts of a layout: bytes, including the head, and values
-abbrev pub layout_counts : Layout → PayloadCounts
+abbrev pub layout_counts : Layout → ByteAndValueCounts
 layout_counts out = (end_offset out, out.values)
 
 -- whether one of the two counts is above its limit (*MOST_BYTES*, *MOST_VALUES*)
-abbrev pub exceeds_a_limit : PayloadCounts → Bool
+abbrev pub exceeds_a_limit : ByteAndValueCounts → Bool
 exceeds_a_limit c = nat_lt MOST_BYTES c.0 || nat_lt MOST_VALUES c.1
 
 -- the two counts just after each value that is written, in the order of writing; `out` is the layout before the value
 unfoldable mutual
-  pub counts_after_values : Plain → Layout → List PayloadCounts
+  pub counts_after_values : Plain → Layout → List ByteAndValueCounts
   counts_after_values null out = []
   counts_after_values (int n) out = layout_counts (write (int n) out).1 ∷ []
   counts_after_values (blob b) out = layout_counts (write (blob b) out).1 ∷ []
@@ -201,19 +203,19 @@ unfoldable mutual
   counts_after_values (obj vs) out = trace_all vs out ++ layout_counts (write (obj vs) out).1 ∷ []
 
   -- the two counts just after each of these values and of the values below them
-  pub trace_all : Plains → Layout → List PayloadCounts
+  pub trace_all : Plains → Layout → List ByteAndValueCounts
   trace_all none out = []
   trace_all (more v vs) out = counts_after_values v out ++ trace_all vs (write v out).1
 
 -- the two counts just after the first value in `v` that brings one of them above its limit; None if no value does
-abbrev pub overflow_of : Plain → Option PayloadCounts
+abbrev pub overflow_of : Plain → Option ByteAndValueCounts
 overflow_of v = find exceeds_a_limit (counts_after_values v empty_layout)
 
 -- the payload, unless there are counts at which a value overflows
-abbrev pub or_overflow : List ℕ → Option PayloadCounts → Result (List ℕ) PayloadCounts
-or_overflow payload None = Ok payload
-or_overflow payload (Some counts) = Err counts
+abbrev pub payload_unless_overflow : List ℕ → Option ByteAndValueCounts → Result (List ℕ) ByteAndValueCounts
+payload_unless_overflow payload None = Ok payload
+payload_unless_overflow payload (Some counts) = Err counts
 
 -- the result of writing a value: its canonical payload, or the counts at which it overflows
-unfoldable pub payload_or_overflow : Plain → Result (List ℕ) PayloadCounts
-payload_or_overflow v = or_overflow (canonical v) (overflow_of v)
+unfoldable pub payload_or_overflow : Plain → Result (List ℕ) ByteAndValueCounts
+payload_or_overflow v = payload_unless_overflow (canonical v) (overflow_of v)

@@ -34,8 +34,9 @@ abbrev pub Denotes : Writing → Plain → ℕ → Type 0
 Denotes w v word = is_past_limit w ≡ false → IsWordOf (layout_of w) v word
 
 -- unless the writer passed a limit, the words represent these values in the writer's payload, one for one
-abbrev pub AllDenote : Writing → Plains → List ℕ → Type 0
-AllDenote w none [] = Unit {0}
-AllDenote w none (x ∷ xs) = ⊥
-AllDenote w (more v vs) [] = ⊥
-AllDenote w (more v vs) (x ∷ xs) = Denotes w v x × AllDenote w vs xs
+abbrev pub AllDenoteValuesUnlessPastLimit : Writing → Plains → List ℕ → Type 0
+AllDenoteValuesUnlessPastLimit w none [] = Unit {0}
+AllDenoteValuesUnlessPastLimit w none (x ∷ xs) = ⊥
+AllDenoteValuesUnlessPastLimit w (more v vs) [] = ⊥
+AllDenoteValuesUnlessPastLimit w (more v vs) (x ∷ xs) =
+    Denotes w v x × AllDenoteValuesUnlessPastLimit w vs xs

@@ -4,7 +4,7 @@
 use Rattle.std.specs.Prelude.{◌≡◌, ℕ, ◌+◌, ◌-◌, ◌^◌, ◌<◌, ◌≤◌, ◌⊎◌, ◌%◌, suc, false, List, [], ◌∷◌, length, take, drop, replicate, nat_lt, find, option_map, Some, Result, Ok, Err, if◌then◌else◌}
 use Rattle.std.specs.List.{AllByRecursion, concat}
 use Rattle.adb_view.specs.Readers.{kind_of_word, low_28_bits}
-use Rattle.adb_write.specs.Canonical.{Item, WrittenItem, is_equal_item, word_of_written_item, int_item, blob_item, run_item, PayloadCounts, exceeds_a_limit}
+use Rattle.adb_write.specs.Canonical.{Item, WrittenItem, is_equal_item, word_of_written_item, int_item, blob_item, run_item, ByteAndValueCounts, exceeds_a_limit}
 use Rattle.adb_write.specs.Writing.{Writing, is_past_limit}
 use Rattle.adb_write.specs.Items.{list_kind}
 use Rattle.adb_write.specs.Keys.{HaveRisingKeys, blob_fingerprint, fingerprint_of_locator, list_fingerprint, word_of_locator}
@@ -116,7 +116,7 @@ IsWordOfEqualItem i w word =
 -- the result of `finish` for the writer w is `answer`, the result of the definition: a payload, of which `view` is the
 -- list of bytes, or the two counts if a limit was passed. If nothing was written, it may be out of memory instead
 abbrev pub IsFinishResult : {A : Type 0} → (A → List ℕ) → Writing → Result A WriteFault
-    → Result (List ℕ) PayloadCounts → Type 0
+    → Result (List ℕ) ByteAndValueCounts → Type 0
 IsFinishResult view w (Ok payload) answer = answer ≡ Ok (view payload)
 IsFinishResult view w (Err (TooLarge bytes values)) answer = answer ≡ Err (bytes, values)
 IsFinishResult view w (Err Memory) answer = (is_past_limit w ≡ false) × (w.body ≡ [])

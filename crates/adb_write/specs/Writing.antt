@@ -4,7 +4,7 @@
 use Rattle.std.specs.Prelude.{ℕ, ◌<◌, Bool, List, [], ◌∷◌, length, Result, Ok, Err, if◌then◌else◌}
 use Rattle.adb_view.specs.Plain.{Plain, null, int, blob, arr, obj, Plains, none, more}
 use Rattle.adb_view.specs.Readers.{ARRAY, OBJECT}
-use Rattle.adb_write.specs.Canonical.{WrittenItem, Cell, in_place, apart, int_cell, blob_cell, run_cell, words_without_last_nulls, Layout, put_cell, PayloadCounts, layout_counts, exceeds_a_limit, payload_with_root}
+use Rattle.adb_write.specs.Canonical.{WrittenItem, Cell, in_place, apart, int_cell, blob_cell, run_cell, words_without_last_nulls, Layout, word_and_layout_with_cell, ByteAndValueCounts, layout_counts, exceeds_a_limit, payload_with_root}
 
 -- the state of a writer: the written bytes and items, and the counts of bytes and values. The counts are those of the
 -- written values. If a value exceeded a limit, they are the counts just after this value
@@ -28,7 +28,7 @@ abbrev pub empty_writing : Writing
 empty_writing = writing_from_parts [] [] 8 1
 
 -- the two counts of a writer: its bytes and its values
-abbrev pub writing_counts : Writing → PayloadCounts
+abbrev pub writing_counts : Writing → ByteAndValueCounts
 writing_counts w = (w.bytes, w.values)
 
 -- whether a writer passed a limit: one of its counts is above the limit
@@ -56,7 +56,8 @@ unless_past_limit w r =
 -- the word is NULL. A value that its word itself contains adds nothing
 unfoldable pub call : Cell → Writing → ℕ × Writing
 call (in_place word) w = ((if is_past_limit w then 0 else word), w)
-call (apart i) w = if is_past_limit w then (0, w) else unless_past_limit w (put_cell (apart i)
+call (apart i) w =
+    if is_past_limit w then (0, w) else unless_past_limit w (word_and_layout_with_cell (apart i)
     (layout_of w))
 
 -- a writer has more bytes in the state `later` than in the state `before`, so it needed memory
@@ -81,7 +82,7 @@ abbrev pub obj_call : List ℕ → Writing → ℕ × Writing
 obj_call ws w = call (run_cell OBJECT (words_without_last_nulls ws)) w
 
 -- the result of `finish`: the payload whose root has the word `root`, or the two counts if the writer passed a limit
-abbrev pub finish_result : ℕ → Writing → Result (List ℕ) PayloadCounts
+abbrev pub finish_result : ℕ → Writing → Result (List ℕ) ByteAndValueCounts
 finish_result root w =
     if is_past_limit w then Err (writing_counts w) else Ok (payload_with_root root (layout_of w))
 

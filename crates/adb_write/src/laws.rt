@@ -12,7 +12,7 @@ ghost use Rattle.adb_write.specs.Size.{payload_size_of, entries_of, value_count,
 ghost use Rattle.adb_write.specs.Writing.{Writing, empty_writing, is_past_limit, layout_of, int_call, blob_call, arr_call, obj_call, finish_result};
 ghost use Rattle.adb_write.specs.DepthFirst.{WritesValue, WritesValues, push};
 ghost use Rattle.adb_view.specs.Shaped.{HasShape};
-ghost use Rattle.adb_write.specs.Denotes.{Denotes, AllDenote};
+ghost use Rattle.adb_write.specs.Denotes.{Denotes, AllDenoteValuesUnlessPastLimit};
 
 use adb_block::what_is_written_is_spelled;
 
@@ -95,12 +95,12 @@ pub fn an_answer_denotes_its_value()
     // The word that `arr` returns represents the array of the values that the given words
     // represent.
     ensures arr { (vs : Plains) (words : List ℕ) (w : Writing)
-        → AllDenote w vs words
+        → AllDenoteValuesUnlessPastLimit w vs words
         → Denotes (arr_call words w).1 (array_or_null vs) (arr_call words w).0 }
     // The word that `obj` returns represents the object of the values that the given words
     // represent.
     ensures obj { (vs : Plains) (words : List ℕ) (w : Writing)
-        → AllDenote w vs words
+        → AllDenoteValuesUnlessPastLimit w vs words
         → Denotes (obj_call words w).1 (trimmed_object_or_null vs) (obj_call words w).0 }
 {}
 

@@ -4,7 +4,7 @@
 //! container below "In a container each block is padded".
 
 ghost use Rattle.std.specs.Prelude.{◌≡◌, ◌<◌, ◌≤◌, ◌+◌, ◌^◌, false, IfOk, OnErr, length};
-ghost use Rattle.adb_write.specs.Canonical.{MOST_BYTES, exceeds_a_limit, padding_to_alignment, in_place, apart, run_cell, words_without_last_nulls};
+ghost use Rattle.adb_write.specs.Canonical.{MOST_BYTES, exceeds_a_limit, padding_to_alignment_from_offset, in_place, apart, run_cell, words_without_last_nulls};
 ghost use Rattle.adb_view.specs.Plain.{Plains, int, blob_or_null, array_or_null, trimmed_object_or_null};
 ghost use Rattle.adb_write.specs.DepthFirst.{WritesValue, WritesValues};
 ghost use Rattle.adb_write.specs.Writing.{Writing, Grows, empty_writing, is_past_limit, call, int_call, blob_call, arr_call, obj_call, finish_result};
@@ -57,14 +57,14 @@ const MOST_VALUES: u64 = 4_194_304;
 
 /// How many bytes a payload has so far, and how many values.
 #[derive(Clone, Copy)]
-struct PayloadCounts {
+struct ByteAndValueCounts {
     /// How many bytes there are, including the head.
     pub bytes: u64,
     /// How many values there are, including the root.
     pub values: u64,
 }
 
-impl PayloadCounts {
+impl ByteAndValueCounts {
     /// Whether one of the two counts is above its limit.
     fn exceeds_a_limit(self) -> bool
         ensures { result ≡ exceeds_a_limit (self.bytes, self.values) }
@@ -94,7 +94,7 @@ pub struct Writer {
     store: Store,
     /// The counts of bytes and values so far. If a value exceeded a limit, these are the counts
     /// just after this value.
-    counts: PayloadCounts,
+    counts: ByteAndValueCounts,
 }
 
 impl Model for Writer {
@@ -125,7 +125,7 @@ impl Writer {
     {
         Writer {
             store: Store::new(alloc),
-            counts: PayloadCounts {
+            counts: ByteAndValueCounts {
                 bytes: HEAD,
                 values: 1,
             },
@@ -144,7 +144,7 @@ impl Writer {
         let store = Store::with_capacity(alloc, bytes)?;
         Ok(Writer {
             store,
-            counts: PayloadCounts {
+            counts: ByteAndValueCounts {
                 bytes: HEAD,
                 values: 1,
             },
@@ -307,8 +307,9 @@ impl Writer {
         };
         // The item is written at the next offset that its alignment allows.
         let before = self.counts;
-        let at = before.bytes + padding_to_alignment(parts.width().len() as u64, before.bytes);
-        let counts = PayloadCounts {
+        let at = before.bytes
+            + padding_to_alignment_from_offset(parts.width().len() as u64, before.bytes);
+        let counts = ByteAndValueCounts {
             bytes: at + parts.len(),
             values: before.values + parts.entries(),
         };
@@ -343,10 +344,10 @@ impl Writer {
 }
 
 /// How many zeros are between the offset `n` and the next multiple of `align`.
-fn padding_to_alignment(align: u64, n: u64) -> u64
+fn padding_to_alignment_from_offset(align: u64, n: u64) -> u64
     // The alignment is not 0.
     requires { 0 < align }
-    ensures value { result ≡ padding_to_alignment align n }
+    ensures value { result ≡ padding_to_alignment_from_offset align n }
     // There are fewer zeros than the alignment.
     ensures below { result < align }
 {

@@ -14,7 +14,7 @@ use Rattle.change_outcome.specs.change_files.PlanLists.{sorted_distinct_names}
 use Rattle.change_outcome.specs.change_inputs.Chains.{and_then}
 use Rattle.change_outcome.specs.change_inputs.Inputs.{first_index_read_number}
 use Rattle.change_outcome.specs.MembersAfter.{MemberFound, added_package_by_path, added_member_found, members_after, found_members, member_of_name_after, member_of_name_by_change, member_of_removed_name, members_of_names_after, kept_member_found}
-use Rattle.change_outcome.specs.PackageFiles.{AddedPackage, first_script_of, package_file_path_of_candidate, added_package_or_refusal, package_in_file, scripts_of_change, unless_package_bad, package_unless_other_than_candidate, unless_script_number, unless_script_needed}
+use Rattle.change_outcome.specs.PackageFiles.{AddedPackage, first_script_number_of_package, package_file_path_of_candidate, added_package_or_refusal, package_in_file, scripts_of_change, package_unless_bad_or_different, package_unless_other_than_candidate, unless_script_number, unless_script_needed}
 use Rattle.change_outcome.specs.db_core.Members.{AreMembersInNameOrder, Member, member_name}
 use Rattle.change_outcome.specs.db_core.Packages.{is_package_named}
 use Rattle.dep_core.specs.Repositories.{Repository}
@@ -50,7 +50,7 @@ named_by_file : (c : Candidate) (file : Option (List ℕ)) (p : AddedPackage) �
 named_by_file c None p is = absurd (cc)
 named_by_file c (Some file) p is = go (package_fault file) is
   where
-    go : (fault : Option Cause) → unless_package_bad c fault (package_in_file file) ≡ Ok p → package_name p.value ≡ c.name
+    go : (fault : Option Cause) → package_unless_bad_or_different c fault (package_in_file file) ≡ Ok p → package_name p.value ≡ c.name
     go None is = same_name c (package_in_file file) p is
     go (Some cause) is = absurd (cc)
 
@@ -65,7 +65,7 @@ by_number name (Some k) a b is = absurd (cc)
 
 by_scripts : {A : Type 0} (no_scripts : Bool) (name : List ℕ) (pkg : Plain) (numbers : List ℕ) (a b : A) → unless_script_needed no_scripts name pkg numbers a ≡ Ok b → a ≡ b
 by_scripts true name pkg numbers a b is = cc
-by_scripts false name pkg numbers a b is = by_number name (first_script_of pkg numbers) a b is
+by_scripts false name pkg numbers a b is = by_number name (first_script_number_of_package pkg numbers) a b is
 
 none_goes : (no_scripts : Bool) (name : List ℕ) (change : Change) (before : Option Plain) (m : MemberFound) → member_of_removed_name no_scripts name change before ≡ Ok (Some m) → ⊥
 none_goes no_scripts name change None m is = cc

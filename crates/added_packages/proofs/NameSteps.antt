@@ -5,7 +5,7 @@ use Rattle.adb_view.specs.Plain.{Plain}
 use Rattle.base_core.specs.Tree.{TreeState}
 use Rattle.change_outcome.specs.change_inputs.Chains.{and_then}
 use Rattle.change_outcome.specs.MembersAfter.{MemberFound, added_package_by_path, added_member_found, member_of_name_by_change, member_of_name_by_selected, member_of_added_name, member_of_removed_name, kept_member_found}
-use Rattle.change_outcome.specs.PackageFiles.{AddedPackage, first_script_of, package_file_path_of_candidate, scripts_of_change, unless_script_number, unless_script_needed}
+use Rattle.change_outcome.specs.PackageFiles.{AddedPackage, first_script_number_of_package, package_file_path_of_candidate, scripts_of_change, unless_script_number, unless_script_needed}
 use Rattle.dep_core.specs.Repositories.{Repository}
 use Rattle.change_outcome.specs.make_info.Reads.{Reads}
 use Rattle.change_outcome.specs.package_changes.Placed.{PlacedName, candidate_at_new_place, package_at_old_place}
@@ -29,7 +29,7 @@ found_by_number name (Some k) pkg = refl
 
 found_by_script : (no_scripts : Bool) (name : List ℕ) (numbers : List ℕ) (pkg : AddedPackage) → unless_script_needed no_scripts name pkg.value numbers (Some (added_member_found pkg)) ≡ as_found (unless_script_needed no_scripts name pkg.value numbers pkg)
 found_by_script true name numbers pkg = refl
-found_by_script false name numbers pkg = found_by_number name (first_script_of pkg.value numbers) pkg
+found_by_script false name numbers pkg = found_by_number name (first_script_number_of_package pkg.value numbers) pkg
 
 found_after : (no_scripts : Bool) (name : List ℕ) (numbers : List ℕ) (r : Result AddedPackage Refusals.Refusal) → and_then r (λ pkg. unless_script_needed no_scripts name pkg.value numbers (Some (added_member_found pkg))) ≡ as_found (and_then r (λ pkg. unless_script_needed no_scripts name pkg.value numbers pkg))
 found_after no_scripts name numbers (Ok pkg) = found_by_script no_scripts name numbers pkg

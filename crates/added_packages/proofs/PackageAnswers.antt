@@ -8,7 +8,7 @@ use Rattle.change_outcome.specs.change_inputs.Answers.{Agrees, IsFileFoundInTree
 use Rattle.change_outcome.specs.change_inputs.Chains.{and_then}
 use Rattle.change_outcome.specs.change_inputs.declared.root.Refused.{Refused}
 use Rattle.change_outcome.specs.MembersAfter.{added_package_by_path}
-use Rattle.change_outcome.specs.PackageFiles.{AddedPackage, package_file_path_of_candidate, added_package_or_refusal, package_in_file, scripts_of_change, unless_package_bad, package_unless_other_than_candidate, unless_script_number, unless_script_needed, first_script_of}
+use Rattle.change_outcome.specs.PackageFiles.{AddedPackage, package_file_path_of_candidate, added_package_or_refusal, package_in_file, scripts_of_change, package_unless_bad_or_different, package_unless_other_than_candidate, unless_script_number, unless_script_needed, first_script_number_of_package}
 use Rattle.dep_core.specs.Repositories.{Repository}
 use Rattle.change_outcome.specs.make_info.Reads.{Reads}
 use Rattle.package_verifier.specs.pkg_core.Whole.{package_fault}
@@ -45,7 +45,7 @@ module _ (h : List TreeState) (path : List ℕ) (c : Candidate) where
     where
       go : (found : Option (List ℕ)) → IsFileFoundInTree h path found → IsPackageReadResult path found (Bad cause) → IsByRead h (package_of_candidate_by_path c path) (Err (PackageBad c.name (candidate_version_text c) cause))
       go None located read = absurd read
-      go (Some file) located read = by_file (Some file) located _ (ap (λ fault. unless_package_bad c fault (package_in_file file)) read)
+      go (Some file) located read = by_file (Some file) located _ (ap (λ fault. package_unless_bad_or_different c fault (package_in_file file)) read)
 
   -- a tested file: what its test gives is what the definition gives
   pub record IsSoundRead (pkg : TestedPackage) : Type 0 where
@@ -64,7 +64,7 @@ module _ (h : List TreeState) (path : List ℕ) (c : Candidate) where
         coming = package_in_file file;
         value = sym read.value;
         id = sym read.id;
-        by = by_file (Some file) located _ (ap (λ fault. unless_package_bad c fault (package_in_file file)) read.sound);
+        by = by_file (Some file) located _ (ap (λ fault. package_unless_bad_or_different c fault (package_in_file file)) read.sound);
         read = record {
           file = file;
           located = subst (λ q. IsFileFoundInTree h q (Some file)) (sym read.named) located;
@@ -84,7 +84,7 @@ script_refused_by b c name (Some k) a refusal is = let same : Refusals.Refusal =
 
 pub script_refused : (no_scripts : Bool) (name : List ℕ) (pkg : Plain) (numbers : List ℕ) (a : AddedPackage) (refusal : Refusals.Refusal) → unless_script_needed no_scripts name pkg numbers true ≡ Err refusal → unless_script_needed no_scripts name pkg numbers a ≡ Err refusal
 script_refused true name pkg numbers a refusal is = absurd (cc)
-script_refused false name pkg numbers a refusal is = script_refused_by true true name (first_script_of pkg numbers) a refusal is
+script_refused false name pkg numbers a refusal is = script_refused_by true true name (first_script_number_of_package pkg numbers) a refusal is
 
 script_passed_by : (name : List ℕ) (n : Option ℕ) (a : AddedPackage) → unless_script_number name n true ≡ Ok true → unless_script_number name n a ≡ Ok a
 script_passed_by name None a is = refl
@@ -92,7 +92,7 @@ script_passed_by name (Some k) a is = absurd (cc)
 
 pub script_passed : (no_scripts : Bool) (name : List ℕ) (pkg : Plain) (numbers : List ℕ) (a : AddedPackage) → unless_script_needed no_scripts name pkg numbers true ≡ Ok true → unless_script_needed no_scripts name pkg numbers a ≡ Ok a
 script_passed true name pkg numbers a is = refl
-script_passed false name pkg numbers a is = script_passed_by name (first_script_of pkg numbers) a is
+script_passed false name pkg numbers a is = script_passed_by name (first_script_number_of_package pkg numbers) a is
 
 -- the values of a package that was read
 pub value_read : (h : List TreeState) (pkg : TestedPackage) (coming : AddedPackage) → IsPackageRead h pkg coming → tested_value pkg ≡ coming.value

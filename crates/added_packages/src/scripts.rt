@@ -7,7 +7,7 @@ ghost use Rattle.adb_view.specs.Values.{entry_in};
 ghost use Rattle.adb_view.specs.Plain.{Plain};
 ghost use Rattle.added_packages.specs.Told.{IsRefusalReported};
 ghost use Rattle.change_outcome.specs.change_inputs.Answers.{Agrees};
-ghost use Rattle.change_outcome.specs.PackageFiles.{first_script_of, scripts_of_change, unless_script_needed};
+ghost use Rattle.change_outcome.specs.PackageFiles.{first_script_number_of_package, scripts_of_change, unless_script_needed};
 ghost use Rattle.change_outcome.specs.package_changes.Seen.{change_seen};
 ghost use Rattle.report_core.specs.declared.refusal.Refusal.TheVariants.{ScriptNeeded};
 ghost use Rattle.std.specs.Prelude.{◌≡◌, ◌<◌, ◌+◌, ◌^◌, ◌==◌, ℕ, true, not, if◌then◌else◌, Some, None, length, IfOk};
@@ -66,7 +66,7 @@ fn script_needed(alloc: Global, name: &[u8], number: u16) -> Result<Refusal, All
 fn first_script(change: &Change<'_>, scripts: &ScriptsView<'_>) -> Option<u16>
     // The result is the number of the first script of the package that the change would run.
     ensures { (pkg : Plain) → scripts_value scripts.now ≡ entry_in pkg PACKAGE_SCRIPTS
-        → result ≡ first_script_of pkg (scripts_of_change (change_seen change.now)) }
+        → result ≡ first_script_number_of_package pkg (scripts_of_change (change_seen change.now)) }
 {
     match change {
         Change::Install(_, _) => {

@@ -15,10 +15,10 @@ use Rattle.adb_view.specs.Plain.{Plain}
 use Rattle.installed_info.specs.candidate_core.Candidates.{Candidate, is_same_id, version_of_text}
 use Rattle.change_outcome.specs.db_core.Packages.{installed_id}
 use Rattle.installed_info.specs.file_owners.Replaces.{package_version_text}
-use Rattle.change_outcome.specs.package_changes.Changes.{Replacement, change_between, change_of_name, is_candidate_named, candidate_version_text, change_unless_same, version_change, version_text_cmp}
+use Rattle.change_outcome.specs.package_changes.Changes.{Replacement, change_between, change_of_name, is_candidate_named, candidate_version_text, change_by_is_same_and_is_again, version_change, version_text_cmp}
 use Rattle.report_core.specs.Reports.{Change, Downgrade, Reinstall, Replace, Upgrade}
 use Rattle.base_core.specs.Lists.{IsIn}
-use Rattle.answer_laws.specs.WhichChange.{HasBothVersions, IsSameVersionAndId}
+use Rattle.answer_laws.specs.WhichChange.{AreInstalledAndRepositoryOneWithVersions, IsSameVersionAndId}
 
 -- the change, by the test of the text, that of the id, whether the name is asked for again, and the order
 abbrev decided : List ℕ → List ℕ → List ℕ → Bool → Bool → Bool → Ordering → Option Change
@@ -44,7 +44,7 @@ record Tests (r : Replacement) (name : List ℕ) (pkg : Plain) (c : Candidate) :
       (is_same_id (installed_id pkg) c.id) (list_any (bytes_eq name) r.again) (version_cmp (package_version_text pkg) (candidate_version_text c))
   tied : bytes_eq (package_version_text pkg) (candidate_version_text c) ≡ true → version_cmp (package_version_text pkg) (candidate_version_text c) ≡ Equal
 
-tests : (r : Replacement) (name : List ℕ) (pkg : Plain) (c : Candidate) → HasBothVersions r name pkg c → Tests r name pkg c
+tests : (r : Replacement) (name : List ℕ) (pkg : Plain) (c : Candidate) → AreInstalledAndRepositoryOneWithVersions r name pkg c → Tests r name pkg c
 unfolding change_of_name
 tests r name pkg c both =
     let again : Bool = list_any (bytes_eq name) r.again in
@@ -54,7 +54,7 @@ tests r name pkg c both =
       change =
           ap (λ (o : Option Plain). change_between again name o (find (is_candidate_named name) r.selected)) both.before
           ∙ ap (λ (o : Option Candidate). change_between again name (Some pkg) o) both.selected
-          ∙ ap (λ (b : Bool). change_unless_same name pkg c (not b || (text && id)) again) both.repository
+          ∙ ap (λ (b : Bool). change_by_is_same_and_is_again name pkg c (not b || (text && id)) again) both.repository
           ∙ ap (λ (o : Ordering). decided name (package_version_text pkg) (candidate_version_text c) text id again o)
           (order_is (package_version_text pkg) (candidate_version_text c) both.old both.new);
       tied = λ same.
@@ -123,7 +123,7 @@ is_kept name old new false id again order = (λ e. absurd cc, λ e. absurd (true
 -- ---- each kind, in the words of the law
 
 abbrev pub Kind : (Replacement → List ℕ → Plain → Candidate → Type 0) → Type 0
-Kind P = (r : Replacement) (name : List ℕ) (pkg : Plain) (c : Candidate) → HasBothVersions r name pkg c → P r name pkg c
+Kind P = (r : Replacement) (name : List ℕ) (pkg : Plain) (c : Candidate) → AreInstalledAndRepositoryOneWithVersions r name pkg c → P r name pkg c
 
 pub upgrades : Kind (λ r name pkg c. (change_of_name r name ≡ Some (Upgrade name (package_version_text pkg) (candidate_version_text c))) ↔ (version_cmp (package_version_text pkg) (candidate_version_text c) ≡ Less))
 upgrades r name pkg c both =

@@ -19,14 +19,14 @@ use Rattle.installed_info.specs.adb_schema.Rules.{is_folder_name, is_one_part}
 use Rattle.adb_view.specs.Plain.{Plains}
 use Rattle.adb_view.specs.declared.tables.Which.TheVariants.{Package, PkgInfo}
 use Rattle.make_laws.specs.NamedFields.{field_named}
-use Rattle.change_outcome.specs.v2_core.Database.{array_of}
+use Rattle.change_outcome.specs.v2_core.Database.{array_or_null_of_list}
 use Rattle.answer_laws.proofs.LetterValues.{by_letter}
 use Rattle.std.proofs.Common.{◌↔◌}
 use Rattle.std.proofs.lemmas.Bool.{ne_eqb}
 use Rattle.base_core.specs.Lists.{IsIn}
 use Rattle.adb_view.specs.declared.tables.Which.TheVariants.{File, Idb}
 use Rattle.make_laws.specs.NamedFields.{entries_of_field_named}
-use Rattle.change_outcome.specs.v2_core.Database.{listed_access_value, listed_file_value, listed_hash_value, value_of_records}
+use Rattle.change_outcome.specs.v2_core.Database.{listed_access_value, listed_file_value, listed_hash_value, database_value_of_records}
 use Rattle.change_outcome.specs.v2_core.Records.{ListedFile}
 use Rattle.adb_view.specs.Plain.{blob_or_null}
 use Rattle.answer_laws.specs.TextLetters.{BeginsWithUnknownFieldLetter, known_line_letters}
@@ -42,13 +42,13 @@ kept_by : (b : Bool) (l : RecordLine) → NotDropped (Some l) → NotDropped (if
 kept_by true l never e = never e
 kept_by false l never e = absurd cc
 
-kept_paths_of : {A : Type 0} (line : A → RecordLine) → ((a : A) → NotDropped (Some (line a))) → (o : Option A) → NotDropped (option_map line o)
-kept_paths_of line never None e = absurd cc
-kept_paths_of line never (Some a) e = never a e
+kept_left_over_paths_of : {A : Type 0} (line : A → RecordLine) → ((a : A) → NotDropped (Some (line a))) → (o : Option A) → NotDropped (option_map line o)
+kept_left_over_paths_of line never None e = absurd cc
+kept_left_over_paths_of line never (Some a) e = never a e
 
 of_field : (f : InfoField) (value : List ℕ) → NotDropped (record_line_of_letter (letter_of f) value)
 of_field f value e =
-    kept_paths_of (info_line f) (λ v e. absurd cc) (values_under_grammar (grammar_of f) value) (sym (by_letter f value) ∙ e)
+    kept_left_over_paths_of (info_line f) (λ v e. absurd cc) (values_under_grammar (grammar_of f) value) (sym (by_letter f value) ∙ e)
 
 folder_kept : (value : List ℕ) → NotDropped (record_line_of_letter 70 value)
 unfolding record_line_of_letter
@@ -56,7 +56,7 @@ folder_kept value = kept_by (is_folder_name value) (folder_line value) (λ e. ab
 
 folder_access_kept : (value : List ℕ) → NotDropped (record_line_of_letter 77 value)
 unfolding record_line_of_letter
-folder_access_kept value = kept_paths_of folder_access_line (λ a e. absurd cc) (access_in value)
+folder_access_kept value = kept_left_over_paths_of folder_access_line (λ a e. absurd cc) (access_in value)
 
 file_kept : (value : List ℕ) → NotDropped (record_line_of_letter 82 value)
 unfolding record_line_of_letter
@@ -64,11 +64,11 @@ file_kept value = kept_by (is_one_part value) (file_line value) (λ e. absurd cc
 
 file_access_kept : (value : List ℕ) → NotDropped (record_line_of_letter 97 value)
 unfolding record_line_of_letter
-file_access_kept value = kept_paths_of file_access_line (λ a e. absurd cc) (access_in value)
+file_access_kept value = kept_left_over_paths_of file_access_line (λ a e. absurd cc) (access_in value)
 
 file_hash_kept : (value : List ℕ) → NotDropped (record_line_of_letter 90 value)
 unfolding record_line_of_letter
-file_hash_kept value = kept_paths_of file_hash_line (λ a e. absurd cc) (sha1_in_text value)
+file_hash_kept value = kept_left_over_paths_of file_hash_line (λ a e. absurd cc) (sha1_in_text value)
 
 listed_kept : (value : List ℕ) (letter n : ℕ) → NotDropped (record_line_of_letter n value) → letter ≡ n → NotDropped (record_line_of_letter letter value)
 listed_kept value letter n kept same e = kept (ap (λ (m : ℕ). record_line_of_letter m value) (sym same) ∙ e)
@@ -191,8 +191,8 @@ pub no_size : (f : ListedFile) → (let file = listed_file_value f in
     (field_named File (codes "size") file ≡ null) × (field_named File (codes "mtime") file ≡ null) × (field_named File (codes "target") file ≡ null))
 no_size f = (nth_obj (file_parts f) 2, nth_obj (file_parts f) 3, nth_obj (file_parts f) 5)
 
-pub packages_are : (records : List Record) → entries_of_field_named Idb (codes "packages") (value_of_records records) ≡ map record_value records
+pub packages_are : (records : List Record) → entries_of_field_named Idb (codes "packages") (database_value_of_records records) ≡ map record_value records
 packages_are records =
-    ap (λ (v : Plain). list_of (entries_in v)) (nth_obj (plains_of_list (array_of (map record_value records) ∷ [])) 0)
+    ap (λ (v : Plain). list_of (entries_in v)) (nth_obj (plains_of_list (array_or_null_of_list (map record_value records) ∷ [])) 0)
     ∙ ap list_of (entries_arr (plains_of_list (map record_value records)))
     ∙ list-plains (map record_value records)

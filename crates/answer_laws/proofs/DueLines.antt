@@ -12,7 +12,7 @@ use Rattle.change_outcome.specs.db_core.Members.{Member, member_name}
 use Rattle.change_outcome.specs.package_files.Folders.{folder_of}
 use Rattle.report_core.specs.Reports.{report_line, report_lines, trigger_due_text}
 use Rattle.report_core.specs.declared.refusal.Refusal.TheVariants.{TriggerNeeded}
-use Rattle.answer_laws.specs.DueTriggers.{HasTriggerLines, IsTriggerDueFor, IsFirstPackageWithDueTrigger, HasTriggerWatchingFolder}
+use Rattle.answer_laws.specs.DueTriggers.{HasDueTriggerLines, IsTriggerDueFor, IsFirstPackageWithDueTrigger, HasTriggerWatchingFolder}
 use Rattle.answer_laws.proofs.Tests.{any_passes, in_passing, passes_any, passing_in}
 use Rattle.answer_laws.proofs.Watched.{due_is, folders_are}
 
@@ -50,7 +50,7 @@ lines_of_all paths (m ∷ members) =
     ∙ ap (λ (t : List ℕ). report_lines (due_texts paths m) ++ t) (lines_of_all paths members)
     ∙ sym (flat_map-append report_line (due_texts paths m) (flat_map (due_texts paths) members))
 
-pub trigger_lines_are : (paths : List (List ℕ)) (members : List Member) → HasTriggerLines paths members (trigger_lines paths members)
+pub trigger_lines_are : (paths : List (List ℕ)) (members : List Member) → HasDueTriggerLines paths members (trigger_lines paths members)
 unfolding trigger_lines
 trigger_lines_are paths members = record {
   folders = due_folders paths;

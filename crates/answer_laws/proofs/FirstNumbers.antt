@@ -2,7 +2,7 @@
 use Rattle.std.proofs.Common.{◌≡◌, ◌⊎◌, inl, inr, ◌↔◌, ◌∙◌, ℕ, ◌<◌, Bool, true, false, Option, Some, None, refl, ap, sym, subst, true≢false, arith}
 use Rattle.std.specs.Prelude.{if◌then◌else◌}
 use Rattle.adb_view.specs.Plain.{Plain}
-use Rattle.change_outcome.specs.PackageFiles.{first_script_of, has_script_of, scripts_of_change}
+use Rattle.change_outcome.specs.PackageFiles.{first_script_number_of_package, has_script_with_number, scripts_of_change}
 use Rattle.report_core.specs.Reports.{Change, Downgrade, Install, Purge, Reinstall, Replace, Upgrade}
 use Rattle.answer_laws.specs.FirstScripts.{IsFirstScriptRunByChange, IsScriptNumberRunByChange}
 
@@ -69,28 +69,28 @@ none_of test a b = go (test a) (test b) refl refl
 
 -- ---- for each kind of change
 
-pub first_named : (change : Change) (pkg : Plain) (n : ℕ) → (first_script_of pkg (scripts_of_change change) ≡ Some n) ↔ IsFirstScriptRunByChange change pkg n
+pub first_named : (change : Change) (pkg : Plain) (n : ℕ) → (first_script_number_of_package pkg (scripts_of_change change) ≡ Some n) ↔ IsFirstScriptRunByChange change pkg n
 first_named change pkg n = go change
   where
-    as_law : (a b : ℕ) → a < b → (change : Change) → (first_script_of pkg (scripts_of_change change) ≡ first_of_two (has_script_of pkg) a b) → ((m : ℕ) → IsScriptNumberRunByChange change m ≡ Runs a b m)
-        → (first_script_of pkg (scripts_of_change change) ≡ Some n) ↔ IsFirstScriptRunByChange change pkg n
+    as_law : (a b : ℕ) → a < b → (change : Change) → (first_script_number_of_package pkg (scripts_of_change change) ≡ first_of_two (has_script_with_number pkg) a b) → ((m : ℕ) → IsScriptNumberRunByChange change m ≡ Runs a b m)
+        → (first_script_number_of_package pkg (scripts_of_change change) ≡ Some n) ↔ IsFirstScriptRunByChange change pkg n
     as_law a b less change is runs = (
       λ e.
-          let f = (named_of (has_script_of pkg) a b n less).0 (sym is ∙ e) in
+          let f = (named_of (has_script_with_number pkg) a b n less).0 (sym is ∙ e) in
           record {
             runs = subst (λ (T : Type 0). T) (sym (runs n)) f.runs;
             present = f.present;
             first = λ m below r. f.first m below (subst (λ (T : Type 0). T) (runs m) r);
           },
       λ f.
-          is ∙ (named_of (has_script_of pkg) a b n less).1 (record {
+          is ∙ (named_of (has_script_with_number pkg) a b n less).1 (record {
             runs = subst (λ (T : Type 0). T) (runs n) f.runs;
             present = f.present;
             first = λ m below r. f.first m below (subst (λ (T : Type 0). T) (sym (runs m)) r);
           }),
     )
 
-    go : (change : Change) → (first_script_of pkg (scripts_of_change change) ≡ Some n) ↔ IsFirstScriptRunByChange change pkg n
+    go : (change : Change) → (first_script_number_of_package pkg (scripts_of_change change) ≡ Some n) ↔ IsFirstScriptRunByChange change pkg n
     go (Install name version) = as_law 2 3 (omega arith) (Install name version) refl (λ m. refl)
     go (Purge name version) = as_law 4 5 (omega arith) (Purge name version) refl (λ m. refl)
     go (Reinstall name version) = as_law 6 7 (omega arith) (Reinstall name version) refl (λ m. refl)
@@ -98,10 +98,10 @@ first_named change pkg n = go change
     go (Downgrade name old new) = as_law 6 7 (omega arith) (Downgrade name old new) refl (λ m. refl)
     go (Replace name old new) = as_law 6 7 (omega arith) (Replace name old new) refl (λ m. refl)
 
-pub none_named : (change : Change) (pkg : Plain) → (first_script_of pkg (scripts_of_change change) ≡ None) ↔ ((n : ℕ) → IsScriptNumberRunByChange change n → has_script_of pkg n ≡ false)
-none_named (Install name version) pkg = none_of (has_script_of pkg) 2 3
-none_named (Purge name version) pkg = none_of (has_script_of pkg) 4 5
-none_named (Reinstall name version) pkg = none_of (has_script_of pkg) 6 7
-none_named (Upgrade name old new) pkg = none_of (has_script_of pkg) 6 7
-none_named (Downgrade name old new) pkg = none_of (has_script_of pkg) 6 7
-none_named (Replace name old new) pkg = none_of (has_script_of pkg) 6 7
+pub none_named : (change : Change) (pkg : Plain) → (first_script_number_of_package pkg (scripts_of_change change) ≡ None) ↔ ((n : ℕ) → IsScriptNumberRunByChange change n → has_script_with_number pkg n ≡ false)
+none_named (Install name version) pkg = none_of (has_script_with_number pkg) 2 3
+none_named (Purge name version) pkg = none_of (has_script_with_number pkg) 4 5
+none_named (Reinstall name version) pkg = none_of (has_script_with_number pkg) 6 7
+none_named (Upgrade name old new) pkg = none_of (has_script_with_number pkg) 6 7
+none_named (Downgrade name old new) pkg = none_of (has_script_with_number pkg) 6 7
+none_named (Replace name old new) pkg = none_of (has_script_with_number pkg) 6 7

@@ -14,7 +14,7 @@ use Rattle.base_core.specs.Sorted.{sorted_by}
 use Rattle.command_core.specs.declared.command.Flags.{Flags}
 use Rattle.command_core.specs.declared.operands.Operand.{Operand}
 use Rattle.installed_info.specs.Form.{info_form_of_flags}
-use Rattle.installed_info.specs.Info.{info_refusal, sorted_package_name_lines, operand_info, operands_info, package_info}
+use Rattle.installed_info.specs.Info.{info_refusal, sorted_package_name_lines, operand_info, operands_info, package_info_for_operand_text}
 use Rattle.installed_info.specs.Packages.{package_meant_by_operand_text, package_named}
 use Rattle.report_core.specs.Reports.{report_line, report_lines}
 use Rattle.report_core.specs.declared.refusal.Refusal.TheVariants.{NotInstalled}
@@ -86,7 +86,7 @@ operands_told flags packages [] = refl
 operands_told flags packages (o ∷ operands) = go (package_named packages o.text) (operands_told flags packages operands)
   where
     go : (named : Option Plain) → operands_info (info_form_of_flags (flags_with flags false true)) packages operands ≡ report_lines (map text_of_operand (filter (has_package packages) operands))
-        → option_map_or (package_info (info_form_of_flags (flags_with flags false true)) o.text) named [] ++ operands_info (info_form_of_flags (flags_with flags false true)) packages operands
+        → option_map_or (package_info_for_operand_text (info_form_of_flags (flags_with flags false true)) o.text) named [] ++ operands_info (info_form_of_flags (flags_with flags false true)) packages operands
         ≡ report_lines (map text_of_operand (cond (is_some named) (o ∷ filter (has_package packages) operands) (filter (has_package packages) operands)))
     go None more = more
     go (Some pkg) more = ap (λ (t : List ℕ). report_line o.text ++ t) more
@@ -102,17 +102,17 @@ installed_operands flags packages operands no_owner asked =
 
 pub answer_of_operand : (flags : Flags) (packages : List Plain) (front rest : List Operand) (o : Operand) (pkg : Plain) → package_meant_by_operand_text (info_form_of_flags flags) packages o.text ≡ Some pkg
     → operands_info (info_form_of_flags flags) packages (front ++ o ∷ rest)
-    ≡ operands_info (info_form_of_flags flags) packages front ++ (package_info (info_form_of_flags flags) o.text pkg ++ operands_info (info_form_of_flags flags) packages rest)
+    ≡ operands_info (info_form_of_flags flags) packages front ++ (package_info_for_operand_text (info_form_of_flags flags) o.text pkg ++ operands_info (info_form_of_flags flags) packages rest)
 answer_of_operand flags packages front rest o pkg is =
     flat_map-append (operand_info (info_form_of_flags flags) packages) front (o ∷ rest)
-    ∙ ap (λ (asked : Option Plain). operands_info (info_form_of_flags flags) packages front ++ (option_map_or (package_info (info_form_of_flags flags) o.text) asked [] ++ operands_info (info_form_of_flags flags) packages rest)) is
+    ∙ ap (λ (asked : Option Plain). operands_info (info_form_of_flags flags) packages front ++ (option_map_or (package_info_for_operand_text (info_form_of_flags flags) o.text) asked [] ++ operands_info (info_form_of_flags flags) packages rest)) is
 
 pub no_answer : (flags : Flags) (packages : List Plain) (front rest : List Operand) (o : Operand) → package_meant_by_operand_text (info_form_of_flags flags) packages o.text ≡ None
     → operands_info (info_form_of_flags flags) packages (front ++ o ∷ rest)
     ≡ operands_info (info_form_of_flags flags) packages front ++ operands_info (info_form_of_flags flags) packages rest
 no_answer flags packages front rest o is =
     flat_map-append (operand_info (info_form_of_flags flags) packages) front (o ∷ rest)
-    ∙ ap (λ (asked : Option Plain). operands_info (info_form_of_flags flags) packages front ++ (option_map_or (package_info (info_form_of_flags flags) o.text) asked [] ++ operands_info (info_form_of_flags flags) packages rest)) is
+    ∙ ap (λ (asked : Option Plain). operands_info (info_form_of_flags flags) packages front ++ (option_map_or (package_info_for_operand_text (info_form_of_flags flags) o.text) asked [] ++ operands_info (info_form_of_flags flags) packages rest)) is
 
 pub no_operands : (flags : Flags) (packages : List Plain) → operands_info (info_form_of_flags flags) packages [] ≡ []
 no_operands flags packages = refl

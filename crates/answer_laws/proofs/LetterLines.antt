@@ -14,7 +14,7 @@ use Rattle.change_outcome.specs.v2_lines.Accesses.{access_in}
 use Rattle.change_outcome.specs.v2_lines.declared.field.InfoField.{InfoField}
 use Rattle.change_outcome.specs.v2_core.Database.{values_if_line_of_field}
 use Rattle.change_outcome.specs.v2_core.Records.{InfoLine, info_line_from_parts}
-use Rattle.answer_laws.specs.TextLetters.{LetterValueGivesValues, LineGivesFieldValues}
+use Rattle.answer_laws.specs.TextLetters.{LineValueGivesFieldValues, LineGivesFieldValues}
 use Rattle.std.proofs.lemmas.Bool.{eq-eqb}
 use Rattle.installed_info.specs.adb_schema.Rules.{is_folder_name, is_one_part}
 use Rattle.answer_laws.proofs.LetterValues.{by_letter, letter_is, says}
@@ -111,12 +111,12 @@ same_head : (x y : ℕ) (xs ys : List ℕ) → x ∷ xs ≡ y ∷ ys → x ≡ y
 same_head x y xs ys e = cc
 
 module _ (spelled : (t : List ℕ) (d : Dependency) → dependency_of t ≡ Some d → SpellsDependency t d) (read : (t : List ℕ) (d : Dependency) → SpellsDependency t d → dependency_of t ≡ Some d) where
-  own_line : (f : InfoField) (value : List ℕ) (l : RecordLine) (o : Option (List FieldValue)) → values_under_grammar (grammar_of f) value ≡ o → option_map (info_line f) o ≡ Some l → LetterValueGivesValues f value (values_of f (infos (Some l)))
+  own_line : (f : InfoField) (value : List ℕ) (l : RecordLine) (o : Option (List FieldValue)) → values_under_grammar (grammar_of f) value ≡ o → option_map (info_line f) o ≡ Some l → LineValueGivesFieldValues f value (values_of f (infos (Some l)))
   own_line f value l None is e = absurd cc
   own_line f value l (Some v) is e =
       let same : info_line f v ≡ l = cc in
-      subst (λ (x : RecordLine). LetterValueGivesValues f value (values_of f (infos (Some x)))) same
-      (subst (LetterValueGivesValues f value) (sym (own_values f v)) (says spelled read f value v is))
+      subst (λ (x : RecordLine). LineValueGivesFieldValues f value (values_of f (infos (Some x)))) same
+      (subst (LineValueGivesFieldValues f value) (sym (own_values f v)) (says spelled read f value v is))
 
   none_of_line : (f : InfoField) (letter : ℕ) (value : List ℕ) (l : RecordLine) → (letter == letter_of f) ≡ false → record_line_of_letter letter value ≡ Some l → values_of f (infos (Some l)) ≡ []
   none_of_line f letter value (info_line g v) other e =

@@ -10,7 +10,7 @@ use Rattle.hex.specs.declared.error.FromHexError.{FromHexError}
 use Rattle.dep_core.specs.Dependency.{Dependency}
 use Rattle.dep_core.specs.Reading.{dependency_of}
 use Rattle.dep_core.specs.Spelling.{SpellsDependency}
-use Rattle.change_outcome.specs.make_info.Fields.{FieldValue, text, kind_of_field, values_of_hex_digits, values_by_kind}
+use Rattle.change_outcome.specs.make_info.Fields.{FieldValue, text, kind_of_field, field_values_of_decoded_hex, values_by_kind}
 use Rattle.change_outcome.specs.make_info.declared.field.Field.{Field}
 use Rattle.change_outcome.specs.make_info.declared.field.Field.TheVariants as Options
 use Rattle.make_laws.specs.OptionGrammar.{FieldTextGivesValues}
@@ -20,7 +20,7 @@ use Rattle.change_outcome.specs.v2_lines.InfoValues.{commit_values, sha1_in_text
 use Rattle.change_outcome.specs.v2_lines.Lines.{info_line, record_line_of_letter}
 use Rattle.change_outcome.specs.v2_lines.declared.field.InfoField.{InfoField}
 use Rattle.change_outcome.specs.v2_lines.declared.field.InfoField.TheVariants as Letters
-use Rattle.answer_laws.specs.TextLetters.{SaysCommit, SaysHash, LetterValueGivesValues, letter_line, line_letter}
+use Rattle.answer_laws.specs.TextLetters.{GivesCommit, GivesHash, LineValueGivesFieldValues, letter_line, line_letter}
 
 -- ---- the meaning of a line of a letter
 
@@ -82,7 +82,7 @@ chosen_hash true true q one o found f g e = (eqb-true q 81 f, eqb-true one 49 g,
 chosen_hash true false q one o found f g e = absurd cc
 chosen_hash false b q one o found f g e = absurd cc
 
-hash_says : (value bytes : List ℕ) → sha1_in_text value ≡ Some bytes → SaysHash value (text bytes ∷ [])
+hash_says : (value bytes : List ℕ) → sha1_in_text value ≡ Some bytes → GivesHash value (text bytes ∷ [])
 hash_says [] bytes e = absurd cc
 hash_says (q ∷ []) bytes e = absurd cc
 hash_says (q ∷ one ∷ encoded) bytes e =
@@ -98,21 +98,21 @@ module _ (spelled : (t : List ℕ) (d : Dependency) → dependency_of t ≡ Some
   as_option : (f : Field) (value : List ℕ) (said : List FieldValue) → values_by_kind (kind_of_field f) value ≡ Some said → FieldTextGivesValues f value said
   as_option f value said e = says_to spelled read f value said e
 
-  commit : (value : List ℕ) (r : Result (List ℕ) FromHexError) (said : List FieldValue) → hex_bytes value ≡ r → commit_values r ≡ said → SaysCommit value said
+  commit : (value : List ℕ) (r : Result (List ℕ) FromHexError) (said : List FieldValue) → hex_bytes value ≡ r → commit_values r ≡ said → GivesCommit value said
   commit value (Ok bytes) said is e =
-      inl (as_option Options.RepoCommit value said (ap values_of_hex_digits is ∙ ap Some e))
+      inl (as_option Options.RepoCommit value said (ap field_values_of_decoded_hex is ∙ ap Some e))
   commit value (Err error) said is e = inr (
-    λ given says. let t : None ≡ Some given = sym (ap values_of_hex_digits is) ∙ says_from spelled read Options.RepoCommit value given says in absurd cc,
+    λ given says. let t : None ≡ Some given = sym (ap field_values_of_decoded_hex is) ∙ says_from spelled read Options.RepoCommit value given says in absurd cc,
     sym e,
   )
 
   some_commit : (value said : List FieldValue) → Some value ≡ Some said → value ≡ said
   some_commit value said e = cc
 
-  pub says : (f : InfoField) (value : List ℕ) (said : List FieldValue) → values_under_grammar (grammar_of f) value ≡ Some said → LetterValueGivesValues f value said
+  pub says : (f : InfoField) (value : List ℕ) (said : List FieldValue) → values_under_grammar (grammar_of f) value ≡ Some said → LineValueGivesFieldValues f value said
   says Letters.Hashes value said e =
       let (bytes, is, same) = mapped (λ (b : List ℕ). text b ∷ []) (sha1_in_text value) said e in
-      subst (SaysHash value) same (hash_says value bytes is)
+      subst (GivesHash value) same (hash_says value bytes is)
   says Letters.InstalledSize value said e = as_option Options.BuildTime value said e
   says Letters.RepoCommit value said e = commit value (hex_bytes value) said refl (some_commit _ said e)
   says Letters.Name value said e = as_option Options.Name value said e

@@ -9,7 +9,7 @@ use Rattle.adb_view.specs.declared.tables.Which.TheVariants.{Acl, Dir, File, Pac
 use Rattle.change_outcome.specs.make_info.Values.{plains_of_list}
 use Rattle.make_laws.proofs.make_core.PackageFiles.{list-plains}
 use Rattle.make_laws.specs.NamedFields.{entries_of_field_named, field_named}
-use Rattle.change_outcome.specs.v2_core.Database.{array_of, listed_access_value, listed_file_value, listed_folder_value, listed_hash_value, record_value}
+use Rattle.change_outcome.specs.v2_core.Database.{array_or_null_of_list, listed_access_value, listed_file_value, listed_folder_value, listed_hash_value, record_value}
 use Rattle.change_outcome.specs.v2_core.Records.{ListedFile, ListedFolder, Record}
 use Rattle.change_outcome.specs.v2_lines.Accesses.{Access, access_in}
 use Rattle.change_outcome.specs.v2_lines.InfoValues.{sha1_in_text}
@@ -44,12 +44,12 @@ hash_letter value = refl
 
 abbrev folder_parts : ListedFolder → Plains
 folder_parts f =
-    plains_of_list (blob_or_null f.name ∷ listed_access_value f.access ∷ array_of (map listed_file_value f.files) ∷ [])
+    plains_of_list (blob_or_null f.name ∷ listed_access_value f.access ∷ array_or_null_of_list (map listed_file_value f.files) ∷ [])
 
 abbrev access_parts : Access → Plains
 access_parts a = plains_of_list (int a.mode ∷ blob_or_null a.user ∷ blob_or_null a.group ∷ [])
 
-entries_are : (v : Plain) (vs : List Plain) → v ≡ array_of vs → list_of (entries_in v) ≡ vs
+entries_are : (v : Plain) (vs : List Plain) → v ≡ array_or_null_of_list vs → list_of (entries_in v) ≡ vs
 entries_are v vs e = ap (λ (u : Plain). list_of (entries_in u)) e ∙ ap list_of (entries_arr (plains_of_list vs)) ∙ list-plains vs
 
 pub folders_are : (r : Record) → entries_of_field_named Package (codes "paths") (record_value r) ≡ map listed_folder_value r.folders

@@ -20,7 +20,7 @@ use Rattle.change_outcome.specs.db_core.Packages.{is_package_named}
 use Rattle.dep_core.specs.Dependency.{Dependency}
 use Rattle.dep_core.specs.Meets.{meets}
 use Rattle.change_outcome.specs.package_changes.Changes.{is_candidate_named}
-use Rattle.change_outcome.specs.package_changes.Report.{is_other_candidate_needing, names_needing_candidate, needs_candidate, still_needed_lines_of_name, still_needed_lines, was_installed}
+use Rattle.change_outcome.specs.package_changes.Report.{is_candidate_needed_by_other, names_needing_candidate, needs_candidate, still_needed_lines_of_name, still_needed_lines, was_installed}
 use Rattle.report_core.specs.Reports.{report_line, report_lines, still_needed_text}
 use Rattle.answer_laws.specs.KeptNames.{IsEachNameSelectedAtMostOnce, HasStillNeededLines, IsNeededBySelectedName, IsProvidedBy, NeedsOther, still_needed_text_of_name}
 use Rattle.answer_laws.proofs.Members.{found_name, listed, missing_name, risen}
@@ -76,8 +76,8 @@ name_other c needed apart = go (bytes_eq c.name needed.name) refl
 pub needed_under : (selected : List Candidate) (needed : Candidate) (name : List ℕ) → IsIn name (names_needing_candidate selected needed) ↔ IsNeededBySelectedName selected needed name
 needed_under selected needed name = (
   λ at.
-      let t = text_of name_of (filter (is_other_candidate_needing needed) selected) name (from_order name _ (risen name _ at)) in
-      let f = in_passing (is_other_candidate_needing needed) selected t.element t.listed in
+      let t = text_of name_of (filter (is_candidate_needed_by_other needed) selected) name (from_order name _ (risen name _ at)) in
+      let f = in_passing (is_candidate_needed_by_other needed) selected t.element t.listed in
       let b = and_parts (not (bytes_eq t.element.name needed.name)) (needs_candidate t.element needed) f.1 in
       record {
         user = t.element;
@@ -87,16 +87,16 @@ needed_under selected needed name = (
         needs = needs_is t.element needed b.1;
       },
   λ n.
-      listed name (names_needing_candidate selected needed) (in_order name (map name_of (filter (is_other_candidate_needing needed) selected))
-      (text_in name_of (filter (is_other_candidate_needing needed) selected) name n.user
-      (passing_in (is_other_candidate_needing needed) selected n.user n.listed
+      listed name (names_needing_candidate selected needed) (in_order name (map name_of (filter (is_candidate_needed_by_other needed) selected))
+      (text_in name_of (filter (is_candidate_needed_by_other needed) selected) name n.user
+      (passing_in (is_candidate_needed_by_other needed) selected n.user n.listed
       (and_from (not (bytes_eq n.user.name needed.name)) (needs_candidate n.user needed)
       (not_from_false _ (name_other n.user needed (λ same. n.another (n.named ∙ same)))) (is_needs n.user needed n.needs)))
       n.named)),
 )
 
 pub needed_rising : (selected : List Candidate) (needed : Candidate) → AreSortedDistinctNames (names_needing_candidate selected needed)
-needed_rising selected needed = rising.pairs_from_rises (names_needing_candidate selected needed) (order_rises (map name_of (filter (is_other_candidate_needing needed) selected)))
+needed_rising selected needed = rising.pairs_from_rises (names_needing_candidate selected needed) (order_rises (map name_of (filter (is_candidate_needed_by_other needed) selected)))
 
 -- ---- the lines
 

@@ -2,14 +2,14 @@
 use Rattle.std.proofs.Common.{◌≡◌, ◌∙◌, ℕ, ◌+◌, Bool, true, false, List, [], ◌∷◌, ◌++◌, Option, Some, None, Result, Ok, Err, refl, ap, sym, arith}
 use Rattle.std.specs.Prelude.{◌-◌, ◌==◌, ◌||◌, if◌then◌else◌, codes, slice_get}
 use Rattle.change_outcome.specs.adb_fields.Repeated.{entries_at}
-use Rattle.installed_info.specs.adb_schema.Soundness.{payload_in, root_value}
+use Rattle.installed_info.specs.adb_schema.Soundness.{payload_in, root_value_of_payload}
 use Rattle.adb_view.specs.FieldIndexes.{IDB_PACKAGES}
 use Rattle.adb_view.specs.declared.tables.Which.TheVariants.{Idb}
 use Rattle.base_core.specs.Name.{is_name}
 use Rattle.base_core.specs.declared.cause.Cause.{Cause}
 use Rattle.installed_info.specs.candidate_core.Candidates.{Candidate}
 use Rattle.change_outcome.specs.change_inputs.Chains.{unless_cause}
-use Rattle.change_outcome.specs.change_inputs.Database.{Database, database_from_parts, payload_database, root_database}
+use Rattle.change_outcome.specs.change_inputs.Database.{Database, database_of_packages_file_and_is_text, payload_database, root_database}
 use Rattle.change_outcome.specs.PackageFiles.{package_file_path_of_candidate, path_of_name_version_beside_index}
 use Rattle.change_outcome.specs.root_names.PackagePath.{folder_prefix_of, has_slash, path_if_valid_name, package_path}
 use Rattle.dep_core.specs.Repositories.{Repository}
@@ -81,9 +81,9 @@ container begins other file text another = refl
 pub by_container : (begins : Bool) (file : List ℕ) (text : Option (List ℕ)) (d : Database) → root_database begins (Some file) text ≡ Ok d → (d.from_text ≡ false) × (d.file ≡ Some file)
 by_container begins file text d e = go (container_fault_except_contents Idb file) e
   where
-    go : (o : Option Cause) → unless_cause DatabaseBad o (database_from_parts (entries_at IDB_PACKAGES (root_value Idb (payload_in file))) (Some file) false) ≡ Ok d → (d.from_text ≡ false) × (d.file ≡ Some file)
+    go : (o : Option Cause) → unless_cause DatabaseBad o (database_of_packages_file_and_is_text (entries_at IDB_PACKAGES (root_value_of_payload Idb (payload_in file))) (Some file) false) ≡ Ok d → (d.from_text ≡ false) × (d.file ≡ Some file)
     go None e =
-        let is : database_from_parts (entries_at IDB_PACKAGES (root_value Idb (payload_in file))) (Some file) false ≡ d = cc in
+        let is : database_of_packages_file_and_is_text (entries_at IDB_PACKAGES (root_value_of_payload Idb (payload_in file))) (Some file) false ≡ d = cc in
         (sym (ap (λ (x : Database). x.from_text) is), sym (ap (λ (x : Database). x.file) is))
     go (Some cause) e = absurd cc
 
@@ -95,7 +95,7 @@ by_text begins text d e = go (payload_of_text text) e
   where
     go : (r : Result (List ℕ) V2Fault) → payload_database r ≡ Ok d → (d.from_text ≡ true) × (d.file ≡ None)
     go (Ok payload) e =
-        let is : database_from_parts (entries_at IDB_PACKAGES (root_value Idb payload)) None true ≡ d = cc in
+        let is : database_of_packages_file_and_is_text (entries_at IDB_PACKAGES (root_value_of_payload Idb payload)) None true ≡ d = cc in
         (sym (ap (λ (x : Database). x.from_text) is), sym (ap (λ (x : Database). x.file) is))
     go (Err (Bad cause)) e = absurd cc
     go (Err (TooLarge bytes values)) e = absurd cc
@@ -103,5 +103,5 @@ by_text begins text d e = go (payload_of_text text) e
 
 pub begun : (d : Database) → root_database true None None ≡ Ok d → (d.packages ≡ []) × (d.from_text ≡ false) × (d.file ≡ None)
 begun d e =
-    let is : database_from_parts [] None false ≡ d = cc in
+    let is : database_of_packages_file_and_is_text [] None false ≡ d = cc in
     (sym (ap (λ (x : Database). x.packages) is), sym (ap (λ (x : Database). x.from_text) is), sym (ap (λ (x : Database). x.file) is))

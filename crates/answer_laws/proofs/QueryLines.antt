@@ -15,12 +15,12 @@ use Rattle.installed_info.specs.candidate_core.Options.{IsIn}
 use Rattle.command_core.specs.declared.operands.Operand.{Operand}
 use Rattle.dep_core.specs.Repositories.{Repository}
 use Rattle.query_core.specs.Asked.{AreStrictlyInOrderBy}
-use Rattle.query_core.specs.List.{candidate_line, is_list_candidate, list_report}
+use Rattle.query_core.specs.List.{list_line_of_candidate, is_list_candidate, list_report}
 use Rattle.query_core.specs.Order.{printed_version, candidate_places_cmp, sorted_candidates_passing, sorted_places_passing}
-use Rattle.query_core.specs.Policy.{has_name_and_version, has_own_name, is_of_repository, policy_report, lines_of_repositories_of_candidates, version_policy, versions_of_name}
+use Rattle.query_core.specs.Policy.{has_own_name_and_version_text, has_own_name, is_of_repository, policy_report, lines_of_repositories_of_candidates, version_policy, sorted_distinct_versions_of_name}
 use Rattle.query_core.specs.Search.{is_search_candidate, search_report}
-use Rattle.report_core.specs.QueryReports.{policy_database_line, policy_heading, repository_line, search_line, version_heading}
-use Rattle.answer_laws.specs.QueryLines.{HasLineOfEachAskedCandidate, HasNameAndVersion, HasPolicyLinesOfVersion, IsInListReport, IsInSearchReport, IsVersionInRepository, IsVersionInstalled, line_at, repository_line_at}
+use Rattle.report_core.specs.QueryReports.{policy_database_line, policy_heading, policy_repository_line, search_line, policy_version_heading}
+use Rattle.answer_laws.specs.QueryLines.{HasLineOfEachAskedCandidate, HasNameAndVersion, HasPolicyLinesOfVersion, IsInListReportByInstalledFlag, IsInSearchReport, IsVersionInRepository, IsVersionInstalled, line_at, repository_line_at}
 
 -- ---- the lines of places
 
@@ -52,11 +52,11 @@ module _ (those : (test : Candidate → Bool) (cs : List Candidate) (place : ℕ
       back : (place : ℕ) → ((c : Candidate) × (slice_get cs place ≡ Some c) × IsAsked c) → IsIn place (sorted_places_passing test cs)
       back place (c, at, h) = each test cs place (ap (λ (o : Option Candidate). option_map_or test o false) at ∙ (asked c).1 h)
 
-  pub listed : ((patterns : List Operand) (installed_only : Bool) (c : Candidate) → (is_list_candidate patterns installed_only c ≡ true) ↔ IsInListReport patterns installed_only c)
+  pub listed : ((patterns : List Operand) (installed_only : Bool) (c : Candidate) → (is_list_candidate patterns installed_only c ≡ true) ↔ IsInListReportByInstalledFlag patterns installed_only c)
       → (cs : List Candidate) (patterns : List Operand) (installed_only : Bool)
-      → HasLineOfEachAskedCandidate (IsInListReport patterns installed_only) candidate_line cs (list_report cs patterns installed_only)
+      → HasLineOfEachAskedCandidate (IsInListReportByInstalledFlag patterns installed_only) list_line_of_candidate cs (list_report cs patterns installed_only)
   listed asked cs patterns installed_only =
-      lines_of (is_list_candidate patterns installed_only) (IsInListReport patterns installed_only) candidate_line cs
+      lines_of (is_list_candidate patterns installed_only) (IsInListReportByInstalledFlag patterns installed_only) list_line_of_candidate cs
       (list_report cs patterns installed_only) (asked patterns installed_only) refl
 
   pub searched : ((patterns : List Operand) (c : Candidate) → (is_search_candidate patterns c ≡ true) ↔ IsInSearchReport patterns c)
@@ -70,7 +70,7 @@ module _ (those : (test : Candidate → Bool) (cs : List Candidate) (place : ℕ
 
 pub policy_named : (cs : List Candidate) (repositories : List Repository) (names : List Operand)
     → policy_report cs repositories names
-    ≡ flat_map (λ (o : Operand). policy_heading o.text ++ flat_map (version_policy cs repositories o.text) (versions_of_name cs o.text)) names
+    ≡ flat_map (λ (o : Operand). policy_heading o.text ++ flat_map (version_policy cs repositories o.text) (sorted_distinct_versions_of_name cs o.text)) names
 policy_named cs repositories names = refl
 
 -- a test holds of one of those of a list that pass another test
@@ -120,12 +120,12 @@ text_same : (a : Option (List ℕ)) → is_same_version a a ≡ true
 text_same None = refl
 text_same (Some a) = (bytes_eq-Decides a a).1 refl
 
-version_same : (name : List ℕ) (version : Option (List ℕ)) (c : Candidate) → has_name_and_version name version c ≡ true → HasNameAndVersion name version c
+version_same : (name : List ℕ) (version : Option (List ℕ)) (c : Candidate) → has_own_name_and_version_text name version c ≡ true → HasNameAndVersion name version c
 version_same name version c e =
     let both = and_parts (has_own_name name c) (is_same_version version c.version) e in
     record { named = sym ((bytes_eq-Decides name c.name).0 both.0); versioned = sym (same_text version c.version both.1) }
 
-same_version : (name : List ℕ) (version : Option (List ℕ)) (c : Candidate) → HasNameAndVersion name version c → has_name_and_version name version c ≡ true
+same_version : (name : List ℕ) (version : Option (List ℕ)) (c : Candidate) → HasNameAndVersion name version c → has_own_name_and_version_text name version c ≡ true
 same_version name version c x =
     ap (λ (n : List ℕ). bytes_eq name n && is_same_version version c.version) x.named
     ∙ ap (λ (v : Option (List ℕ)). bytes_eq name name && is_same_version version v) x.versioned
@@ -133,27 +133,27 @@ same_version name version c x =
     ∙ text_same version
 
 in_repository : (cs : List Candidate) (name : List ℕ) (version : Option (List ℕ)) (number : ℕ)
-    → list_any (is_of_repository number) (filter (has_name_and_version name version) cs) ≡ true → IsVersionInRepository cs name version number
+    → list_any (is_of_repository number) (filter (has_own_name_and_version_text name version) cs) ≡ true → IsVersionInRepository cs name version number
 in_repository cs name version number e =
-    let (c, here, same, of) = passing (has_name_and_version name version) (is_of_repository number) cs e in
+    let (c, here, same, of) = passing (has_own_name_and_version_text name version) (is_of_repository number) cs e in
     record { candidate = c; listed = here; same = version_same name version c same; numbered = of_number number c of }
 
 repository_has : (cs : List Candidate) (name : List ℕ) (version : Option (List ℕ)) (number : ℕ)
-    → IsVersionInRepository cs name version number → list_any (is_of_repository number) (filter (has_name_and_version name version) cs) ≡ true
+    → IsVersionInRepository cs name version number → list_any (is_of_repository number) (filter (has_own_name_and_version_text name version) cs) ≡ true
 repository_has cs name version number x =
-    passed (has_name_and_version name version) (is_of_repository number) cs x.candidate x.listed (same_version name version x.candidate x.same)
+    passed (has_own_name_and_version_text name version) (is_of_repository number) cs x.candidate x.listed (same_version name version x.candidate x.same)
     (numbered number x.candidate x.numbered)
 
 is_there : (cs : List Candidate) (name : List ℕ) (version : Option (List ℕ))
-    → list_any (λ (c : Candidate). c.installed) (filter (has_name_and_version name version) cs) ≡ true → IsVersionInstalled cs name version
+    → list_any (λ (c : Candidate). c.installed) (filter (has_own_name_and_version_text name version) cs) ≡ true → IsVersionInstalled cs name version
 is_there cs name version e =
-    let (c, here, same, on) = passing (has_name_and_version name version) (λ (c : Candidate). c.installed) cs e in
+    let (c, here, same, on) = passing (has_own_name_and_version_text name version) (λ (c : Candidate). c.installed) cs e in
     record { candidate = c; listed = here; same = version_same name version c same; installed = on }
 
 there_is : (cs : List Candidate) (name : List ℕ) (version : Option (List ℕ))
-    → IsVersionInstalled cs name version → list_any (λ (c : Candidate). c.installed) (filter (has_name_and_version name version) cs) ≡ true
+    → IsVersionInstalled cs name version → list_any (λ (c : Candidate). c.installed) (filter (has_own_name_and_version_text name version) cs) ≡ true
 there_is cs name version x =
-    passed (has_name_and_version name version) (λ (c : Candidate). c.installed) cs x.candidate x.listed
+    passed (has_own_name_and_version_text name version) (λ (c : Candidate). c.installed) cs x.candidate x.listed
     (same_version name version x.candidate x.same) x.installed
 
 -- the places of the repositories that have one of some candidates; the first repository has this number
@@ -165,11 +165,11 @@ places_of those number place (r ∷ rs) =
 
 lines_next : (those : List Candidate) (all : List Repository) (place number : ℕ) (r : Repository) (rs : List Repository) → slice_get all place ≡ Some r
     → lines_of_repositories_of_candidates those (number + 1) rs ≡ flat_map (repository_line_at all) (places_of those (number + 1) (suc place) rs)
-    → (b : Bool) → (if b then repository_line r.tag r.path else []) ++ lines_of_repositories_of_candidates those (number + 1) rs
+    → (b : Bool) → (if b then policy_repository_line r.tag r.path else []) ++ lines_of_repositories_of_candidates those (number + 1) rs
     ≡ flat_map (repository_line_at all) ((if b then place ∷ [] else []) ++ places_of those (number + 1) (suc place) rs)
 lines_next those all place number r rs here rest true =
-    ap (λ (l : List ℕ). repository_line r.tag r.path ++ l) rest
-    ∙ ap (λ (o : Option Repository). option_map_or (λ (r : Repository). repository_line r.tag r.path) o [] ++ flat_map (repository_line_at all) (places_of those (number + 1) (suc place) rs)) (sym here)
+    ap (λ (l : List ℕ). policy_repository_line r.tag r.path ++ l) rest
+    ∙ ap (λ (o : Option Repository). option_map_or (λ (r : Repository). policy_repository_line r.tag r.path) o [] ++ flat_map (repository_line_at all) (places_of those (number + 1) (suc place) rs)) (sym here)
 lines_next those all place number r rs here rest false = rest
 
 lines_from : (those : List Candidate) (all : List Repository) (place number : ℕ) (rs : List Repository) → ((j : ℕ) → slice_get all (place + j) ≡ slice_get rs j)
@@ -245,30 +245,30 @@ rising those number place (r ∷ rs) e =
 pub places_told : (cs : List Candidate) (repositories : List Repository) (name : List ℕ) (version : Option (List ℕ)) → HasPolicyLinesOfVersion cs repositories name version (version_policy cs repositories name version)
 places_told cs repositories name version =
     record {
-      database = if list_any (λ (c : Candidate). c.installed) (filter (has_name_and_version name version) cs) then policy_database_line else [];
-      database_is = by_test (list_any (λ (c : Candidate). c.installed) (filter (has_name_and_version name version) cs)) refl;
-      places = places_of (filter (has_name_and_version name version) cs) 1 0 repositories;
+      database = if list_any (λ (c : Candidate). c.installed) (filter (has_own_name_and_version_text name version) cs) then policy_database_line else [];
+      database_is = by_test (list_any (λ (c : Candidate). c.installed) (filter (has_own_name_and_version_text name version) cs)) refl;
+      places = places_of (filter (has_own_name_and_version_text name version) cs) 1 0 repositories;
       each = λ place. (there place, back place);
-      order = rising (filter (has_name_and_version name version) cs) 1 0 repositories refl;
-      text_is = ap (λ (l : List ℕ). version_heading (printed_version version) ++ ((if list_any (λ (c : Candidate). c.installed) (filter (has_name_and_version name version) cs) then policy_database_line else []) ++ l))
-          (lines_from (filter (has_name_and_version name version) cs) repositories 0 1 repositories (λ j. let same : 0 + j ≡ j = omega arith in ap (slice_get repositories) same))
-          ∙ sym (append_assoc (version_heading (printed_version version)) (if list_any (λ (c : Candidate). c.installed) (filter (has_name_and_version name version) cs) then policy_database_line else [])
-          (flat_map (repository_line_at repositories) (places_of (filter (has_name_and_version name version) cs) 1 0 repositories)));
+      order = rising (filter (has_own_name_and_version_text name version) cs) 1 0 repositories refl;
+      text_is = ap (λ (l : List ℕ). policy_version_heading (printed_version version) ++ ((if list_any (λ (c : Candidate). c.installed) (filter (has_own_name_and_version_text name version) cs) then policy_database_line else []) ++ l))
+          (lines_from (filter (has_own_name_and_version_text name version) cs) repositories 0 1 repositories (λ j. let same : 0 + j ≡ j = omega arith in ap (slice_get repositories) same))
+          ∙ sym (append_assoc (policy_version_heading (printed_version version)) (if list_any (λ (c : Candidate). c.installed) (filter (has_own_name_and_version_text name version) cs) then policy_database_line else [])
+          (flat_map (repository_line_at repositories) (places_of (filter (has_own_name_and_version_text name version) cs) 1 0 repositories)));
     }
   where
-    by_test : (b : Bool) → list_any (λ (c : Candidate). c.installed) (filter (has_name_and_version name version) cs) ≡ b
+    by_test : (b : Bool) → list_any (λ (c : Candidate). c.installed) (filter (has_own_name_and_version_text name version) cs) ≡ b
         → (((if b then policy_database_line else []) ≡ policy_database_line) × IsVersionInstalled cs name version) ⊎ (((if b then policy_database_line else []) ≡ []) × (IsVersionInstalled cs name version → ⊥))
     by_test true e = inl (refl, is_there cs name version e)
     by_test false e = inr (refl, λ x. let both : true ≡ false = sym (there_is cs name version x) ∙ e in absurd (cc (both)))
 
-    there : (place : ℕ) → IsIn place (places_of (filter (has_name_and_version name version) cs) 1 0 repositories)
+    there : (place : ℕ) → IsIn place (places_of (filter (has_own_name_and_version_text name version) cs) 1 0 repositories)
         → (is_some (slice_get repositories place) ≡ true) × IsVersionInRepository cs name version (suc place)
     there place h =
-        let (j, is, some, any) = in_places (filter (has_name_and_version name version) cs) 1 0 repositories place refl h in
+        let (j, is, some, any) = in_places (filter (has_own_name_and_version_text name version) cs) 1 0 repositories place refl h in
         let same : j ≡ place = omega (arith, is) in
         (ap (λ (k : ℕ). is_some (slice_get repositories k)) (sym same) ∙ some, in_repository cs name version (suc place) any)
 
     back : (place : ℕ) → ((is_some (slice_get repositories place) ≡ true) × IsVersionInRepository cs name version (suc place))
-        → IsIn place (places_of (filter (has_name_and_version name version) cs) 1 0 repositories)
+        → IsIn place (places_of (filter (has_own_name_and_version_text name version) cs) 1 0 repositories)
     back place x =
-        has_place (filter (has_name_and_version name version) cs) 1 0 repositories place place refl (omega arith) x.0 (repository_has cs name version (suc place) x.1)
+        has_place (filter (has_own_name_and_version_text name version) cs) 1 0 repositories place place refl (omega arith) x.0 (repository_has cs name version (suc place) x.1)

@@ -22,13 +22,13 @@ use Rattle.change_outcome.specs.v2_lines.declared.field.InfoField.{InfoField}
 use Rattle.change_outcome.specs.v2_lines.declared.field.InfoField.TheVariants as Letters
 use Rattle.change_outcome.specs.v2_core.Database.{array_of_field_values, record_info_value, record_value, value_of_single_line_field, value_of_first_or_null, value_of_line, values_if_line_of_field}
 use Rattle.change_outcome.specs.v2_core.Reading.{record_with_text_line}
-use Rattle.change_outcome.specs.v2_core.Records.{InfoLine, ListedFolder, Record, has_line_of, info_line_from_parts, is_line_of, record_if_both_parts, with_info_values, with_info_line, with_path_line, with_record_line}
+use Rattle.change_outcome.specs.v2_core.Records.{InfoLine, ListedFolder, Record, has_line_of_field, info_line_from_parts, is_line_of_field, record_if_both_parts, with_info_values, with_info_line, with_path_line, with_record_line}
 use Rattle.answer_laws.specs.TextLetters.{LinesGiveFieldValues, HasFieldValuesOfLines, is_list_letter, letter_value_in_package, record_with_lines}
 use Rattle.std.proofs.lemmas.Bool.{eq-eqb}
 use Rattle.adb_view.specs.Plain.{Plains}
 use Rattle.adb_view.specs.declared.tables.Which.TheVariants.{Package, PkgInfo}
 use Rattle.make_laws.specs.NamedFields.{field_named}
-use Rattle.change_outcome.specs.v2_core.Database.{array_of, listed_folder_value}
+use Rattle.change_outcome.specs.v2_core.Database.{array_or_null_of_list, listed_folder_value}
 use Rattle.std.specs.Option.{option_or}
 use Rattle.std.proofs.lemmas.Grind.{flat_map-append}
 use Rattle.std.proofs.lemmas.List.Folds.{find-append}
@@ -63,7 +63,7 @@ accepted r next line e = accepted_by r next line (record_line_of line) refl e
 -- ---- the information after more lines
 
 info_more : (l : RecordLine) (info more : List InfoLine) → with_info_line l info ≡ Some more → more ≡ info ++ infos (Some l)
-info_more (info_line g v) info more e = go (not (is_list_info_field g) && has_line_of g info) e
+info_more (info_line g v) info more e = go (not (is_list_info_field g) && has_line_of_field g info) e
   where
     go : (b : Bool) → (if b then None else Some (info ++ info_line_from_parts g v ∷ [])) ≡ Some more → more ≡ info ++ infos (Some (info_line g v))
     go true e = absurd cc
@@ -110,12 +110,12 @@ module _ (spelled : (t : List ℕ) (d : Dependency) → dependency_of t ≡ Some
 
 -- ---- a field that has one line at most
 
-no_values : (f : InfoField) (info : List InfoLine) → has_line_of f info ≡ false → (values_of f info ≡ []) × (find (is_line_of f) info ≡ None)
+no_values : (f : InfoField) (info : List InfoLine) → has_line_of_field f info ≡ false → (values_of f info ≡ []) × (find (is_line_of_field f) info ≡ None)
 no_values f [] e = (refl, refl)
-no_values f (l ∷ ls) e = go (is_line_of f l) refl e (no_values f ls)
+no_values f (l ∷ ls) e = go (is_line_of_field f l) refl e (no_values f ls)
   where
-    go : (b : Bool) → is_line_of f l ≡ b → (b || has_line_of f ls) ≡ false → (has_line_of f ls ≡ false → (values_of f ls ≡ []) × (find (is_line_of f) ls ≡ None))
-        → ((if b then l.values else []) ++ values_of f ls ≡ []) × (cond b (Some l) (find (is_line_of f) ls) ≡ None)
+    go : (b : Bool) → is_line_of_field f l ≡ b → (b || has_line_of_field f ls) ≡ false → (has_line_of_field f ls ≡ false → (values_of f ls ≡ []) × (find (is_line_of_field f) ls ≡ None))
+        → ((if b then l.values else []) ++ values_of f ls ≡ []) × (cond b (Some l) (find (is_line_of_field f) ls) ≡ None)
     go true t e more = absurd cc
     go false t e more = more e
 
@@ -152,7 +152,7 @@ first_tells : (values : List FieldValue) → HasFirstValue values (value_of_firs
 first_tells [] = refl
 first_tells (v ∷ vs) = refl
 
-with_own : (f : InfoField) (v : List FieldValue) (info more : List InfoLine) (has : Bool) → is_list_info_field f ≡ false → has_line_of f info ≡ has
+with_own : (f : InfoField) (v : List FieldValue) (info more : List InfoLine) (has : Bool) → is_list_info_field f ≡ false → has_line_of_field f info ≡ has
     → (if not (is_list_info_field f) && has then None else Some (info ++ info_line_from_parts f v ∷ [])) ≡ Some more → Tells f more
 unfolding Tells
 with_own f v info more true once is e =
@@ -164,9 +164,9 @@ with_own f v info more false once is e =
     let before = no_values f info is in
     let values : values_of f (info ++ info_line_from_parts f v ∷ []) ≡ v =
     flat_map-append (values_if_line_of_field f) info (info_line_from_parts f v ∷ []) ∙ ap (λ (x : List FieldValue). x ++ values_of f (info_line_from_parts f v ∷ [])) before.0 ∙ own_values f v in
-    let found : find (is_line_of f) (info ++ info_line_from_parts f v ∷ []) ≡ Some (info_line_from_parts f v) =
-    find-append (is_line_of f) info (info_line_from_parts f v ∷ [])
-    ∙ ap (λ (o : Option InfoLine). option_or o (find (is_line_of f) (info_line_from_parts f v ∷ []))) before.1
+    let found : find (is_line_of_field f) (info ++ info_line_from_parts f v ∷ []) ≡ Some (info_line_from_parts f v) =
+    find-append (is_line_of_field f) info (info_line_from_parts f v ∷ [])
+    ∙ ap (λ (o : Option InfoLine). option_or o (find (is_line_of_field f) (info_line_from_parts f v ∷ []))) before.1
     ∙ ap (λ (b : Bool). cond b (Some (info_line_from_parts f v)) None) (own_line f) in
     subst (λ (i : List InfoLine). HasFirstValue (values_of f i) (value_of_single_line_field f i)) same
     (subst (λ (x : List FieldValue). HasFirstValue x (value_of_single_line_field f (info ++ info_line_from_parts f v ∷ []))) (sym values)
@@ -184,10 +184,10 @@ unfolding Tells
 with_other f g v info more other is tells =
     let values : values_of f (info ++ info_line_from_parts g v ∷ []) ≡ values_of f info =
     flat_map-append (values_if_line_of_field f) info (info_line_from_parts g v ∷ []) ∙ ap (λ (x : List FieldValue). values_of f info ++ x) (other_values f g v other) ∙ append-nil (values_of f info) in
-    let found : find (is_line_of f) (info ++ info_line_from_parts g v ∷ []) ≡ find (is_line_of f) info =
-    find-append (is_line_of f) info (info_line_from_parts g v ∷ [])
-    ∙ ap (λ (b : Bool). option_or (find (is_line_of f) info) (cond b (Some (info_line_from_parts g v)) None)) other
-    ∙ or_nothing (find (is_line_of f) info) in
+    let found : find (is_line_of_field f) (info ++ info_line_from_parts g v ∷ []) ≡ find (is_line_of_field f) info =
+    find-append (is_line_of_field f) info (info_line_from_parts g v ∷ [])
+    ∙ ap (λ (b : Bool). option_or (find (is_line_of_field f) info) (cond b (Some (info_line_from_parts g v)) None)) other
+    ∙ or_nothing (find (is_line_of_field f) info) in
     subst (λ (i : List InfoLine). HasFirstValue (values_of f i) (value_of_single_line_field f i)) (sym is)
     (subst (λ (x : List FieldValue). HasFirstValue x (value_of_single_line_field f (info ++ info_line_from_parts g v ∷ []))) (sym values)
     (subst (λ (o : Option InfoLine). HasFirstValue (values_of f info) (value_of_line o)) (sym found) tells))
@@ -199,7 +199,7 @@ with_line f (info_line g v) info more once e tells = go (letter_of g == letter_o
     go : (b : Bool) → (letter_of g == letter_of f) ≡ b → Tells f more
     go true t =
         let same : g ≡ f = same_letter g f (eqb-true (letter_of g) (letter_of f) t) in
-        with_own f v info more (has_line_of f info) once refl (subst (λ (x : InfoField). with_info_values x v info ≡ Some more) same e)
+        with_own f v info more (has_line_of_field f info) once refl (subst (λ (x : InfoField). with_info_values x v info ≡ Some more) same e)
     go false t = with_other f g v info more t (info_more (info_line g v) info more e) tells
 with_line f (folder_line name) info more once e tells = let same : info ≡ more = cc in subst (Tells f) same tells
 with_line f (folder_access_line a) info more once e tells = let same : info ≡ more = cc in subst (Tells f) same tells
@@ -233,7 +233,7 @@ info_parts info =
 abbrev pub package_parts : Record → Plains
 package_parts r =
     plains_of_list
-    (record_info_value r.info ∷ array_of (map listed_folder_value r.folders) ∷ null ∷ null
+    (record_info_value r.info ∷ array_or_null_of_list (map listed_folder_value r.folders) ∷ null ∷ null
     ∷ value_of_single_line_field Letters.ReplacesPriority r.info ∷ [])
 
 pub info_is : (r : Record) → field_named Package (codes "info") (record_value r) ≡ record_info_value r.info

@@ -16,9 +16,9 @@ use Rattle.base_core.specs.Sorted.{sorted_by, with_element_inserted}
 use Rattle.installed_info.specs.candidate_core.Candidates.{Candidate}
 use Rattle.change_outcome.specs.change_files.Fate.{apk_new_ending}
 use Rattle.change_outcome.specs.change_files.FileChange.{FileChange}
-use Rattle.change_outcome.specs.change_files.PlanLists.{paths_with_apk_new_file, kept_paths_of}
+use Rattle.change_outcome.specs.change_files.PlanLists.{paths_with_apk_new_file, kept_left_over_paths_of}
 use Rattle.change_outcome.specs.ChangeOutcome.{ChangeWishes, change_report, member_installed_size, member_sum_line, touched_paths}
-use Rattle.change_outcome.specs.ConfigurationLines.{PathLine, apk_new_line, configuration_lines, kept_config_line, path_line, path_line_cmp}
+use Rattle.change_outcome.specs.ConfigurationLines.{PathWithReportLine, apk_new_file_line, lines_of_apk_new_and_kept_paths, kept_config_line, path_with_line_by, path_with_line_cmp_by_path}
 use Rattle.change_outcome.specs.Triggers.{trigger_lines}
 use Rattle.change_outcome.specs.db_core.Members.{Member}
 use Rattle.change_outcome.specs.package_changes.Changes.{Replacement, changes_of}
@@ -75,40 +75,40 @@ sorted_map f cmp by same (x ∷ xs) =
 abbrev changed_cmp : ChangedFile → ChangedFile → Ordering
 changed_cmp x y = bytes_cmp (changed_path x) (changed_path y)
 
-abbrev line_of : ChangedFile → PathLine
-line_of (placed_beside path) = path_line apk_new_line path
-line_of (kept path) = path_line kept_config_line path
+abbrev line_of : ChangedFile → PathWithReportLine
+line_of (placed_beside path) = path_with_line_by apk_new_file_line path
+line_of (kept path) = path_with_line_by kept_config_line path
 
 path_is : (x : ChangedFile) → changed_path x ≡ (line_of x).path
 path_is (placed_beside path) = refl
 path_is (kept path) = refl
 
-same_order : (x y : ChangedFile) → changed_cmp x y ≡ path_line_cmp (line_of x) (line_of y)
+same_order : (x y : ChangedFile) → changed_cmp x y ≡ path_with_line_cmp_by_path (line_of x) (line_of y)
 same_order x y = ap (λ (p : List ℕ). bytes_cmp p (changed_path y)) (path_is x) ∙ ap (bytes_cmp (line_of x).path) (path_is y)
 
 abbrev all_changed : List (List ℕ) → List (List ℕ) → List ChangedFile
 all_changed aside kept_paths = map placed_beside aside ++ map kept kept_paths
 
-kept_lines_are : (paths : List (List ℕ)) → map line_of (map kept paths) ≡ map (path_line kept_config_line) paths
+kept_lines_are : (paths : List (List ℕ)) → map line_of (map kept paths) ≡ map (path_with_line_by kept_config_line) paths
 kept_lines_are [] = refl
-kept_lines_are (path ∷ paths) = ap (λ (l : List PathLine). path_line kept_config_line path ∷ l) (kept_lines_are paths)
+kept_lines_are (path ∷ paths) = ap (λ (l : List PathWithReportLine). path_with_line_by kept_config_line path ∷ l) (kept_lines_are paths)
 
-lines_are : (aside kept_paths : List (List ℕ)) → map line_of (all_changed aside kept_paths) ≡ map (path_line apk_new_line) aside ++ map (path_line kept_config_line) kept_paths
+lines_are : (aside kept_paths : List (List ℕ)) → map line_of (all_changed aside kept_paths) ≡ map (path_with_line_by apk_new_file_line) aside ++ map (path_with_line_by kept_config_line) kept_paths
 lines_are [] kept_paths = kept_lines_are kept_paths
-lines_are (path ∷ aside) kept_paths = ap (λ (l : List PathLine). path_line apk_new_line path ∷ l) (lines_are aside kept_paths)
+lines_are (path ∷ aside) kept_paths = ap (λ (l : List PathWithReportLine). path_with_line_by apk_new_file_line path ∷ l) (lines_are aside kept_paths)
 
 text_of_file : (x : ChangedFile) → (line_of x).line ≡ report_line (changed_file_text x)
 text_of_file (placed_beside path) = ap (λ (t : List ℕ). report_line (t ++ path ++ codes " was changed")) (append_assoc path apk_new_ending (codes " installed; "))
 text_of_file (kept path) = refl
 
-text_of_files : (xs : List ChangedFile) → flat_map (λ (l : PathLine). l.line) (map line_of xs) ≡ report_lines (map changed_file_text xs)
+text_of_files : (xs : List ChangedFile) → flat_map (λ (l : PathWithReportLine). l.line) (map line_of xs) ≡ report_lines (map changed_file_text xs)
 text_of_files [] = refl
 text_of_files (x ∷ xs) =
-    ap (λ (t : List ℕ). t ++ flat_map (λ (l : PathLine). l.line) (map line_of xs)) (text_of_file x)
+    ap (λ (t : List ℕ). t ++ flat_map (λ (l : PathWithReportLine). l.line) (map line_of xs)) (text_of_file x)
     ∙ ap (λ (t : List ℕ). report_line (changed_file_text x) ++ t) (text_of_files xs)
 
-pub configured : (aside kept_paths : List (List ℕ)) → HasConfigurationLines aside kept_paths (configuration_lines aside kept_paths)
-unfolding configuration_lines
+pub configured : (aside kept_paths : List (List ℕ)) → HasConfigurationLines aside kept_paths (lines_of_apk_new_and_kept_paths aside kept_paths)
+unfolding lines_of_apk_new_and_kept_paths
 configured aside kept_paths =
     let all : List ChangedFile = all_changed aside kept_paths in
     record {
@@ -116,8 +116,8 @@ configured aside kept_paths =
       same = sorted_same changed_cmp all;
       order = subst (IsSorted bytes_cmp) (sym (sorted_map changed_path changed_cmp bytes_cmp (λ x y. refl) all)) (sorted_up bytes_cmp nat_list_cmp_total (map changed_path all));
       text_is =
-          sym (ap (λ (l : List PathLine). flat_map (λ (l : PathLine). l.line) l)
-          (sorted_map line_of changed_cmp path_line_cmp same_order all ∙ ap (sorted_by path_line_cmp) (lines_are aside kept_paths)))
+          sym (ap (λ (l : List PathWithReportLine). flat_map (λ (l : PathWithReportLine). l.line) l)
+          (sorted_map line_of changed_cmp path_with_line_cmp_by_path same_order all ∙ ap (sorted_by path_with_line_cmp_by_path) (lines_are aside kept_paths)))
           ∙ text_of_files (sorted_by changed_cmp all);
     }
 
@@ -141,8 +141,8 @@ made_sections r wishes change files once = record {
   numbered = numbered (changes_of r);
   stays = still_needed_lines r.before r.selected wishes.to_remove;
   kept_lines = kept_lines r.before r.selected wishes.to_remove once;
-  configuration = configuration_lines (paths_with_apk_new_file change files) (kept_paths_of change files);
-  configured = configured (paths_with_apk_new_file change files) (kept_paths_of change files);
+  configuration = lines_of_apk_new_and_kept_paths (paths_with_apk_new_file change files) (kept_left_over_paths_of change files);
+  configured = configured (paths_with_apk_new_file change files) (kept_left_over_paths_of change files);
   triggers = trigger_lines (touched_paths change files) change.members;
   due = trigger_lines_are (touched_paths change files) change.members;
   last = member_sum_line change.members;

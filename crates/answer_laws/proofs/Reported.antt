@@ -14,7 +14,7 @@ use Rattle.installed_info.specs.candidate_core.Candidates.{Candidate}
 use Rattle.change_outcome.proofs.change_files.InOrder.{in_order, order_rises, in_left, in_right}
 use Rattle.change_outcome.specs.db_core.Packages.{is_package_named}
 use Rattle.installed_info.specs.file_owners.Replaces.{package_version_text}
-use Rattle.change_outcome.specs.package_changes.Changes.{Replacement, change_between, change_of_name, changes_of, is_candidate_this_package, is_candidate_named, names_before_and_selected, candidate_version_text, change_unless_same, version_change, version_text_cmp}
+use Rattle.change_outcome.specs.package_changes.Changes.{Replacement, change_between, change_of_name, changes_of, is_candidate_this_package, is_candidate_named, names_before_and_selected, candidate_version_text, change_by_is_same_and_is_again, version_change, version_text_cmp}
 use Rattle.report_core.specs.Reports.{Change, Install, Purge, Reinstall}
 use Rattle.answer_laws.specs.WhichChange.{HasInstallChange, HasPurgeChange, IsSelected, WasInstalled, changed_name}
 use Rattle.answer_laws.proofs.Members.{found_name, given_in, given_of, listed, missing_name}
@@ -26,7 +26,7 @@ named_version name old new Less = refl
 named_version name old new Equal = refl
 named_version name old new Greater = refl
 
-named_same : (name : List ℕ) (pkg : Plain) (c : Candidate) (same again : Bool) (change : Change) → change_unless_same name pkg c same again ≡ Some change → changed_name change ≡ name
+named_same : (name : List ℕ) (pkg : Plain) (c : Candidate) (same again : Bool) (change : Change) → change_by_is_same_and_is_again name pkg c same again ≡ Some change → changed_name change ≡ name
 named_same name pkg c false again change e =
     let is : version_change name (package_version_text pkg) (candidate_version_text c) (version_text_cmp (package_version_text pkg) (candidate_version_text c)) ≡ change = cc in
     sym (ap changed_name is) ∙ named_version name (package_version_text pkg) (candidate_version_text c) (version_text_cmp (package_version_text pkg) (candidate_version_text c))
@@ -106,7 +106,7 @@ abbrev Selected : Replacement → List ℕ → Type 0
 Selected r name = IsIn name (map (λ (c : Candidate). c.name) r.selected)
 
 never_same : (name : List ℕ) (pkg : Plain) (c : Candidate) (same again : Bool) (version : List ℕ)
-    → (change_unless_same name pkg c same again ≡ Some (Purge name version) → ⊥) × (change_unless_same name pkg c same again ≡ Some (Install name version) → ⊥)
+    → (change_by_is_same_and_is_again name pkg c same again ≡ Some (Purge name version) → ⊥) × (change_by_is_same_and_is_again name pkg c same again ≡ Some (Install name version) → ⊥)
 never_same name pkg c true true version = (λ e. absurd cc, λ e. absurd cc)
 never_same name pkg c true false version = (λ e. absurd cc, λ e. absurd cc)
 never_same name pkg c false again version = go (version_text_cmp (package_version_text pkg) (candidate_version_text c))

@@ -10,7 +10,7 @@ use Rattle.change_outcome.specs.db_core.Packages.{lists_path}
 use Rattle.dep_core.specs.LeadingSlash.{without_slash}
 use Rattle.installed_info.specs.file_owners.Replaces.{package_version_text}
 use Rattle.installed_info.specs.Form.{info_form_of_flags}
-use Rattle.installed_info.specs.Info.{package_info}
+use Rattle.installed_info.specs.Info.{package_info_for_operand_text}
 use Rattle.installed_info.proofs.Listers.{listed, is_listed}
 use Rattle.report_core.specs.Reports.{owner_text, report_line, report_lines, section}
 use Rattle.answer_laws.specs.InfoAnswers.{depends_texts_of_package, info_field, info_heading, file_paths_in_listed_order, section_text_with_heading}
@@ -38,9 +38,9 @@ by_flags P flags w i c d e f g h given =
     (subst (λ (b : Bool). P (flags_with flags w i c b)) (sym h) given)))
 
 pub contents : (flags : Flags) (name : List ℕ) (pkg : Plain) → flags.who_owns ≡ false → flags.installed ≡ false → flags.contents ≡ true
-    → package_info (info_form_of_flags flags) name pkg ≡ section_text_with_heading (info_heading pkg (codes " contains:")) (file_paths_in_listed_order pkg)
+    → package_info_for_operand_text (info_form_of_flags flags) name pkg ≡ section_text_with_heading (info_heading pkg (codes " contains:")) (file_paths_in_listed_order pkg)
 contents flags name pkg e f g =
-    by_flags (λ (fs : Flags). package_info (info_form_of_flags fs) name pkg ≡ section_text_with_heading (info_heading pkg (codes " contains:")) (file_paths_in_listed_order pkg))
+    by_flags (λ (fs : Flags). package_info_for_operand_text (info_form_of_flags fs) name pkg ≡ section_text_with_heading (info_heading pkg (codes " contains:")) (file_paths_in_listed_order pkg))
     flags false false true flags.depends e f g refl
     (as_section (info_heading pkg (codes " contains:")) (file_paths_in_listed_order pkg))
 
@@ -48,19 +48,19 @@ pub listed_paths : (pkg : Plain) (path : List ℕ) → IsIn path (file_paths_in_
 listed_paths pkg path = (is_listed path (paths_of_package_files pkg), listed path (paths_of_package_files pkg))
 
 pub depends : (flags : Flags) (name : List ℕ) (pkg : Plain) → flags.who_owns ≡ false → flags.installed ≡ false → flags.contents ≡ false → flags.depends ≡ true
-    → package_info (info_form_of_flags flags) name pkg ≡ section_text_with_heading (info_heading pkg (codes " depends on:")) (depends_texts_of_package pkg)
+    → package_info_for_operand_text (info_form_of_flags flags) name pkg ≡ section_text_with_heading (info_heading pkg (codes " depends on:")) (depends_texts_of_package pkg)
 depends flags name pkg e f g h =
-    by_flags (λ (fs : Flags). package_info (info_form_of_flags fs) name pkg ≡ section_text_with_heading (info_heading pkg (codes " depends on:")) (depends_texts_of_package pkg))
+    by_flags (λ (fs : Flags). package_info_for_operand_text (info_form_of_flags fs) name pkg ≡ section_text_with_heading (info_heading pkg (codes " depends on:")) (depends_texts_of_package pkg))
     flags false false false true e f g h
     (as_section (info_heading pkg (codes " depends on:")) (depends_texts_of_package pkg))
 
 pub description : (flags : Flags) (name : List ℕ) (pkg : Plain) → flags.who_owns ≡ false → flags.installed ≡ false → flags.contents ≡ false → flags.depends ≡ false
-    → package_info (info_form_of_flags flags) name pkg ≡ section_text_with_heading (info_heading pkg (codes " description:")) (text_in (info_field (codes "description") pkg) ∷ [])
+    → package_info_for_operand_text (info_form_of_flags flags) name pkg ≡ section_text_with_heading (info_heading pkg (codes " description:")) (text_in (info_field (codes "description") pkg) ∷ [])
 description flags name pkg e f g h =
-    by_flags (λ (fs : Flags). package_info (info_form_of_flags fs) name pkg ≡ section_text_with_heading (info_heading pkg (codes " description:")) (text_in (info_field (codes "description") pkg) ∷ []))
+    by_flags (λ (fs : Flags). package_info_for_operand_text (info_form_of_flags fs) name pkg ≡ section_text_with_heading (info_heading pkg (codes " description:")) (text_in (info_field (codes "description") pkg) ∷ []))
     flags false false false false e f g h
     (as_section (info_heading pkg (codes " description:")) (text_in (info_field (codes "description") pkg) ∷ []))
 
 pub owner : (flags : Flags) (path : List ℕ) (pkg : Plain) → flags.who_owns ≡ true
-    → package_info (info_form_of_flags flags) path pkg ≡ report_line (owner_text (without_slash path) (package_name pkg) (package_version_text pkg))
-owner flags path pkg e = ap (λ (b : Bool). package_info (info_form_of_flags (flags_with flags b flags.installed flags.contents flags.depends)) path pkg) e
+    → package_info_for_operand_text (info_form_of_flags flags) path pkg ≡ report_line (owner_text (without_slash path) (package_name pkg) (package_version_text pkg))
+owner flags path pkg e = ap (λ (b : Bool). package_info_for_operand_text (info_form_of_flags (flags_with flags b flags.installed flags.contents flags.depends)) path pkg) e

@@ -9,7 +9,7 @@ use Rattle.base_core.specs.Lists.{IsIn}
 use Rattle.installed_info.specs.candidate_core.Candidates.{Candidate, is_same_id}
 use Rattle.change_outcome.specs.db_core.Packages.{installed_id}
 use Rattle.installed_info.specs.file_owners.Replaces.{package_version_text}
-use Rattle.change_outcome.specs.package_changes.Changes.{Replacement, change_between, change_of_name, is_candidate_named, candidate_version_text, change_unless_same}
+use Rattle.change_outcome.specs.package_changes.Changes.{Replacement, change_between, change_of_name, is_candidate_named, candidate_version_text, change_by_is_same_and_is_again}
 use Rattle.report_core.specs.Reports.{Change, Reinstall}
 use Rattle.answer_laws.specs.WhichChange.{IsInstalledPackageSelected}
 
@@ -25,7 +25,7 @@ itself r name c is =
     let id : Bool = is_same_id (installed_id is.installed) c.id in
     ap (λ (o : Option Plain). change_between again name o (find (is_candidate_named name) r.selected)) is.before
     ∙ ap (λ (o : Option Candidate). change_between again name (Some is.installed) o) is.selected
-    ∙ ap (λ (o : Option ℕ). change_unless_same name is.installed c (not (is_some o) || (text && id)) again) is.repository
+    ∙ ap (λ (o : Option ℕ). change_by_is_same_and_is_again name is.installed c (not (is_some o) || (text && id)) again) is.repository
 
 by_again : (name : List ℕ) (c : Candidate) (again : Bool)
     → ((unless_again name c again ≡ Some (Reinstall name (candidate_version_text c))) ↔ (again ≡ true)) × ((unless_again name c again ≡ None) ↔ (again ≡ true → ⊥))

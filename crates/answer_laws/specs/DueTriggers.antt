@@ -6,7 +6,7 @@ use Rattle.adb_view.specs.Plain.{Plain}
 use Rattle.base_core.specs.Listed.{AreSortedDistinctNames}
 use Rattle.base_core.specs.Lists.{IsIn}
 use Rattle.base_core.specs.Name.{path_parts_of}
-use Rattle.change_outcome.specs.PackageFiles.{has_script_of}
+use Rattle.change_outcome.specs.PackageFiles.{has_script_with_number}
 use Rattle.change_outcome.specs.Triggers.{is_folder_matched_by_pattern, trigger_patterns_of_package}
 use Rattle.change_outcome.specs.db_core.Members.{Member, member_name}
 use Rattle.dep_core.specs.LeadingSlash.{without_slash}
@@ -27,7 +27,7 @@ pub record MatchesFolderByParts (pattern folder : List ℕ) : Type 0 where
 -- the package has a trigger script, and one of its trigger patterns matches the folder
 pub record HasTriggerWatchingFolder (pkg : Plain) (folder : List ℕ) : Type 0 where
   -- the package has a trigger script
-  pub script : has_script_of pkg TRIGGER_SCRIPT ≡ true
+  pub script : has_script_with_number pkg TRIGGER_SCRIPT ≡ true
   -- a pattern of the package's trigger
   pub pattern : List ℕ
   -- the pattern is one of the package
@@ -36,7 +36,7 @@ pub record HasTriggerWatchingFolder (pkg : Plain) (folder : List ℕ) : Type 0 w
   pub matched : is_folder_matched_by_pattern folder pattern ≡ true
 
 -- one of these paths is directly in the folder, and not in a folder below it
-pub record HasFileRightInFolder (paths : List (List ℕ)) (folder : List ℕ) : Type 0 where
+pub record HasFileDirectlyInFolder (paths : List (List ℕ)) (folder : List ℕ) : Type 0 where
   -- one of these paths
   pub path : List ℕ
   -- the path is in the list
@@ -48,7 +48,7 @@ pub record HasFileRightInFolder (paths : List (List ℕ)) (folder : List ℕ) : 
 -- files
 pub record IsTriggerDueFor (paths : List (List ℕ)) (m : Member) (folder : List ℕ) : Type 0 where
   -- one of these paths is directly in the folder
-  pub file : HasFileRightInFolder paths folder
+  pub file : HasFileDirectlyInFolder paths folder
   -- the package has a trigger script and watches the folder
   pub triggered : HasTriggerWatchingFolder m.pkg folder
 
@@ -56,7 +56,7 @@ pub record IsTriggerDueFor (paths : List (List ℕ)) (m : Member) (folder : List
 
 -- the text has one line for each member and each folder for which the trigger of this member is due, and no other line.
 -- The members are in their order, and the folders of each member in byte order
-pub record HasTriggerLines (paths : List (List ℕ)) (members : List Member) (text : List ℕ)
+pub record HasDueTriggerLines (paths : List (List ℕ)) (members : List Member) (text : List ℕ)
     : Type 0 where
   -- the folders for which the trigger of a package is due
   pub folders : Member → List (List ℕ)

@@ -33,12 +33,12 @@ pub record GiveSameSizeDigestAndTarget (a b : Plain) : Type 0 where
 
 -- `bytes` are those of a file that represents a link: `!<symlink>`, followed by the field `target` without its first
 -- two bytes, which say that the file is a link
-abbrev pub IsTargetOfLinkBytes : List ℕ → List ℕ → Type 0
-IsTargetOfLinkBytes target bytes = bytes ≡ codes "!<symlink>" ++ drop 2 target
+abbrev pub IsTargetFieldOfLinkBytes : List ℕ → List ℕ → Type 0
+IsTargetFieldOfLinkBytes target bytes = bytes ≡ codes "!<symlink>" ++ drop 2 target
 
 -- The bytes have this digest. The length of the digest selects the hash function (FIPS 180-4). A digest of another
 -- length than these three is not compared with the bytes.
-pub record HasDigest (digest bytes : List ℕ) : Type 0 where
+pub record HasDigestIfLengthIsKnown (digest bytes : List ℕ) : Type 0 where
   -- a digest of 20 bytes is the SHA-1 of the bytes
   pub of_20_bytes : length digest ≡ 20 → digest ≡ sha1 bytes
   -- a digest of 32 bytes is the SHA-256 of the bytes

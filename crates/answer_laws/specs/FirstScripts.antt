@@ -2,7 +2,7 @@
 -- refused"; the numbers of scripts are in `docs/formats.md`, "Schemas", table 6. Serves the laws of `src/scripts.rt`.
 use Rattle.std.specs.Prelude.{◌≡◌, ◌⊎◌, ◌<◌, ℕ, true, false}
 use Rattle.adb_view.specs.Plain.{Plain}
-use Rattle.change_outcome.specs.PackageFiles.{has_script_of}
+use Rattle.change_outcome.specs.PackageFiles.{has_script_with_number}
 use Rattle.report_core.specs.Numbers.{POST_DEINSTALL_SCRIPT, POST_INSTALL_SCRIPT, POST_UPGRADE_SCRIPT, PRE_DEINSTALL_SCRIPT, PRE_INSTALL_SCRIPT, PRE_UPGRADE_SCRIPT}
 use Rattle.report_core.specs.Reports.{Change, Downgrade, Install, Purge, Reinstall, Replace, Upgrade}
 
@@ -26,6 +26,6 @@ pub record IsFirstScriptRunByChange (change : Change) (pkg : Plain) (n : ℕ) : 
   -- the change runs the script with this number
   pub runs : IsScriptNumberRunByChange change n
   -- the package has this script
-  pub present : has_script_of pkg n ≡ true
+  pub present : has_script_with_number pkg n ≡ true
   -- the package has no script with a lesser number that the change runs
-  pub first : (m : ℕ) → m < n → IsScriptNumberRunByChange change m → has_script_of pkg m ≡ false
+  pub first : (m : ℕ) → m < n → IsScriptNumberRunByChange change m → has_script_with_number pkg m ≡ false

@@ -11,7 +11,7 @@ use Rattle.base_core.specs.ByteOrder.{bytes_cmp}
 use Rattle.base_core.specs.Lists.{IsIn}
 use Rattle.command_core.specs.declared.command.Flags.{Flags}
 use Rattle.command_core.specs.declared.operands.Operand.{Operand}
-use Rattle.installed_info.specs.candidate_core.Candidates.{dependencies_in}
+use Rattle.installed_info.specs.candidate_core.Candidates.{dependencies_in_list_value}
 use Rattle.dep_core.specs.DependencyText.{dep_text}
 use Rattle.installed_info.specs.file_owners.Replaces.{package_version_text}
 use Rattle.installed_info.specs.Form.{info_form_of_flags}
@@ -70,4 +70,4 @@ file_paths_in_listed_order pkg =
 
 -- the texts of a package's dependencies, in their order
 abbrev pub depends_texts_of_package : Plain → List (List ℕ)
-depends_texts_of_package pkg = map dep_text (dependencies_in (info_field (codes "depends") pkg))
+depends_texts_of_package pkg = map dep_text (dependencies_in_list_value (info_field (codes "depends") pkg))

@@ -10,14 +10,14 @@ use Rattle.command_core.specs.declared.operands.Operand.{Operand}
 use Rattle.dep_core.specs.Repositories.{Repository}
 use Rattle.query_core.specs.Asked.{AreStrictlyInOrderBy, IsNameMatchedBySomePattern, IsOwnOrProvidedName, HasPartMatchedBySomePattern}
 use Rattle.query_core.specs.Order.{printed_version, candidate_places_cmp}
-use Rattle.report_core.specs.QueryReports.{policy_database_line, repository_line, version_heading}
+use Rattle.report_core.specs.QueryReports.{policy_database_line, policy_repository_line, policy_version_heading}
 
 -- ---- `list` and `search`
 
 -- `list` is asked for the candidate `c`: no pattern is given, or a pattern matches the name of `c`; and `c` is
 -- installed if `installed_only` is true (`--installed`)
-abbrev pub IsInListReport : List Operand → Bool → Candidate → Type 0
-IsInListReport patterns installed_only c =
+abbrev pub IsInListReportByInstalledFlag : List Operand → Bool → Candidate → Type 0
+IsInListReportByInstalledFlag patterns installed_only c =
     ((patterns ≡ []) ⊎ IsNameMatchedBySomePattern patterns c.name)
     × (installed_only ≡ true → c.installed ≡ true)
 
@@ -82,7 +82,8 @@ pub record IsVersionInRepository (candidates : List Candidate) (name : List ℕ)
 -- the line of the repository at a place of the list, counted from 0; no bytes if the list has no such place
 abbrev pub repository_line_at : List Repository → ℕ → List ℕ
 repository_line_at repositories place =
-    option_map_or (λ (r : Repository). repository_line r.tag r.path) (slice_get repositories place) []
+    option_map_or (λ (r : Repository). policy_repository_line r.tag r.path)
+    (slice_get repositories place) []
 
 -- the text of one version of the package `name` in the report of `policy`: the heading of the version, the line of the
 -- database if this version is installed, and a line for each repository that has it, in the order of the list
@@ -103,5 +104,5 @@ pub record HasPolicyLinesOfVersion (candidates : List Candidate) (repositories :
   pub order : AreStrictlyInOrderBy nat_cmp places
   -- the text is the heading, the line of the database, and the lines of these repositories
   pub text_is : text
-      ≡ version_heading (printed_version version) ++ database
+      ≡ policy_version_heading (printed_version version) ++ database
       ++ flat_map (repository_line_at repositories) places

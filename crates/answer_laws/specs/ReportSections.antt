@@ -10,13 +10,13 @@ use Rattle.base_core.specs.ByteOrder.{bytes_cmp}
 use Rattle.base_core.specs.Files.{Files}
 use Rattle.installed_info.specs.candidate_core.Candidates.{Candidate}
 use Rattle.change_outcome.specs.change_files.FileChange.{FileChange}
-use Rattle.change_outcome.specs.change_files.PlanLists.{paths_with_apk_new_file, kept_paths_of}
+use Rattle.change_outcome.specs.change_files.PlanLists.{paths_with_apk_new_file, kept_left_over_paths_of}
 use Rattle.change_outcome.specs.ChangeOutcome.{ChangeWishes, touched_paths}
 use Rattle.change_outcome.specs.db_core.Members.{Member}
 use Rattle.make_laws.specs.NamedFields.{field_named}
 use Rattle.change_outcome.specs.package_changes.Changes.{Replacement, changes_of}
 use Rattle.report_core.specs.Reports.{report_lines}
-use Rattle.answer_laws.specs.DueTriggers.{HasTriggerLines}
+use Rattle.answer_laws.specs.DueTriggers.{HasDueTriggerLines}
 use Rattle.answer_laws.specs.KeptNames.{HasStillNeededLines}
 use Rattle.answer_laws.specs.WhichChange.{HasNumberedChangeLines}
 
@@ -116,11 +116,11 @@ pub record HasChangeReportSections (r : Replacement) (wishes : ChangeWishes) (ch
   pub configuration : List ℕ
   -- the third section has one line for each modified configuration file
   pub configured : HasConfigurationLines (paths_with_apk_new_file change files)
-      (kept_paths_of change files) configuration
+      (kept_left_over_paths_of change files) configuration
   -- the text of the fourth section
   pub triggers : List ℕ
   -- the fourth section has the lines of due triggers
-  pub due : HasTriggerLines (touched_paths change files) change.members triggers
+  pub due : HasDueTriggerLines (touched_paths change files) change.members triggers
   -- the last line
   pub last : List ℕ
   -- the last line has the sum of the sizes and the number of the members

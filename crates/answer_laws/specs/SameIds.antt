@@ -3,7 +3,7 @@
 use Rattle.std.specs.Prelude.{◌≡◌, ◌≢◌, ◌⊎◌, ℕ, List, [], ◌++◌}
 
 -- the ids `a` and `b` are both not empty, and one of them is a prefix of the other; equal ids are included
-pub record OneBeginsTheOther (a b : List ℕ) : Type 0 where
+pub record AreNonemptyAndOneBeginsTheOther (a b : List ℕ) : Type 0 where
   -- the first id is not empty
   pub first_has_bytes : a ≢ []
   -- the second id is not empty

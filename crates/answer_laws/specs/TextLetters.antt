@@ -86,41 +86,42 @@ letter_value_in_package f pkg =
 -- ---- which values the text after the colon of a line gives to a field
 
 -- the text `value` gives one value, a hash of 20 bytes (`said`): the text is `Q1`, followed by the base64 of the hash
-abbrev pub SaysHash : List ℕ → List FieldValue → Type 0
-SaysHash value said =
+abbrev pub GivesHash : List ℕ → List FieldValue → Type 0
+GivesHash value said =
     (encoded : List ℕ) × (bytes : List ℕ) × (value ≡ codes "Q1" ++ encoded)
     × (base64_bytes standard encoded ≡ Ok bytes) × (length bytes ≡ 20) × (said ≡ text bytes ∷ [])
 
 -- the text `value` gives the values `said`: those of the option `-I repo-commit:VALUE` of `mkpkg`. A text that this
 -- option does not allow gives no value
-abbrev pub SaysCommit : List ℕ → List FieldValue → Type 0
-SaysCommit value said =
+abbrev pub GivesCommit : List ℕ → List FieldValue → Type 0
+GivesCommit value said =
     FieldTextGivesValues Options.RepoCommit value said
     ⊎ (((given : List FieldValue) → FieldTextGivesValues Options.RepoCommit value given → ⊥) × (said ≡ []))
 
 -- `value`, which follows the letter of this field and a colon in a line, is allowed there and gives the values `said`:
 -- those of an option `-I` of `mkpkg` with this text; `Hashes`, `InstalledSize` and `RepoCommit` have their own rules
-abbrev pub LetterValueGivesValues : InfoField → List ℕ → List FieldValue → Type 0
-LetterValueGivesValues Letters.Hashes value said = SaysHash value said
-LetterValueGivesValues Letters.Name value said = FieldTextGivesValues Options.Name value said
-LetterValueGivesValues Letters.Version value said = FieldTextGivesValues Options.Version value said
-LetterValueGivesValues Letters.Arch value said = FieldTextGivesValues Options.Arch value said
-LetterValueGivesValues Letters.Description value said = FieldTextGivesValues Options.Description value said
-LetterValueGivesValues Letters.Url value said = FieldTextGivesValues Options.Url value said
-LetterValueGivesValues Letters.License value said = FieldTextGivesValues Options.License value said
-LetterValueGivesValues Letters.Origin value said = FieldTextGivesValues Options.Origin value said
-LetterValueGivesValues Letters.Maintainer value said = FieldTextGivesValues Options.Maintainer value said
-LetterValueGivesValues Letters.InstalledSize value said = SaysNumber value said
-LetterValueGivesValues Letters.BuildTime value said = FieldTextGivesValues Options.BuildTime value said
-LetterValueGivesValues Letters.ProviderPriority value said =
+abbrev pub LineValueGivesFieldValues : InfoField → List ℕ → List FieldValue → Type 0
+LineValueGivesFieldValues Letters.Hashes value said = GivesHash value said
+LineValueGivesFieldValues Letters.Name value said = FieldTextGivesValues Options.Name value said
+LineValueGivesFieldValues Letters.Version value said = FieldTextGivesValues Options.Version value said
+LineValueGivesFieldValues Letters.Arch value said = FieldTextGivesValues Options.Arch value said
+LineValueGivesFieldValues Letters.Description value said =
+    FieldTextGivesValues Options.Description value said
+LineValueGivesFieldValues Letters.Url value said = FieldTextGivesValues Options.Url value said
+LineValueGivesFieldValues Letters.License value said = FieldTextGivesValues Options.License value said
+LineValueGivesFieldValues Letters.Origin value said = FieldTextGivesValues Options.Origin value said
+LineValueGivesFieldValues Letters.Maintainer value said = FieldTextGivesValues Options.Maintainer value said
+LineValueGivesFieldValues Letters.InstalledSize value said = SaysNumber value said
+LineValueGivesFieldValues Letters.BuildTime value said = FieldTextGivesValues Options.BuildTime value said
+LineValueGivesFieldValues Letters.ProviderPriority value said =
     FieldTextGivesValues Options.ProviderPriority value said
-LetterValueGivesValues Letters.ReplacesPriority value said =
+LineValueGivesFieldValues Letters.ReplacesPriority value said =
     FieldTextGivesValues Options.ReplacesPriority value said
-LetterValueGivesValues Letters.RepoCommit value said = SaysCommit value said
-LetterValueGivesValues Letters.Depends value said = FieldTextGivesValues Options.Depends value said
-LetterValueGivesValues Letters.Provides value said = FieldTextGivesValues Options.Provides value said
-LetterValueGivesValues Letters.Replaces value said = FieldTextGivesValues Options.Replaces value said
-LetterValueGivesValues Letters.InstallIf value said = FieldTextGivesValues Options.InstallIf value said
+LineValueGivesFieldValues Letters.RepoCommit value said = GivesCommit value said
+LineValueGivesFieldValues Letters.Depends value said = FieldTextGivesValues Options.Depends value said
+LineValueGivesFieldValues Letters.Provides value said = FieldTextGivesValues Options.Provides value said
+LineValueGivesFieldValues Letters.Replaces value said = FieldTextGivesValues Options.Replaces value said
+LineValueGivesFieldValues Letters.InstallIf value said = FieldTextGivesValues Options.InstallIf value said
 
 -- ---- lines
 
@@ -131,7 +132,7 @@ letter_line letter value = letter ++ codes ":" ++ value
 -- a line gives the values `said` to a field; a line with another letter than the field's gives none
 abbrev pub LineGivesFieldValues : InfoField → List ℕ → List FieldValue → Type 0
 LineGivesFieldValues f line said =
-    ((value : List ℕ) × (line ≡ letter_line (line_letter f) value) × LetterValueGivesValues f value said)
+    ((value : List ℕ) × (line ≡ letter_line (line_letter f) value) × LineValueGivesFieldValues f value said)
     ⊎ (((value : List ℕ) → line ≡ letter_line (line_letter f) value → ⊥) × (said ≡ []))
 
 -- lines together give the values `said` to a field: those of the first line, then those of the next, and so on

@@ -15,7 +15,8 @@ use Rattle.version_core.specs.Order.{is_version}
 
 -- before the change the package of this name is `pkg`; after it, the selected candidate `c` of a repository. The
 -- version texts of both are versions
-pub record HasBothVersions (r : Replacement) (name : List ℕ) (pkg : Plain) (c : Candidate)
+pub record AreInstalledAndRepositoryOneWithVersions (r : Replacement) (name : List ℕ) (pkg : Plain)
+    (c : Candidate)
     : Type 0 where
   -- the package of this name before the change
   pub before : find (is_package_named name) r.before ≡ Some pkg

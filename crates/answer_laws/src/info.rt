@@ -14,7 +14,7 @@ ghost use Rattle.change_outcome.specs.db_core.Packages.{lists_path};
 ghost use Rattle.dep_core.specs.LeadingSlash.{without_slash};
 ghost use Rattle.installed_info.specs.file_owners.Replaces.{package_version_text};
 ghost use Rattle.installed_info.specs.Form.{info_form_of_flags};
-ghost use Rattle.installed_info.specs.Info.{info_refusal, sorted_package_name_lines, operands_info, package_info};
+ghost use Rattle.installed_info.specs.Info.{info_refusal, sorted_package_name_lines, operands_info, package_info_for_operand_text};
 ghost use Rattle.installed_info.specs.Packages.{package_meant_by_operand_text, package_named};
 ghost use Rattle.report_core.specs.Reports.{owner_text, report_line, report_lines};
 ghost use Rattle.report_core.specs.declared.refusal.Refusal.TheVariants.{NotInstalled};
@@ -51,7 +51,7 @@ pub fn each_question_of_info_has_its_answer()
     // With `--contents`: the paths of the package, in their order.
     ensures contents { (flags : Flags) (name : List ℕ) (pkg : Plain)
         → flags.who_owns ≡ false → flags.installed ≡ false → flags.contents ≡ true
-        → package_info (info_form_of_flags flags) name pkg
+        → package_info_for_operand_text (info_form_of_flags flags) name pkg
         ≡ section_text_with_heading (info_heading pkg (codes " contains:"))
         (file_paths_in_listed_order pkg) }
     // The paths in this section are exactly those that the package lists.
@@ -61,20 +61,20 @@ pub fn each_question_of_info_has_its_answer()
     ensures depends { (flags : Flags) (name : List ℕ) (pkg : Plain)
         → flags.who_owns ≡ false → flags.installed ≡ false → flags.contents ≡ false
         → flags.depends ≡ true
-        → package_info (info_form_of_flags flags) name pkg
+        → package_info_for_operand_text (info_form_of_flags flags) name pkg
         ≡ section_text_with_heading (info_heading pkg (codes " depends on:"))
         (depends_texts_of_package pkg) }
     // Without one of these options: the description of the package.
     ensures description { (flags : Flags) (name : List ℕ) (pkg : Plain)
         → flags.who_owns ≡ false → flags.installed ≡ false → flags.contents ≡ false
         → flags.depends ≡ false
-        → package_info (info_form_of_flags flags) name pkg
+        → package_info_for_operand_text (info_form_of_flags flags) name pkg
         ≡ section_text_with_heading (info_heading pkg (codes " description:"))
         (text_in (info_field (codes "description") pkg) ∷ []) }
     // With `--who-owns`: a line with the path, without a leading slash, and the owner's name and
     // version.
     ensures owner { (flags : Flags) (path : List ℕ) (pkg : Plain) → flags.who_owns ≡ true
-        → package_info (info_form_of_flags flags) path pkg
+        → package_info_for_operand_text (info_form_of_flags flags) path pkg
         ≡ report_line (owner_text (without_slash path) (package_name pkg)
         (package_version_text pkg)) }
 {}
@@ -91,7 +91,7 @@ pub fn info_answers_each_operand_in_the_order_given()
         → package_meant_by_operand_text (info_form_of_flags flags) packages o.text ≡ Some pkg
         → operands_info (info_form_of_flags flags) packages (front ++ o ∷ rest)
         ≡ operands_info (info_form_of_flags flags) packages front
-        ++ (package_info (info_form_of_flags flags) o.text pkg
+        ++ (package_info_for_operand_text (info_form_of_flags flags) o.text pkg
         ++ operands_info (info_form_of_flags flags) packages rest) }
     // An operand without a package has no lines.
     ensures absent { (flags : Flags) (packages : List Plain) (front rest : List Operand)

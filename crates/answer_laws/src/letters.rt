@@ -6,7 +6,7 @@ ghost use Rattle.adb_view.specs.Plain.{null};
 ghost use Rattle.adb_view.specs.declared.tables.Which.TheVariants.{File, Idb, Package, PkgInfo};
 ghost use Rattle.answer_laws.specs.TextLetters.{BeginsWithUnknownFieldLetter, HasFieldValuesOfLines, record_with_lines};
 ghost use Rattle.make_laws.specs.NamedFields.{entries_of_field_named, field_named};
-ghost use Rattle.change_outcome.specs.v2_core.Database.{listed_file_value, record_value, value_of_records};
+ghost use Rattle.change_outcome.specs.v2_core.Database.{listed_file_value, record_value, database_value_of_records};
 ghost use Rattle.change_outcome.specs.v2_core.Records.{ListedFile, Record, empty_record};
 ghost use Rattle.change_outcome.specs.v2_lines.Lines.{other_line, record_line_of};
 ghost use Rattle.change_outcome.specs.v2_lines.declared.field.InfoField.{InfoField};
@@ -56,6 +56,6 @@ pub fn what_no_letter_gives_is_null()
 /// A text becomes one package for each of its records, in their order.
 pub fn each_record_is_a_package_in_order()
     ensures { (records : List Record)
-        → entries_of_field_named Idb (codes "packages") (value_of_records records)
+        → entries_of_field_named Idb (codes "packages") (database_value_of_records records)
         ≡ map record_value records }
 {}

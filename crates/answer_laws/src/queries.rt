@@ -3,13 +3,13 @@
 
 ghost use Rattle.std.specs.Prelude.{ℕ, ◌≡◌, ◌++◌, Bool, List, Option};
 ghost use Rattle.std.specs.List.{flat_map};
-ghost use Rattle.answer_laws.specs.QueryLines.{HasLineOfEachAskedCandidate, HasPolicyLinesOfVersion, IsInListReport, IsInSearchReport};
+ghost use Rattle.answer_laws.specs.QueryLines.{HasLineOfEachAskedCandidate, HasPolicyLinesOfVersion, IsInListReportByInstalledFlag, IsInSearchReport};
 ghost use Rattle.command_core.specs.declared.operands.Operand.{Operand};
 ghost use Rattle.dep_core.specs.Repositories.{Repository};
 ghost use Rattle.installed_info.specs.candidate_core.Candidates.{Candidate};
-ghost use Rattle.query_core.specs.List.{candidate_line, list_report};
+ghost use Rattle.query_core.specs.List.{list_line_of_candidate, list_report};
 ghost use Rattle.query_core.specs.Order.{printed_version};
-ghost use Rattle.query_core.specs.Policy.{policy_report, version_policy, versions_of_name};
+ghost use Rattle.query_core.specs.Policy.{policy_report, version_policy, sorted_distinct_versions_of_name};
 ghost use Rattle.query_core.specs.Search.{search_report};
 ghost use Rattle.report_core.specs.QueryReports.{policy_heading, search_line};
 
@@ -23,7 +23,7 @@ use query_core::{
 pub fn list_prints_a_line_for_each_candidate_that_is_asked_for()
     ensures { (candidates : List Candidate) (patterns : List Operand) (installed_only : Bool)
         → HasLineOfEachAskedCandidate
-        (IsInListReport patterns installed_only) candidate_line candidates
+        (IsInListReportByInstalledFlag patterns installed_only) list_line_of_candidate candidates
         (list_report candidates patterns installed_only) }
 {
     // Laws that the proof needs; they have no effect at run time.
@@ -53,7 +53,7 @@ pub fn policy_prints_where_each_version_is()
         (names : List Operand) → policy_report candidates repositories names
         ≡ flat_map (λ (o : Operand). policy_heading o.text
         ++ flat_map (version_policy candidates repositories o.text)
-        (versions_of_name candidates o.text)) names }
+        (sorted_distinct_versions_of_name candidates o.text)) names }
     // The lines of one version: its heading, the database, and the repositories that have it.
     ensures places { (candidates : List Candidate) (repositories : List Repository)
         (name : List ℕ) (version : Option (List ℕ))

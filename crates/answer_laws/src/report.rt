@@ -8,7 +8,7 @@ ghost use Rattle.base_core.specs.Files.{Files};
 ghost use Rattle.installed_info.specs.candidate_core.Candidates.{Candidate};
 ghost use Rattle.change_outcome.specs.change_files.FileChange.{FileChange};
 ghost use Rattle.change_outcome.specs.ChangeOutcome.{ChangeWishes, change_report, member_sum_line};
-ghost use Rattle.change_outcome.specs.ConfigurationLines.{configuration_lines};
+ghost use Rattle.change_outcome.specs.ConfigurationLines.{lines_of_apk_new_and_kept_paths};
 ghost use Rattle.change_outcome.specs.db_core.Members.{Member};
 ghost use Rattle.change_outcome.specs.package_changes.Changes.{Replacement};
 ghost use Rattle.change_outcome.specs.package_changes.Report.{selected_sum_line, simulated_report};
@@ -33,7 +33,7 @@ pub fn the_sum_counts_what_is_installed()
 /// lines are in byte order of the paths.
 pub fn each_configuration_file_has_one_line()
     ensures { (aside kept : List (List ℕ))
-        → HasConfigurationLines aside kept (configuration_lines aside kept) }
+        → HasConfigurationLines aside kept (lines_of_apk_new_and_kept_paths aside kept) }
 {}
 
 /// The sections of a report are in this order: the changes, the names that stay, the configuration

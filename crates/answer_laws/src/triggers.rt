@@ -3,12 +3,12 @@
 
 ghost use Rattle.std.specs.Prelude.{◌≡◌, ◌⊎◌, ◌↔◌, ℕ, List, [], true, false, Ok, Err, codes};
 ghost use Rattle.adb_view.specs.Plain.{Plain};
-ghost use Rattle.answer_laws.specs.DueTriggers.{HasFileRightInFolder, HasTriggerLines, IsTriggerDueFor, MatchesFolderByParts, IsFirstPackageWithDueTrigger, HasTriggerWatchingFolder};
+ghost use Rattle.answer_laws.specs.DueTriggers.{HasFileDirectlyInFolder, HasDueTriggerLines, IsTriggerDueFor, MatchesFolderByParts, IsFirstPackageWithDueTrigger, HasTriggerWatchingFolder};
 ghost use Rattle.base_core.specs.Files.{Files};
 ghost use Rattle.base_core.specs.Listed.{AreSortedDistinctNames};
 ghost use Rattle.base_core.specs.Lists.{IsIn};
 ghost use Rattle.change_outcome.specs.change_files.FileChange.{FileChange};
-ghost use Rattle.change_outcome.specs.change_files.FilesAfter.{is_removed, is_written};
+ghost use Rattle.change_outcome.specs.change_files.FilesAfter.{is_removed, is_listing_written_under_name};
 ghost use Rattle.change_outcome.specs.ChangeOutcome.{touched_paths};
 ghost use Rattle.change_outcome.specs.Triggers.{folders_of_paths, is_trigger_due, is_folder_matched_by_pattern, trigger_lines, unless_trigger_due};
 ghost use Rattle.change_outcome.specs.db_core.Members.{Member};
@@ -43,7 +43,7 @@ pub fn a_trigger_is_due_for_a_changed_folder()
         → (is_trigger_due pkg folder ≡ true) ↔ HasTriggerWatchingFolder pkg folder }
     // The folders of changed files (`paths`) are those that directly contain one of them.
     ensures folders { (paths : List (List ℕ)) (folder : List ℕ)
-        → IsIn folder (folders_of_paths paths) ↔ HasFileRightInFolder paths folder }
+        → IsIn folder (folders_of_paths paths) ↔ HasFileDirectlyInFolder paths folder }
     // These folders are in byte order, each once.
     ensures order { (paths : List (List ℕ)) → AreSortedDistinctNames (folders_of_paths paths) }
 {}
@@ -52,7 +52,7 @@ pub fn a_trigger_is_due_for_a_changed_folder()
 /// the packages in their order, and of each the folders in byte order, each once.
 pub fn each_due_trigger_has_a_line()
     ensures { (paths : List (List ℕ)) (members : List Member)
-        → HasTriggerLines paths members (trigger_lines paths members) }
+        → HasDueTriggerLines paths members (trigger_lines paths members) }
 {}
 
 /// Without `--no-scripts` (the argument `false`), a change is not refused for triggers exactly if
@@ -73,7 +73,8 @@ pub fn a_due_trigger_refuses_the_change()
 pub fn the_changed_files_are_those_written_or_removed()
     ensures { (change : FileChange) (files : Files) (path : List ℕ)
         → IsIn path (touched_paths change files)
-        ↔ ((is_written change files path ≡ true) ⊎ (is_removed change files path ≡ true)) }
+        ↔ ((is_listing_written_under_name change files path ≡ true)
+        ⊎ (is_removed change files path ≡ true)) }
 {
     // A law that the proof needs; it has no effect at run time.
     the_lists_of_a_plan_hold_just_its_names();

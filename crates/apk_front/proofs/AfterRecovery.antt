@@ -22,7 +22,7 @@ use Rattle.journal_core.proofs.Lasting.{some_none}
 use Rattle.outcome.specs.Effect.{Effect, does_recover}
 use Rattle.outcome.specs.Outcome.{Outcome}
 use Rattle.outcome.specs.Work.{recovery_fault, files_recovered_if_needed}
-use Rattle.apk_front.specs.Moments.{MomentsLeadToFiles, AreStatesOfRecoveryOrCommittingRun, AreStatesOldOrLeadToOutcome, CanRecover, HasNothingToRecover, IsDurableAndLeavesFiles, IsStateDuringRecoveryOrNext, IsStateDuringRun, IsStateDuringRecovery, MustOutcomeBeDurable, MustOutcomeBeDurableWithoutRecovery, NamesAreDurableWithoutIntentExcept, ignored_except_output}
+use Rattle.apk_front.specs.Moments.{MomentsOfMakingOrChangeLeadToFiles, AreStatesOfRecoveryOrCommittingRun, AreStatesOldOrLeadToOutcome, FindsValidIntentToRecover, HasNothingToRecover, IsDurableAndLeavesFiles, IsStateDuringRecoveryOrNext, IsStateDuringRun, IsStateDuringRecovery, MustOutcomeBeDurable, OutcomeCommitsOrCrashesLeaveFilesAsRead, NamesAreDurableWithoutIntentExcept, ignored_except_output}
 use Rattle.apk_front.specs.Runs.{AreFilesReadWithoutRecovery, IsRunAfterRecovery, IsRunWithRecovery, IsOutOfMemoryOrWithoutCommit}
 use Rattle.apk_front.proofs.Runs.{History, Judged, Leaves, err_ok, on_ok, settled_before, since_weaker}
 
@@ -88,7 +88,7 @@ each_behind : AreLaws → (ignored : Ignored) (files : Files) (v u : TreeState) 
 each_behind laws ignored files v u [] first is_unchanged earlier each = earlier
 each_behind laws ignored files v u (m ∷ added) first is_unchanged earlier (here, others) = (laws.before ignored files v u m added first is_unchanged here, each_behind laws ignored files v u added first is_unchanged earlier others)
 
-way_after : AreLaws → (makes : Bool) (ignored : Ignored) (files : Files) (v u : TreeState) (old mid now : History) → StateIsUnchanged ignored v u → Since (StateIsUnchanged ignored v) old mid → MomentsLeadToFiles makes ignored files u mid now → MomentsLeadToFiles makes ignored files v old now
+way_after : AreLaws → (makes : Bool) (ignored : Ignored) (files : Files) (v u : TreeState) (old mid now : History) → StateIsUnchanged ignored v u → Since (StateIsUnchanged ignored v) old mid → MomentsOfMakingOrChangeLeadToFiles makes ignored files u mid now → MomentsOfMakingOrChangeLeadToFiles makes ignored files v old now
 way_after laws true ignored files v u old mid now is_unchanged first way =
     since_both (StateIsUnchanged ignored v) (IsMomentOfReplacing ignored files u) (IsMomentOfReplacing ignored files v) old mid now (still_replaces laws ignored files v) (λ w there. replaces_from laws ignored files v u w is_unchanged there) first way
 way_after laws false ignored files v u old mid now is_unchanged first way = record {
@@ -107,7 +107,7 @@ safe_after laws A B makes ignored v u old mid now into is_unchanged first (inr (
 settled_same : (ignored : Ignored) (v u : TreeState) → EachCrashLeavesStateOf ignored (files_of v) u → state_of ignored (files_of u) ≡ state_of ignored (files_of v) → EachCrashLeavesStateOf ignored (files_of u) u
 settled_same ignored v u settled reads = λ image is. settled image is ∙ sym reads
 
-settles_after : AreLaws → (effect : Effect) (ignored : Ignored) (v u : TreeState) (o : Outcome) → StateIsUnchanged ignored v u → (IsSome (intent_of (files_of v)) → EachCrashLeavesStateOf ignored (files_of v) u) → MustOutcomeBeDurable effect ignored v o → MustOutcomeBeDurableWithoutRecovery ignored u o
+settles_after : AreLaws → (effect : Effect) (ignored : Ignored) (v u : TreeState) (o : Outcome) → StateIsUnchanged ignored v u → (IsSome (intent_of (files_of v)) → EachCrashLeavesStateOf ignored (files_of v) u) → MustOutcomeBeDurable effect ignored v o → OutcomeCommitsOrCrashesLeaveFilesAsRead ignored u o
 settles_after laws effect ignored v u o is_unchanged found (inl (inl commits)) = inl commits
 settles_after laws effect ignored v u o is_unchanged found (inl (inr before)) = inr (settled_same ignored v u (laws.lasts ignored (files_of v) v u before is_unchanged.quiet) is_unchanged.reads)
 settles_after laws effect ignored v u o is_unchanged found (inr (recovers, some)) = inr (settled_same ignored v u (found some) is_unchanged.reads)
@@ -134,8 +134,8 @@ abbrev pub BytesAs : TreeState → TreeState → Type 0
 BytesAs v w = HasOldOrNewBytesOutsideJournal (files_of v) (unstaged_files (files_of v)) w
 
 -- as soon as no intent is read, a crash undoes no change of a name that does not wait
-abbrev pub NamesAreDurableWithoutIntent : TreeState → Type 0
-NamesAreDurableWithoutIntent w = w.names intent_name ≡ None → NamesOutsideJournalAreDurable w
+abbrev pub NamesOutsideJournalAreDurableIfNoIntent : TreeState → Type 0
+NamesOutsideJournalAreDurableIfNoIntent w = w.names intent_name ≡ None → NamesOutsideJournalAreDurable w
 
 -- what a recovery says, whatever it answers
 pub record IsRecovery (v : TreeState) (old mid : History) : Type 0 where
@@ -143,7 +143,7 @@ pub record IsRecovery (v : TreeState) (old mid : History) : Type 0 where
   pub reads : Since (RecoversAs v) old mid
   pub bytes : Since (BytesAs v) old mid
   pub waiting : Since (JournalOnlyShrinks v) old mid
-  pub last : IsSome (v.names intent_name) → Since NamesAreDurableWithoutIntent old mid
+  pub last : IsSome (v.names intent_name) → Since NamesOutsideJournalAreDurableIfNoIntent old mid
   pub idle : v.names intent_name ≡ None → HasNoStagedNames v.names → mid ≡ old
 
 -- and where it ended well
@@ -188,21 +188,21 @@ reads_after A B effect output v u old mid now recovers work into first (inr (o, 
 
 -- ---- the names
 
-unread_last : (output : Option (List ℕ)) (w : TreeState) → NamesAreDurableWithoutIntent w → NamesAreDurableWithoutIntentExcept output w
+unread_last : (output : Option (List ℕ)) (w : TreeState) → NamesOutsideJournalAreDurableIfNoIntent w → NamesAreDurableWithoutIntentExcept output w
 unread_last output w last none map among q off no_intent unstaged = last none map among q no_intent unstaged
 
-newest_last : (v u : TreeState) (rest more added : History) → IsSome (v.names intent_name) → u ∷ more ≡ added ++ v ∷ rest → All NamesAreDurableWithoutIntent added → u.names intent_name ≡ None → NamesOutsideJournalAreDurable u
+newest_last : (v u : TreeState) (rest more added : History) → IsSome (v.names intent_name) → u ∷ more ≡ added ++ v ∷ rest → All NamesOutsideJournalAreDurableIfNoIntent added → u.names intent_name ≡ None → NamesOutsideJournalAreDurable u
 newest_last v u rest more [] some is each none = absurd (some_none (v.names intent_name) (sym (ap (λ (h : History). (first_or v h).names intent_name) is) ∙ none) some)
 newest_last v u rest more (m ∷ added) some is each none =
     let same : u ≡ m = ap (first_or v) is in
-    subst NamesOutsideJournalAreDurable (sym same) (All-head NamesAreDurableWithoutIntent m added each (subst (λ (w : TreeState). w.names intent_name ≡ None) same none))
+    subst NamesOutsideJournalAreDurable (sym same) (All-head NamesOutsideJournalAreDurableIfNoIntent m added each (subst (λ (w : TreeState). w.names intent_name ≡ None) same none))
 
 last_after : (output : Option (List ℕ)) (v u : TreeState) (rest more now : History) → IsRecovery v (v ∷ rest) (u ∷ more) → u.names intent_name ≡ None → (NamesOutsideJournalAreDurable u → Since (NamesAreDurableWithoutIntentExcept output) (u ∷ more) now)
     → IsSome (v.names intent_name) → Since (NamesAreDurableWithoutIntentExcept output) (v ∷ rest) now
 last_after output v u rest more now recovery none then some =
     let first = recovery.last some in
     let here = newest_last v u rest more first.added some first.is first.each none in
-    since_both NamesAreDurableWithoutIntent (NamesAreDurableWithoutIntentExcept output) (NamesAreDurableWithoutIntentExcept output) (v ∷ rest) (u ∷ more) now (unread_last output) (λ w last. last) first (then here)
+    since_both NamesOutsideJournalAreDurableIfNoIntent (NamesAreDurableWithoutIntentExcept output) (NamesAreDurableWithoutIntentExcept output) (v ∷ rest) (u ∷ more) now (unread_last output) (λ w last. last) first (then here)
 
 -- ---- the recovery ended well
 
@@ -245,13 +245,13 @@ whole_failed laws IsOne effect output judged e v rest now recovers failed recove
   idle = λ without nothing. nothing_done effect v (now ≡ v ∷ rest) recovers recovery.idle nothing;
   bad = bad;
   reads = inl (since_weaker (IsStateDuringRecovery v) (IsStateDuringRecoveryOrNext effect (λ w. files_of w ≡ files_recovered_if_needed effect (files_of v)) v) (v ∷ rest) now (λ w r. inl (recovers, r)) (recovering v (v ∷ rest) now recovery));
-  last = λ some. since_weaker NamesAreDurableWithoutIntent (NamesAreDurableWithoutIntentExcept output) (v ∷ rest) now (unread_last output) (recovery.last some);
+  last = λ some. since_weaker NamesOutsideJournalAreDurableIfNoIntent (NamesAreDurableWithoutIntentExcept output) (v ∷ rest) now (unread_last output) (recovery.last some);
   leaves = λ o one. err_ok (HoldsNow now (λ w. files_of w ≡ o.files)) judged e failed;
 }
 
 -- an outcome leaves the files, and no intent is found to be done
 abbrev pub LeavesAll : Effect → TreeState → Outcome → Type 0
-LeavesAll effect v o = Leaves (files_of v) o × (CanRecover effect v → ⊥)
+LeavesAll effect v o = Leaves (files_of v) o × (FindsValidIntentToRecover effect v → ⊥)
 
 settled_left : (effect : Effect) (ignored : Ignored) (v : TreeState) (o : Outcome) → LeavesAll effect v o → MustOutcomeBeDurable effect ignored v o → EachCrashLeavesStateOf ignored (files_of v) v
 settled_left effect ignored v o (leaves, never) (inl settles) = settled_before ignored v o leaves.1 settles

@@ -2,7 +2,7 @@
 use Rattle.std.proofs.Common.{◌≡◌, inl, inr, ℕ, Bool, true, List, [], ◌∷◌, Option, Some, None, IsSome, Ok, Err, refl, sym, ap, subst, ◌∙◌}
 use Rattle.std.specs.Prelude.{if◌then◌else◌, IfOk, OnOk}
 use Rattle.std.proofs.lemmas.Bool.{false≢true}
-use Rattle.adb_dump.specs.adb_schema.Soundness.{container_fault_except_contents, payload_in, root_value}
+use Rattle.adb_dump.specs.adb_schema.Soundness.{container_fault_except_contents, payload_in, root_value_of_payload}
 use Rattle.adb_view.specs.declared.tables.Which.TheVariants.{Intent as IntentTable}
 use Rattle.base_core.specs.Calls.{HoldsNow, IfObservable}
 use Rattle.base_core.specs.Crash.{Since}
@@ -13,7 +13,7 @@ use Rattle.base_core.specs.declared.cause.Cause.{Cause}
 use Rattle.command_core.specs.Command.{CommandLine}
 use Rattle.journal_core.specs.Kept.{JournalOnlyShrinks}
 use Rattle.journal_core.specs.Recovery.{EachCrashLeavesStateOf, StateDependsOn, intent_in_file, intent_name, intent_of, intent_unless_fault, read_intent, recovered_files}
-use Rattle.journal_core.specs.Staged.{AreReplayPathsFree, HasNoStagedNames, IsIntentFault, unstaged_files}
+use Rattle.journal_core.specs.Staged.{AreJournalPathsFreeIfIntentIsReplayed, HasNoStagedNames, IsIntentFault, unstaged_files}
 use Rattle.journal_core.specs.declared.fault.RecoverFault.{RecoverFault}
 use Rattle.journal_core.specs.declared.fault.RecoverFault.TheVariants.{IntentBad as BadIntent}
 use Rattle.outcome.specs.Commands.{IsPossibleOutcomeWithoutDemo, IsPossibleOutcomeAfterRecovery, IsOutcomeWithoutDemo, IsOutcomeOverRecoveredFiles, IsOutcomeUnlessBadIntent}
@@ -22,12 +22,12 @@ use Rattle.outcome.specs.Outcome.{Outcome, just_refusal}
 use Rattle.outcome.specs.Work.{fault_of_intent, recovery_fault}
 use Rattle.outcome.proofs.Recovering.{work_is}
 use Rattle.report_core.specs.declared.refusal.Refusal.TheVariants.{IntentBad}
-use Rattle.apk_front.specs.Moments.{ArePathsToWriteFree, AreOutcomePathsFree}
+use Rattle.apk_front.specs.Moments.{ArePathsToWriteFree, AreRecoveryAndOutcomePathsFree}
 use Rattle.apk_front.specs.Runs.{HasNothingStaged, IfNothingStaged, IsRunAfterRecovery, IsRunWithRecovery}
 use Rattle.apk_front.specs.Verdicts.{ReportsOneOfOutcomes, as_outcome}
 use Rattle.apk_front.specs.declared.answer.Verdict.{Verdict}
 use Rattle.apk_front.proofs.Carried.{Ones, RoomFor, Wholes}
-use Rattle.apk_front.proofs.AfterRecovery.{AreLaws, BytesAs, IsCalm, IsRecovery, NamesAreDurableWithoutIntent, LeavesAll, RecoversAs, StaysWithout, whole_after, whole_failed, whole_idle}
+use Rattle.apk_front.proofs.AfterRecovery.{AreLaws, BytesAs, IsCalm, IsRecovery, NamesOutsideJournalAreDurableIfNoIntent, LeavesAll, RecoversAs, StaysWithout, whole_after, whole_failed, whole_idle}
 use Rattle.apk_front.proofs.Runs.{History, Judged, Leaves, none_is_some}
 
 -- ---- a command that recovers
@@ -130,8 +130,8 @@ behind_run laws command output judged (v ∷ rest) (u ∷ more) now recovering r
     (run (nothing_waits v u left)) (memory (nothing_waits v u left))
 
 pub after_proper : (command : CommandLine) (output : Option (List ℕ)) (old mid : History) (first second last : ℕ) → does_recover (effect_of command.applet) ≡ true → IfObservable old IsGood → IfObservable old (λ v. HoldsNow mid (LeavesUnstaged v))
-    → IfObservable old (λ v. AreReplayPathsFree (files_of v) → second ≡ first) → IfNothingStaged mid (λ u. RoomFor (Ones command u) (effect_of command.applet) output (files_of u) → last ≡ second)
-    → IfObservable old (λ v. AreOutcomePathsFree (effect_of command.applet) output (Wholes command v) (files_of v) → last ≡ first)
+    → IfObservable old (λ v. AreJournalPathsFreeIfIntentIsReplayed (files_of v) → second ≡ first) → IfNothingStaged mid (λ u. RoomFor (Ones command u) (effect_of command.applet) output (files_of u) → last ≡ second)
+    → IfObservable old (λ v. AreRecoveryAndOutcomePathsFree (effect_of command.applet) output (Wholes command v) (files_of v) → last ≡ first)
 after_proper command output [] mid first second last recovering good left before after = tt
 after_proper command output (v ∷ rest) [] first second last recovering good left before after = absurd left
 after_proper command output (v ∷ rest) (u ∷ more) first second last recovering good left before after = λ room.
@@ -171,7 +171,7 @@ refused_read command fault (Ok verdict) recovering found (cause, is, same) =
 -- a bad intent is not read
 bad_unread : (files : Files) (cause : Cause) → IsIntentFault files cause → intent_of files ≡ None
 unfolding read_intent
-bad_unread files cause (file, at, is) = ap intent_in_file at ∙ ap (λ (fault : Option Cause). intent_unless_fault fault (root_value IntentTable (payload_in file))) is
+bad_unread files cause (file, at, is) = ap intent_in_file at ∙ ap (λ (fault : Option Cause). intent_unless_fault fault (root_value_of_payload IntentTable (payload_in file))) is
 
 bad_leaves : (command : CommandLine) (v : TreeState) (cause : Cause) (o : Outcome) → does_recover (effect_of command.applet) ≡ true → IsIntentFault (files_of v) cause → Wholes command v o → LeavesAll (effect_of command.applet) v o
 bad_leaves command v cause o recovering bad one =
@@ -190,11 +190,11 @@ refused_run laws command fault output (Err e) (v ∷ rest) mid recovering recove
 
 -- what a recovery says of each moment
 pub is_recovery : (old mid : History) → IfObservable old (λ v. IsCalm v old mid) → IfObservable old (λ v. Since (RecoversAs v) old mid) → IfObservable old (λ v. Since (BytesAs v) old mid) → IfObservable old (λ v. Since (JournalOnlyShrinks v) old mid)
-    → IfObservable old (λ v. IsSome (v.names intent_name) → Since NamesAreDurableWithoutIntent old mid) → IfObservable old (Idle old mid) → IfObservable old (λ v. IsRecovery v old mid)
+    → IfObservable old (λ v. IsSome (v.names intent_name) → Since NamesOutsideJournalAreDurableIfNoIntent old mid) → IfObservable old (Idle old mid) → IfObservable old (λ v. IsRecovery v old mid)
 is_recovery [] mid calm reads bytes waiting last idle = tt
 is_recovery (v ∷ rest) mid calm reads bytes waiting last idle = record { calm = calm; reads = reads; bytes = bytes; waiting = waiting; last = last; idle = idle }
 
-pub refused_proper : (Room : TreeState → Type 0) (old : History) (P : Type 0) → ((v : TreeState) → Room v → AreReplayPathsFree (files_of v)) → IfObservable old (λ v. AreReplayPathsFree (files_of v) → P) → IfObservable old (λ v. Room v → P)
+pub refused_proper : (Room : TreeState → Type 0) (old : History) (P : Type 0) → ((v : TreeState) → Room v → AreJournalPathsFreeIfIntentIsReplayed (files_of v)) → IfObservable old (λ v. AreJournalPathsFreeIfIntentIsReplayed (files_of v) → P) → IfObservable old (λ v. Room v → P)
 refused_proper Room [] P f proper = tt
 refused_proper Room (v ∷ rest) P f proper = λ room. proper (f v room)
 

@@ -18,7 +18,7 @@ use Rattle.journal_core.specs.Recovery.{EachCrashLeavesStateOf, StateDependsOn, 
 use Rattle.make_core.specs.make_info.Output.{output_name}
 use Rattle.make_core.specs.package_files.Sources.{AreNamesBelowFirstFolder, values_of_letter}
 use Rattle.command_core.specs.declared.values.TheConstants.{FILES}
-use Rattle.make_core.specs.make_index.Files.{AreOperandReadsFileBytes}
+use Rattle.make_core.specs.make_index.Files.{OperandReadsFindOnlyValidFileBytes}
 use Rattle.make_core.specs.make_info.Reads.{Reads}
 use Rattle.outcome.specs.Make.{mkndx, mkpkg}
 use Rattle.outcome.specs.Commands.{IsPossibleOutcomeWithoutDemo, IsPossibleOutcomeAfterRecovery, IsOutcomeWithoutDemo, IsOutcomeOverRecoveredFiles, reads_in, outcome_from_arguments_alone, effect_outcome, reading_outcome}
@@ -41,7 +41,7 @@ use Rattle.command_core.specs.declared.operands.Operand.{Operand}
 use Rattle.outcome.proofs.Looking.{look_leaves}
 use Rattle.apk_front.specs.Answers.{answer_for_refusal}
 use Rattle.apk_front.specs.Effects.{root_access_if_read_only}
-use Rattle.apk_front.specs.Moments.{IsOkRefusedOrOutputFault, AreStatesOfRecoveryOrCommittingRun, AreStatesOldOrLeadToOutcome, IsRefusedOrCommitsNothing, HasNothingToRecover, ArePathsToWriteFree, IgnoresScratchNameOfOutput, IsDurableAndLeavesFiles, IsRefusedOrOutOfMemory, LeavesDurableStateIfCommitted, LeavesDurableFilesOnceAnswered, AreRunPathsFree, AreOutcomePathsFree, LeavesDurableFilesIfRequired, MustOutcomeBeDurable, NamesAreDurableWithoutIntentExcept, ignored_except_output}
+use Rattle.apk_front.specs.Moments.{IsOkRefusedOrOutputFault, AreStatesOfRecoveryOrCommittingRun, AreStatesOldOrLeadToOutcome, IsRefusedOutOfMemoryOrCommitsNothing, HasNothingToRecover, ArePathsToWriteFree, IgnoresScratchNameOfOutput, IsDurableAndLeavesFiles, IsRefusedOrOutOfMemory, LeavesDurableStateIfCommitted, LeavesDurableFilesOnceAnswered, AreRunPathsFree, AreRecoveryAndOutcomePathsFree, LeavesDurableFilesIfRequired, MustOutcomeBeDurable, NamesAreDurableWithoutIntentExcept, ignored_except_output}
 use Rattle.apk_front.specs.RunContracts.{IsRunByArguments}
 use Rattle.apk_front.specs.Runs.{IfNothingStaged, IsRunAfterRecovery, IsRunWithRecovery, IsOutOfMemoryOrWithoutCommit}
 use Rattle.apk_front.specs.Containers.{IsIndexOutcome, IsPackageOutcome}
@@ -150,7 +150,7 @@ package_read_one command (Err e) same found = tt
 package_read_one command (Ok verdict) same (names, named, read, reports) =
     (mkpkg read no_names command names, (listed names, read, no_names, given_by_some command read no_names names (makes_package command same) (subst (λ (a : Applet). MayBeNamesListedForApplet a command names) same named), inl (ap (λ (a : Applet). effect_outcome (effect_of a) a command (listed names) read no_names) same)), reports)
 
-pub index_read_one : (command : CommandLine) (judged : Judged) → Mkndx ≡ command.applet → IfOk judged (λ verdict. (read : Reads) × AreOperandReadsFileBytes read 0 command.operands × Reports verdict (mkndx read no_names command))
+pub index_read_one : (command : CommandLine) (judged : Judged) → Mkndx ≡ command.applet → IfOk judged (λ verdict. (read : Reads) × OperandReadsFindOnlyValidFileBytes read 0 command.operands × Reports verdict (mkndx read no_names command))
     → IfOk judged (ReportsOneOfOutcomes (IsPossibleOutcomeAfterRecovery command))
 index_read_one command (Err e) same found = tt
 index_read_one command (Ok verdict) same (read, files, reports) =
@@ -213,8 +213,8 @@ pub run_by_command : (words : List (List ℕ)) (command : CommandLine) (judged :
 run_by_command words command judged old now is run = subst (λ (r : Result CommandLine ℕ). IfObservable old (λ v. IsRunWithRecovery (IsOutcome r (files_of v)) (effect_of_arguments r) (output_name_of_arguments r) judged v old now)) (sym is) run
 
 pub proper_by_command : (words : List (List ℕ)) (command : CommandLine) (old : History) (P : Type 0) → command_of words ≡ Ok command
-    → IfObservable old (λ v. AreOutcomePathsFree (effect_of command.applet) (output_name_for_effect (effect_of command.applet) command) (OfCommand command v) (files_of v) → P) → IfObservable old (λ v. AreRunPathsFree words (files_of v) → P)
-proper_by_command words command old P is proper = subst (λ (r : Result CommandLine ℕ). IfObservable old (λ v. AreOutcomePathsFree (effect_of_arguments r) (output_name_of_arguments r) (IsOutcome r (files_of v)) (files_of v) → P)) (sym is) proper
+    → IfObservable old (λ v. AreRecoveryAndOutcomePathsFree (effect_of command.applet) (output_name_for_effect (effect_of command.applet) command) (OfCommand command v) (files_of v) → P) → IfObservable old (λ v. AreRunPathsFree words (files_of v) → P)
+proper_by_command words command old P is proper = subst (λ (r : Result CommandLine ℕ). IfObservable old (λ v. AreRecoveryAndOutcomePathsFree (effect_of_arguments r) (output_name_of_arguments r) (IsOutcome r (files_of v)) (files_of v) → P)) (sym is) proper
 
 pub found_by_command : (words : List (List ℕ)) (command : CommandLine) (judged : Judged) → command_of words ≡ Ok command → IfOk judged (ReportsOneOfOutcomes (IsPossibleOutcome (Ok command))) → IfOk judged (ReportsOneOfOutcomes (IsPossibleOutcome (command_of words)))
 found_by_command words command judged is found = subst (λ (r : Result CommandLine ℕ). IfOk judged (ReportsOneOfOutcomes (IsPossibleOutcome r))) (sym is) found
@@ -319,7 +319,7 @@ undone_without law words v (Ok verdict) Memory out err is_shown found undone = a
 undone_without law words v (Err Disk) answer out err is_shown found undone = absurd (subst IsRefusedOrOutOfMemory is_shown.0 undone)
 undone_without law words v (Err NoMemory) answer out err is_shown found undone = inl refl
 
-without : RefusesAll → (words : List (List ℕ)) (v : TreeState) (judged : Judged) (answer : Answer) (out err : SinkBeforeAndAfter) → IsVerdictPrinted judged answer out err → IfOk judged (ReportsOneOfOutcomes (IsOutcome (command_of words) (files_of v))) → IsRefusedOrCommitsNothing (IsOutcome (command_of words) (files_of v)) answer → IsOutOfMemoryOrWithoutCommit (IsOutcome (command_of words) (files_of v)) judged
+without : RefusesAll → (words : List (List ℕ)) (v : TreeState) (judged : Judged) (answer : Answer) (out err : SinkBeforeAndAfter) → IsVerdictPrinted judged answer out err → IfOk judged (ReportsOneOfOutcomes (IsOutcome (command_of words) (files_of v))) → IsRefusedOutOfMemoryOrCommitsNothing (IsOutcome (command_of words) (files_of v)) answer → IsOutOfMemoryOrWithoutCommit (IsOutcome (command_of words) (files_of v)) judged
 without law words v judged answer out err is_shown found (inl undone) = undone_without law words v judged answer out err is_shown found undone
 without law words v judged answer out err is_shown found (inr one) = inr one
 
@@ -330,12 +330,12 @@ found_first : (words : List (List ℕ)) (judged : Judged) (v : TreeState) (rest 
 found_first words judged v rest found = found_at v rest judged (λ verdict w. ReportsOneOfOutcomes (IsOutcome (command_of words) (files_of w)) verdict) found
 
 pub idle_by : RefusesAll → (words : List (List ℕ)) (judged : Judged) (answer : Answer) (out err : SinkBeforeAndAfter) (old now : History) → IsVerdictPrinted judged answer out err → FindsOne words judged old → Runs words judged old now
-    → IfObservable old (λ v. IsRefusedOrCommitsNothing (IsOutcome (command_of words) (files_of v)) answer → HasNothingToRecover (effect_of_arguments (command_of words)) v → now ≡ old)
+    → IfObservable old (λ v. IsRefusedOutOfMemoryOrCommitsNothing (IsOutcome (command_of words) (files_of v)) answer → HasNothingToRecover (effect_of_arguments (command_of words)) v → now ≡ old)
 idle_by law words judged answer out err [] now is_shown found run = tt
 idle_by law words judged answer out err (v ∷ rest) now is_shown found run = λ nothing. run.idle (without law words v judged answer out err is_shown (found_first words judged v rest found) nothing)
 
 pub left_by : RefusesAll → (words : List (List ℕ)) (judged : Judged) (answer : Answer) (out err : SinkBeforeAndAfter) (old now : History) → IsVerdictPrinted judged answer out err → FindsOne words judged old → Runs words judged old now
-    → IfObservable old (λ v. IsRefusedOrCommitsNothing (IsOutcome (command_of words) (files_of v)) answer → (ignored : List ℕ → Bool) → IsDurable (StateDependsOn ignored) v → Since (StateIsUnchanged ignored v) old now)
+    → IfObservable old (λ v. IsRefusedOutOfMemoryOrCommitsNothing (IsOutcome (command_of words) (files_of v)) answer → (ignored : List ℕ → Bool) → IsDurable (StateDependsOn ignored) v → Since (StateIsUnchanged ignored v) old now)
 left_by law words judged answer out err [] now is_shown found run = tt
 left_by law words judged answer out err (v ∷ rest) now is_shown found run = λ nothing. run.left (without law words v judged answer out err is_shown (found_first words judged v rest found) nothing)
 

@@ -18,8 +18,8 @@ use Rattle.command_core.specs.Command.{CommandLine}
 use Rattle.command_core.specs.declared.command.Applet.{Applet}
 use Rattle.command_core.specs.declared.command.Applet.TheVariants.{Add, Del, Fix, Upgrade}
 use Rattle.engine_core.specs.ChangeRun.{IsEndOfRunOfWantedChange, DoesCommit, IsChangeRun, IsRunThatCommitsChange, IsPackageFileChangedSinceTested, IsUnchangedOrCommit, report_as_is, report_of_result}
-use Rattle.engine_core.specs.Changed.{IsClashOfCommand, IsClashOfCommandAmong, change_of_command, packages_found_after_change, selected_from_reads_by_choice}
-use Rattle.engine_core.specs.Choice.{IsChoiceFrom}
+use Rattle.engine_core.specs.Changed.{IsFirstClashOfCommand, IsFirstClashOfCommandAmong, change_of_command, packages_found_after_change, selected_from_reads_by_choice}
+use Rattle.engine_core.specs.Choice.{IsPreferredChoiceUnlessRefused}
 use Rattle.engine_core.specs.Runs.{IsRunCounted}
 use Rattle.engine_core.specs.Selecting.{pool_of_command}
 use Rattle.journal_core.specs.Kept.{HasOldOrNewBytesOutsideJournal}
@@ -28,7 +28,7 @@ use Rattle.journal_core.specs.Staged.{IsOldUntilCommit}
 use Rattle.make_core.specs.make_info.Reads.{Reads}
 use Rattle.tell_core.specs.path_clashes.Clash.{NamePair}
 use Rattle.report_core.specs.declared.refusal.Refusal.{Refusal}
-use Rattle.engine_core.specs.journal_commit.StageRun.{IsStateDuringChangeToNewFromOld, IsStagedChangeComplete, NamesAreDurableWithoutIntent}
+use Rattle.engine_core.specs.journal_commit.StageRun.{IsStateDuringChangeToNewFromOld, IsStagedChangeComplete, NamesOutsideJournalAreDurableIfNoIntent}
 use Rattle.outcome.proofs.Applets.{change_is}
 use Rattle.outcome.specs.Changing.{change_outcome}
 use Rattle.outcome.specs.Commands.{IsPossibleOutcomeAfterRecovery, IsOutcomeOverRecoveredFiles, effect_outcome, reads_in}
@@ -58,7 +58,7 @@ HaveIdle = (command : CommandLine) (files : Files) (o : Outcome) → IsOutcomeOv
 abbrev given_by : Option (List ℕ) → Option NamePair → Given
 given_by chosen clash = record { names = []; chosen = chosen; clash = clash }
 
-parts_given : (applet : Applet) (command : CommandLine) (read : Reads) (files : Files) (chosen : Option (List ℕ)) (clash : Option NamePair) → effect_of applet ≡ Changes → IsChoiceFrom (pool_of_command command read) chosen → IsClashOfCommand command read files chosen clash
+parts_given : (applet : Applet) (command : CommandLine) (read : Reads) (files : Files) (chosen : Option (List ℕ)) (clash : Option NamePair) → effect_of applet ≡ Changes → IsPreferredChoiceUnlessRefused (pool_of_command command read) chosen → IsFirstClashOfCommand command read files chosen clash
     → AreNamesListedForApplet applet command files [] × IsChoiceForCommand (effect_of applet) command read chosen × IsFirstClashForEffect (effect_of applet) command read files chosen clash
 parts_given Add command read files chosen clash changes choice first = (refl, choice, first)
 parts_given Del command read files chosen clash changes choice first = (refl, choice, first)
@@ -66,22 +66,22 @@ parts_given Upgrade command read files chosen clash changes choice first = (refl
 parts_given Fix command read files chosen clash changes choice first = (refl, choice, first)
 parts_given other command read files chosen clash changes choice first = cc
 
-are_given : (command : CommandLine) (read : Reads) (files : Files) (chosen : Option (List ℕ)) (clash : Option NamePair) → effect_of command.applet ≡ Changes → IsChoiceFrom (pool_of_command command read) chosen → IsClashOfCommand command read files chosen clash
+are_given : (command : CommandLine) (read : Reads) (files : Files) (chosen : Option (List ℕ)) (clash : Option NamePair) → effect_of command.applet ≡ Changes → IsPreferredChoiceUnlessRefused (pool_of_command command read) chosen → IsFirstClashOfCommand command read files chosen clash
     → IsListingChoiceAndClashFor command read files (given_by chosen clash)
 are_given command read files chosen clash changes choice first =
     let (list, chosen_so, clash_so) = parts_given command.applet command read files chosen clash changes choice first in
     record { names = list; chosen = chosen_so; clash = clash_so }
 
-parts_by_some : (applet : Applet) (command : CommandLine) (read : Reads) (files present_files : Files) (chosen : Option (List ℕ)) (clash : Option NamePair) → effect_of applet ≡ Changes → IsChoiceFrom (pool_of_command command read) chosen
-    → IsClashOfCommandAmong command read files present_files chosen clash → MayBeNamesListedForApplet applet command [] × IsChoiceForCommand (effect_of applet) command read chosen × MayBeFirstClashForEffect (effect_of applet) command read files chosen clash
+parts_by_some : (applet : Applet) (command : CommandLine) (read : Reads) (files present_files : Files) (chosen : Option (List ℕ)) (clash : Option NamePair) → effect_of applet ≡ Changes → IsPreferredChoiceUnlessRefused (pool_of_command command read) chosen
+    → IsFirstClashOfCommandAmong command read files present_files chosen clash → MayBeNamesListedForApplet applet command [] × IsChoiceForCommand (effect_of applet) command read chosen × MayBeFirstClashForEffect (effect_of applet) command read files chosen clash
 parts_by_some Add command read files present_files chosen clash changes choice first = (refl, choice, (present_files, first))
 parts_by_some Del command read files present_files chosen clash changes choice first = (refl, choice, (present_files, first))
 parts_by_some Upgrade command read files present_files chosen clash changes choice first = (refl, choice, (present_files, first))
 parts_by_some Fix command read files present_files chosen clash changes choice first = (refl, choice, (present_files, first))
 parts_by_some other command read files present_files chosen clash changes choice first = absurd (cc)
 
-may_be_given : (command : CommandLine) (read : Reads) (files present_files : Files) (chosen : Option (List ℕ)) (clash : Option NamePair) → effect_of command.applet ≡ Changes → IsChoiceFrom (pool_of_command command read) chosen
-    → IsClashOfCommandAmong command read files present_files chosen clash → MayBeListingChoiceAndClashFor command read files (given_by chosen clash)
+may_be_given : (command : CommandLine) (read : Reads) (files present_files : Files) (chosen : Option (List ℕ)) (clash : Option NamePair) → effect_of command.applet ≡ Changes → IsPreferredChoiceUnlessRefused (pool_of_command command read) chosen
+    → IsFirstClashOfCommandAmong command read files present_files chosen clash → MayBeListingChoiceAndClashFor command read files (given_by chosen clash)
 may_be_given command read files present_files chosen clash changes choice first =
     let (list, chosen_so, clash_so) = parts_by_some command.applet command read files present_files chosen clash changes choice first in
     record { names = list; chosen = chosen_so; clash = clash_so }
@@ -182,7 +182,7 @@ pub record IsRunAt (command : CommandLine) (v : TreeState) (old now : History) (
 
 abbrev RunFacts : CommandLine → History → History → Counts → Counts → Answered → Option (List ℕ) → Option NamePair → Reads → Files → Files → Type 0
 RunFacts command old now a b answer chosen clash read files present_files =
-    IsChoiceFrom (pool_of_command command read) chosen × IsClashOfCommandAmong command read files present_files chosen clash
+    IsPreferredChoiceUnlessRefused (pool_of_command command read) chosen × IsFirstClashOfCommandAmong command read files present_files chosen clash
     × IsEndOfRunOfWantedChange (packages_found_after_change command read (selected_from_reads_by_choice command read chosen)) (change_of_command command read files chosen clash) old now a b answer
 
 run_at : (command : CommandLine) → effect_of command.applet ≡ Changes → (v : TreeState) (rest now : History) (a b : Counts) (answer : Answered) → IsChangeRun command (v ∷ rest) now a b answer → IsRunAt command v (v ∷ rest) now a b answer
@@ -293,7 +293,7 @@ module _ (command : CommandLine) (changes : effect_of command.applet ≡ Changes
       durable_state = λ ignored o is_durable hides one commits.
           on_ok judged (λ done. subst (λ (f : Files). HoldsNow now (IsDurableAndLeavesFiles ignored f)) (files_of_one o one) (rests ignored now commit.done.files (left_durable ignored is_durable) (done.settled ignored is_durable))) done_so;
       reads = inr (outcome, is_one, commits_are, since_weaker (IsStateDuringChangeToNewFromOld commit.done.files (files_of v)) (IsStateDuringRun Changes None outcome.files (files_of v)) (v ∷ rest) now at_work commit.run.reads);
-      last = λ last. since_weaker NamesAreDurableWithoutIntent (NamesAreDurableWithoutIntentExcept None) (v ∷ rest) now (λ w lasts none map among q off no_intent unstaged. lasts none map among q no_intent unstaged) (commit.run.last last);
+      last = λ last. since_weaker NamesOutsideJournalAreDurableIfNoIntent (NamesAreDurableWithoutIntentExcept None) (v ∷ rest) now (λ w lasts none map among q off no_intent unstaged. lasts none map among q no_intent unstaged) (commit.run.last last);
       leaves = λ o one. on_ok judged (λ done. reads_now now o one done.reads) done_so;
       idle = λ o one idle. absurd (false≢true (sym idle ∙ (sym (ap (λ (x : Outcome). x.commits) (the_one o one)) ∙ commits_are)));
     }

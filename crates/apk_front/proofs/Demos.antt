@@ -15,7 +15,7 @@ use Rattle.outcome.specs.demo_lines.Lines.{add_words, demo_repositories, mkndx_w
 use Rattle.outcome.specs.demo_lines.Report.{demo_line}
 use Rattle.outcome.proofs.demo_lines.Lengths.{plus_one}
 use Rattle.outcome.specs.Commands.{IsPossibleOutcomeWithoutDemo, IsOutcomeWithoutDemo, reads_in}
-use Rattle.outcome.specs.Demo.{IsDemoOutcomeAfterIndexing, IsDemoOutcomeAfterInstalling, IsDemoOutcomeAfterPackaging, IsDemoOutcome, IsOutcomeOfNextRun, IsOutcomeOfNextRunUnlessRefused, outcome_with_demo_repositories, with_demo_file}
+use Rattle.outcome.specs.Demo.{IsDemoOutcomeAfterIndexing, IsDemoOutcomeAfterInstalling, IsDemoOutcomeAfterPackaging, IsDemoOutcome, IsOutcomeOfNextRunOrEarlierRefusal, IsOutcomeOfNextRunUnlessRefused, outcome_with_demo_repositories, with_demo_file}
 use Rattle.outcome.specs.Effect.{does_recover, ignores_files, effect_of, output_name_for_effect}
 use Rattle.outcome.specs.Outcome.{Outcome, just_refusal, just_report, just_report_unless_refusal}
 use Rattle.outcome.specs.Words.{IsPossibleOutcome, IsPossibleOutcomeOfApplet, IsOutcome, IsOutcomeOfApplet}
@@ -29,7 +29,7 @@ use Rattle.words_core.specs.Grammar.{command_of}
 use Rattle.words_core.specs.declared.read.WordsFault.{WordsFault}
 use Rattle.words_core.specs.declared.read.WordsFault.TheVariants.{Usage as WrongWord}
 use Rattle.apk_front.specs.DemoRuns.{IsRunToOutcome}
-use Rattle.apk_front.specs.Moments.{CanRecover, AreOutcomePathsFree}
+use Rattle.apk_front.specs.Moments.{FindsValidIntentToRecover, AreRecoveryAndOutcomePathsFree}
 use Rattle.apk_front.specs.Runs.{IsRunWithRecovery}
 use Rattle.apk_front.specs.Verdicts.{Reports, ReportsOneOfOutcomes, as_outcome, read_only_outcome}
 use Rattle.apk_front.specs.declared.answer.Verdict.{Verdict}
@@ -84,10 +84,10 @@ other_run command applet judged old now same never run =
     but_demo (λ Is. IfObservable old (λ v. IsRunWithRecovery (Is (files_of v)) (effect_of command.applet) (output_name_for_effect (effect_of command.applet) command) judged v old now)) command.applet command (never_demo command applet same never) run
 
 pub other_proper : (command : CommandLine) (applet : Applet) (old : History) (P : Type 0) → applet ≡ command.applet → (applet ≡ Demo → ⊥)
-    → IfObservable old (λ v. AreOutcomePathsFree (effect_of command.applet) (output_name_for_effect (effect_of command.applet) command) (IsOutcomeWithoutDemo (Ok command) (files_of v)) (files_of v) → P)
-    → IfObservable old (λ v. AreOutcomePathsFree (effect_of command.applet) (output_name_for_effect (effect_of command.applet) command) (IsOutcome (Ok command) (files_of v)) (files_of v) → P)
+    → IfObservable old (λ v. AreRecoveryAndOutcomePathsFree (effect_of command.applet) (output_name_for_effect (effect_of command.applet) command) (IsOutcomeWithoutDemo (Ok command) (files_of v)) (files_of v) → P)
+    → IfObservable old (λ v. AreRecoveryAndOutcomePathsFree (effect_of command.applet) (output_name_for_effect (effect_of command.applet) command) (IsOutcome (Ok command) (files_of v)) (files_of v) → P)
 other_proper command applet old P same never proper =
-    but_demo (λ Is. IfObservable old (λ v. AreOutcomePathsFree (effect_of command.applet) (output_name_for_effect (effect_of command.applet) command) (Is (files_of v)) (files_of v) → P)) command.applet command (never_demo command applet same never) proper
+    but_demo (λ Is. IfObservable old (λ v. AreRecoveryAndOutcomePathsFree (effect_of command.applet) (output_name_for_effect (effect_of command.applet) command) (Is (files_of v)) (files_of v) → P)) command.applet command (never_demo command applet same never) proper
 
 -- ---- `demo`
 
@@ -129,7 +129,7 @@ demo_leaves : (applet : Applet) (command : CommandLine) (files : Files) (o : Out
 demo_leaves Demo command files o demo (last, is_last, is) = subst (Leaves files) (sym is) (unless_leaves files last.refusal (demo_line (demo_count command.operands) last.out))
 demo_leaves other command files o demo is = cc
 
-no_recovery : (applet : Applet) (v : TreeState) → applet ≡ Demo → CanRecover (effect_of applet) v → ⊥
+no_recovery : (applet : Applet) (v : TreeState) → applet ≡ Demo → FindsValidIntentToRecover (effect_of applet) v → ⊥
 no_recovery applet v demo can = false≢true (subst (λ (a : Applet). does_recover (effect_of a) ≡ true) demo can.0)
 
 pub demo_run : (command : CommandLine) (applet : Applet) (judged : Judged) (old : History) → applet ≡ command.applet → applet ≡ Demo
@@ -169,7 +169,7 @@ refused_to words p q fault tree verdict same is of is_shown =
 -- what a run behind another leads to
 abbrev pub CountsOnlyRise : List (List ℕ) → (Files → Files) → Verdict → MemoryTree → Verdict → MemoryTree → Type 0
 CountsOnlyRise words change last old verdict new =
-    (before : Outcome) → Reports last before → files_of (tree_state old) ≡ before.files → IsRunToOutcome (IsOutcomeOfNextRun words (change before.files) before) verdict new
+    (before : Outcome) → Reports last before → files_of (tree_state old) ≡ before.files → IsRunToOutcome (IsOutcomeOfNextRunOrEarlierRefusal words (change before.files) before) verdict new
 
 stays : (refusal : Option Refusal) (words : List (List ℕ)) (files : Files) (before : Outcome) → IsSome refusal → IsOutcomeOfNextRunUnlessRefused refusal words files before before
 stays None words files before some = cc

@@ -8,10 +8,10 @@ use Rattle.base_core.specs.Files.{Files, no_names}
 use Rattle.base_core.specs.Tree.{TreeState, files_of}
 use Rattle.adb_block.specs.Header.{schema_of_header}
 use Rattle.adb_block.specs.Reading.{Reading, done, fault, more, block_stream_from}
-use Rattle.adb_block.specs.ReaderPosition.{ReaderPosition, first_block_position}
+use Rattle.adb_block.specs.ReaderPosition.{ReaderPosition, first_block_position_of_schema_and_file}
 use Rattle.adb_dump.specs.Dump.{dump_text}
 use Rattle.adb_view.specs.ShapedPayload.{adb_of, shaped_value, table_of}
-use Rattle.adb_dump.specs.adb_schema.Soundness.{root_value, schema_word}
+use Rattle.adb_dump.specs.adb_schema.Soundness.{root_value_of_payload, schema_word}
 use Rattle.adb_view.specs.declared.shaped.Shaped.{Shaped}
 use Rattle.adb_dump.specs.adb_schema.declared.read.ReadFault.{ReadFault}
 use Rattle.adb_dump.specs.adb_schema.declared.read.ReadFault.TheVariants.{Bad}
@@ -39,16 +39,16 @@ pub text_of_shaped : (which : Which) (r later : Reading) (shaped : Shaped) (text
 text_of_shaped which done later shaped text first framed table is = absurd first
 text_of_shaped which (fault c) later shaped text first framed table is = absurd first
 text_of_shaped which (more b at r) later shaped text first framed table is =
-    let value : dump_text (table_of shaped) (shaped_value shaped) ≡ dump_text which (root_value which b.payload) =
-    ap (λ w. dump_text w (root_value w (payload_of (adb_of shaped)))) table ∙ ap (λ p. dump_text which (root_value which p)) first.0 in
+    let value : dump_text (table_of shaped) (shaped_value shaped) ≡ dump_text which (root_value_of_payload which b.payload) =
+    ap (λ w. dump_text w (root_value_of_payload w (payload_of (adb_of shaped)))) table ∙ ap (λ p. dump_text which (root_value_of_payload which p)) first.0 in
     let tested : option_or (payload_head_or_shape_fault which b.payload) (framing_fault r) ≡ None =
     ap (λ f. option_or f (framing_fault r)) first.1 ∙ (ap framing_fault first.2 ∙ sym framed) in
-    ap (λ f. text_unless_fault f (dump_text which (root_value which b.payload))) tested ∙ ap Ok (sym (is ∙ value))
+    ap (λ f. text_unless_fault f (dump_text which (root_value_of_payload which b.payload))) tested ∙ ap Ok (sym (is ∙ value))
 
 pub first_block_bad : (which : Which) (r : Reading) (c : Cause) → first_block_head_or_shape_fault which r ≡ Some c → dump_of_blocks which r ≡ Err c
 first_block_bad which done c h = absurd (none-some c h)
-first_block_bad which (fault d) c h = ap (λ f. text_unless_fault f (dump_text which (root_value which []))) h
-first_block_bad which (more b at r) c h = ap (λ f. text_unless_fault (option_or f (framing_fault r)) (dump_text which (root_value which b.payload))) h
+first_block_bad which (fault d) c h = ap (λ f. text_unless_fault f (dump_text which (root_value_of_payload which []))) h
+first_block_bad which (more b at r) c h = ap (λ f. text_unless_fault (option_or f (framing_fault r)) (dump_text which (root_value_of_payload which b.payload))) h
 
 pub later_block_bad : (which : Which) (r later : Reading) (payload : List ℕ) (c : Cause) → IsAfterShapedFirstBlock which payload r later → Some c ≡ framing_fault later → dump_of_blocks which r ≡ Err c
 later_block_bad which done later payload c first framed = absurd first
@@ -56,7 +56,7 @@ later_block_bad which (fault d) later payload c first framed = absurd first
 later_block_bad which (more b at r) later payload c first framed =
     let tested : option_or (payload_head_or_shape_fault which b.payload) (framing_fault r) ≡ Some c =
     ap (λ f. option_or f (framing_fault r)) first.1 ∙ (ap framing_fault first.2 ∙ sym framed) in
-    ap (λ f. text_unless_fault f (dump_text which (root_value which b.payload))) tested
+    ap (λ f. text_unless_fault f (dump_text which (root_value_of_payload which b.payload))) tested
 
 -- ---- the schema
 
@@ -79,10 +79,10 @@ root_known schema which h =
     known : (w : Which) → Some w ≡ Some which → is_some (schema_word w) ≡ true → is_some (schema_word which) ≡ true
     known w e k = subst (λ x. is_some (schema_word x) ≡ true) (same_Some w which e) k
 
-pub dump_is : (file : List ℕ) (schema : ℕ) (s : ReaderPosition) (which : Which) (answer : Result (List ℕ) Cause) → schema_of_header file ≡ Ok schema → s ≡ first_block_position schema file → table_of_schema schema ≡ Some which → dump_of_blocks which (block_stream_from s) ≡ answer → dump_of file ≡ answer
+pub dump_is : (file : List ℕ) (schema : ℕ) (s : ReaderPosition) (which : Which) (answer : Result (List ℕ) Cause) → schema_of_header file ≡ Ok schema → s ≡ first_block_position_of_schema_and_file schema file → table_of_schema schema ≡ Some which → dump_of_blocks which (block_stream_from s) ≡ answer → dump_of file ≡ answer
 unfolding dump_of
 dump_is file schema s which answer h at root is =
-    ap (dump_by_schema file) h ∙ (ap (dump_by_root_table schema (block_stream_from (first_block_position schema file))) root ∙ (ap (λ t. dump_of_blocks which (block_stream_from t)) (sym at) ∙ is))
+    ap (dump_by_schema file) h ∙ (ap (dump_by_root_table schema (block_stream_from (first_block_position_of_schema_and_file schema file))) root ∙ (ap (λ t. dump_of_blocks which (block_stream_from t)) (sym at) ∙ is))
 
 -- ---- the operand
 

@@ -15,7 +15,7 @@ use Rattle.outcome.specs.Words.{IsOutcome}
 use Rattle.outcome.specs.Effect.{Effect, effect_of_arguments, output}
 use Rattle.outcome.specs.Outcome.{Outcome}
 use Rattle.words_core.specs.Grammar.{command_of}
-use Rattle.apk_front.specs.Moments.{MomentsLeadToFiles, AreStatesOldOrLeadToOutcome, IsOkOrOutputFault, LeavesDurableFilesOnceAnswered, MustOutcomeBeDurable}
+use Rattle.apk_front.specs.Moments.{MomentsOfMakingOrChangeLeadToFiles, AreStatesOldOrLeadToOutcome, IsOkOrOutputFault, LeavesDurableFilesOnceAnswered, MustOutcomeBeDurable}
 use Rattle.apk_front.specs.declared.answer.Answer.{Answer}
 use Rattle.apk_front.specs.declared.answer.Answer.TheVariants.{Ok, Refused, TreeFault, OutFault, Memory}
 
@@ -35,7 +35,7 @@ each_replaces ignored files v [] each = All-nil (IsMomentOfReplacing ignored fil
 each_replaces ignored files v (w ∷ added) (here, earlier) =
     All-cons (IsMomentOfReplacing ignored files v) w added (record { is_durable = here.is_durable; old_or_new = here.old_or_new; made = here.made }) (each_replaces ignored files v added earlier)
 
-way_replaces : (makes : Bool) (ignored : List ℕ → Bool) (files : Files) (v : TreeState) (old now : List TreeState) → MomentsLeadToFiles makes ignored files v old now → Since (IsMomentOfReplacing ignored files v) old now
+way_replaces : (makes : Bool) (ignored : List ℕ → Bool) (files : Files) (v : TreeState) (old now : List TreeState) → MomentsOfMakingOrChangeLeadToFiles makes ignored files v old now → Since (IsMomentOfReplacing ignored files v) old now
 way_replaces true ignored files v old now way = way
 way_replaces false ignored files v old now way = record { added = way.added; is = way.is; each = each_replaces ignored files v way.added way.each }
 

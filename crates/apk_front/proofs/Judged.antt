@@ -26,7 +26,7 @@ use Rattle.outcome.specs.Given.{IsChoiceForCommand, IsFirstClashForEffect, IsLis
 use Rattle.outcome.specs.Effect.{Effect, Computes, OnlyReadsFiles, AsksRoot, Makes, Changes, does_only_read, does_recover, ignores_files, effect_of_arguments, effect_of, output, depends_only_on_arguments}
 use Rattle.outcome.specs.Work.{recovery_fault, files_recovered_if_needed}
 use Rattle.base_core.specs.declared.cause.Cause.{Cause}
-use Rattle.apk_front.specs.Answers.{IsAnswerOfSomeOutcome, LeavesFiles, LeavesAnyFiles, IsAnswerExplainedByCounts, IsFaultless, AnswersOutcomeUnlessMemory, IsAnsweredInFull, DidNotFail, FailedWithBytesToPrint, answer_for_refusal}
+use Rattle.apk_front.specs.Answers.{IsAnswerOfSomeOutcomeOrFailure, LeavesFiles, LeavesAnyFiles, IsAnswerExplainedByCounts, IsFaultless, AnswersOutcomeUnlessMemory, IsAnsweredInFull, DidNotFail, FailedWithBytesToPrint, answer_for_refusal}
 use Rattle.apk_front.specs.Runs.{IsRunWithRecovery}
 use Rattle.apk_front.specs.Verdicts.{as_outcome, IsPrinted, IsVerdictPrinted, Reports, ReportsOneOfOutcomes, read_only_outcome}
 use Rattle.apk_front.proofs.Printing.{either_failed}
@@ -132,14 +132,14 @@ all_observable (v ∷ h) P all = all v
 abbrev pub Judged : Type 0
 Judged = Result Verdict TreeFault
 
-printed_one : (IsOne Leaves : Outcome → Type 0) (tree_failed : Type 0) (o : Outcome) (answer : Answer) (out err : SinkBeforeAndAfter) → IsOne o → Leaves o → IsPrinted o answer out err → IsAnswerOfSomeOutcome IsOne Leaves tree_failed answer out err
+printed_one : (IsOne Leaves : Outcome → Type 0) (tree_failed : Type 0) (o : Outcome) (answer : Answer) (out err : SinkBeforeAndAfter) → IsOne o → Leaves o → IsPrinted o answer out err → IsAnswerOfSomeOutcomeOrFailure IsOne Leaves tree_failed answer out err
 printed_one IsOne Leaves tree_failed o Good out err is leaves printed = (o, is, printed, leaves)
 printed_one IsOne Leaves tree_failed o (Refused refusal) out err is leaves printed = (o, is, printed, leaves)
 printed_one IsOne Leaves tree_failed o OutFault out err is leaves printed = (o, is, printed, leaves)
 printed_one IsOne Leaves tree_failed o TreeFailed out err is leaves printed = absurd printed
 printed_one IsOne Leaves tree_failed o Memory out err is leaves printed = absurd printed
 
-printed_answer : (words : List (List ℕ)) (files : Files) (Leaves : Outcome → Type 0) (tree_failed : Type 0) (o : Outcome) (answer : Answer) (out err : SinkBeforeAndAfter) → IsOutcome (command_of words) files o → Leaves o → IsPrinted o answer out err → IsAnswerOfSomeOutcome (IsOutcome (command_of words) files) Leaves tree_failed answer out err
+printed_answer : (words : List (List ℕ)) (files : Files) (Leaves : Outcome → Type 0) (tree_failed : Type 0) (o : Outcome) (answer : Answer) (out err : SinkBeforeAndAfter) → IsOutcome (command_of words) files o → Leaves o → IsPrinted o answer out err → IsAnswerOfSomeOutcomeOrFailure (IsOutcome (command_of words) files) Leaves tree_failed answer out err
 printed_answer words files Leaves tree_failed o answer out err is leaves printed = printed_one (IsOutcome (command_of words) files) Leaves tree_failed o answer out err is leaves printed
 
 -- printing looks at the refusal and the texts alone
@@ -175,18 +175,18 @@ reported_printed verdict o answer out err reports printed =
 
 -- what stands for one outcome
 reported_answer : (IsOne Leaves : Outcome → Type 0) (tree_failed : Type 0) (verdict : Verdict) (answer : Answer) (out err : SinkBeforeAndAfter) → ReportsOneOfOutcomes IsOne verdict → ((o : Outcome) → IsOne o → Leaves o)
-    → ((files : Files) → IsPrinted (as_outcome files verdict) answer out err) → IsAnswerOfSomeOutcome IsOne Leaves tree_failed answer out err
+    → ((files : Files) → IsPrinted (as_outcome files verdict) answer out err) → IsAnswerOfSomeOutcomeOrFailure IsOne Leaves tree_failed answer out err
 reported_answer IsOne Leaves tree_failed verdict answer out err (o, is, reports) leaves is_shown =
     printed_one IsOne Leaves tree_failed o answer out err is (leaves o is) (reported_printed verdict o answer out err reports (is_shown o.files))
 
 judged_answer : (IsOne Leaves : Outcome → Type 0) (tree_failed : Type 0) (judged : Judged) (answer : Answer) (out err : SinkBeforeAndAfter)
     → IfOk judged (ReportsOneOfOutcomes IsOne) → ((o : Outcome) → IsOne o → OnOk judged (Leaves o)) → (IsErrOf judged Disk → tree_failed) → IsVerdictPrinted judged answer out err
-    → IsAnswerOfSomeOutcome IsOne Leaves tree_failed answer out err
+    → IsAnswerOfSomeOutcomeOrFailure IsOne Leaves tree_failed answer out err
 judged_answer IsOne Leaves tree_failed (Ok verdict) answer out err found leaves disk is_shown = reported_answer IsOne Leaves tree_failed verdict answer out err found leaves is_shown
 judged_answer IsOne Leaves tree_failed (Err Disk) answer out err found leaves disk is_shown =
-    subst (λ (a : Answer). IsAnswerOfSomeOutcome IsOne Leaves tree_failed a out err) (sym is_shown.0) (disk refl, is_shown.1)
+    subst (λ (a : Answer). IsAnswerOfSomeOutcomeOrFailure IsOne Leaves tree_failed a out err) (sym is_shown.0) (disk refl, is_shown.1)
 judged_answer IsOne Leaves tree_failed (Err NoMemory) answer out err found leaves disk is_shown =
-    subst (λ (a : Answer). IsAnswerOfSomeOutcome IsOne Leaves tree_failed a out err) (sym is_shown.0) is_shown.1
+    subst (λ (a : Answer). IsAnswerOfSomeOutcomeOrFailure IsOne Leaves tree_failed a out err) (sym is_shown.0) is_shown.1
 
 pub found_at : (v : TreeState) (rest : List TreeState) (judged : Judged) (P : Verdict → TreeState → Type 0) → IfOk judged (λ verdict. IfObservable (v ∷ rest) (P verdict)) → IfOk judged (λ verdict. P verdict v)
 found_at v rest (Ok verdict) P found = found
@@ -198,7 +198,7 @@ Runs words judged old now = IfObservable old (λ v. IsRunWithRecovery (IsOutcome
 
 pub answered : (words : List (List ℕ)) (old now : List TreeState) (tree_failed : Type 0) (judged : Judged) (answer : Answer) (out err : SinkBeforeAndAfter)
     → IfOk judged (λ verdict. IfObservable old (λ v. ReportsOneOfOutcomes (IsOutcome (command_of words) (files_of v)) verdict)) → Runs words judged old now → (IsErrOf judged Disk → tree_failed) → IsVerdictPrinted judged answer out err
-    → IfObservable old (λ v. IsAnswerOfSomeOutcome (IsOutcome (command_of words) (files_of v)) (LeavesFiles now) tree_failed answer out err)
+    → IfObservable old (λ v. IsAnswerOfSomeOutcomeOrFailure (IsOutcome (command_of words) (files_of v)) (LeavesFiles now) tree_failed answer out err)
 answered words [] now tree_failed judged answer out err found run disk is_shown = tt
 answered words (v ∷ rest) now tree_failed judged answer out err found run disk is_shown =
     judged_answer (IsOutcome (command_of words) (files_of v)) (LeavesFiles now) tree_failed judged answer out err (found_at v rest judged (λ verdict w. ReportsOneOfOutcomes (IsOutcome (command_of words) (files_of w)) verdict) found)
@@ -211,7 +211,7 @@ not_failed outcome before after out err faultless (inl failed) = faultless.out_s
 not_failed outcome before after out err faultless (inr failed) = faultless.err_sink failed.failed.fault
 
 complete_by : (words : List (List ℕ)) (files : Files) (Leaves : Outcome → Type 0) (before after : Counts) (answer : Answer) (out err : SinkBeforeAndAfter)
-    → IsAnswerOfSomeOutcome (IsOutcome (command_of words) files) Leaves (IsFaultCountedWithCause before after) answer out err → IsFaultless before after out err → AnswersOutcomeUnlessMemory words files answer
+    → IsAnswerOfSomeOutcomeOrFailure (IsOutcome (command_of words) files) Leaves (IsFaultCountedWithCause before after) answer out err → IsFaultless before after out err → AnswersOutcomeUnlessMemory words files answer
 complete_by words files Leaves before after Good out err (o, is, stated, leaves) faultless = inr (o, is, stated.same)
 complete_by words files Leaves before after (Refused refusal) out err (o, is, stated, leaves) faultless = inr (o, is, stated.same)
 complete_by words files Leaves before after OutFault out err (o, is, fault, leaves) faultless = absurd (not_failed o before after out err faultless (either_failed fault.which))
@@ -219,7 +219,7 @@ complete_by words files Leaves before after TreeFailed out err (cause, fault) fa
 complete_by words files Leaves before after Memory out err fault faultless = inl refl
 
 pub completed : (words : List (List ℕ)) (old now : List TreeState) (before after : Counts) (answer : Answer) (out err : SinkBeforeAndAfter)
-    → IfObservable old (λ v. IsAnswerOfSomeOutcome (IsOutcome (command_of words) (files_of v)) (LeavesFiles now) (IsFaultCountedWithCause before after) answer out err)
+    → IfObservable old (λ v. IsAnswerOfSomeOutcomeOrFailure (IsOutcome (command_of words) (files_of v)) (LeavesFiles now) (IsFaultCountedWithCause before after) answer out err)
     → IfObservable old (λ v. IsFaultless before after out err → AnswersOutcomeUnlessMemory words (files_of v) answer)
 completed words [] now before after answer out err answered = tt
 completed words (v ∷ rest) now before after answer out err answered = λ faultless. complete_by words (files_of v) (LeavesFiles now) before after answer out err answered faultless
@@ -228,12 +228,12 @@ completed words (v ∷ rest) now before after answer out err answered = λ fault
 
 pub answered_by_words : (words : List (List ℕ)) (judged : Judged) (answer : Answer) (out err : SinkBeforeAndAfter)
     → (IsTrue (depends_only_on_arguments (command_of words)) → MatchResult judged (λ verdict. (files : Files) → IsOutcome (command_of words) files (as_outcome files verdict)) (λ fault. fault ≡ NoMemory)) → IsVerdictPrinted judged answer out err
-    → IsTrue (depends_only_on_arguments (command_of words)) → IsAnswerOfSomeOutcome (IsOutcome (command_of words) no_names) LeavesAnyFiles ⊥ answer out err
+    → IsTrue (depends_only_on_arguments (command_of words)) → IsAnswerOfSomeOutcomeOrFailure (IsOutcome (command_of words) no_names) LeavesAnyFiles ⊥ answer out err
 answered_by_words words (Ok verdict) answer out err by_words is_shown rests =
     printed_answer words no_names LeavesAnyFiles ⊥ (as_outcome no_names verdict) answer out err (by_words rests no_names) tt (is_shown no_names)
 answered_by_words words (Err Disk) answer out err by_words is_shown rests = absurd (let e : Disk ≡ NoMemory = by_words rests in cc)
 answered_by_words words (Err NoMemory) answer out err by_words is_shown rests =
-    subst (λ (a : Answer). IsAnswerOfSomeOutcome (IsOutcome (command_of words) no_names) LeavesAnyFiles ⊥ a out err) (sym is_shown.0) is_shown.1
+    subst (λ (a : Answer). IsAnswerOfSomeOutcomeOrFailure (IsOutcome (command_of words) no_names) LeavesAnyFiles ⊥ a out err) (sym is_shown.0) is_shown.1
 
 -- ---- by what was found
 
@@ -251,7 +251,7 @@ ran_version command applet flags operands verdict same is flags_same operands_sa
 
 pub answered_by_reads : (words : List (List ℕ)) (tree_failed : Type 0) (judged : Judged) (answer : Answer) (out err : SinkBeforeAndAfter)
     → IfOk judged (ReportsOneOfOutcomes (IsPossibleOutcome (command_of words))) → (IsErrOf judged Disk → tree_failed) → IsVerdictPrinted judged answer out err
-    → IsAnswerOfSomeOutcome (IsPossibleOutcome (command_of words)) LeavesAnyFiles tree_failed answer out err
+    → IsAnswerOfSomeOutcomeOrFailure (IsPossibleOutcome (command_of words)) LeavesAnyFiles tree_failed answer out err
 answered_by_reads words tree_failed judged answer out err found disk is_shown =
     judged_answer (IsPossibleOutcome (command_of words)) LeavesAnyFiles tree_failed judged answer out err found (λ o is. any_ok judged) disk is_shown
   where

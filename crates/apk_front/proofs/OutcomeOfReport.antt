@@ -17,7 +17,7 @@ use Rattle.command_core.specs.declared.command.Applet.TheVariants.{Audit, Info, 
 use Rattle.tell_core.specs.ReportForCommand.{report_for_command}
 use Rattle.tell_core.specs.installed_info.declared.telling.ReportAndRefusal.{ReportAndRefusal}
 use Rattle.make_core.specs.make_info.Reads.{Reads}
-use Rattle.make_core.specs.package_files.Runs.{IsExplainedBySomeReads}
+use Rattle.make_core.specs.package_files.Runs.{HoldsOfSomeReadsOfTree}
 use Rattle.report_core.specs.declared.refusal.Refusal.{Refusal}
 use Rattle.outcome.proofs.Applets.{report_is, told_commits, told_files}
 use Rattle.outcome.specs.Commands.{IsPossibleOutcomeAfterRecovery, reads_in}
@@ -39,7 +39,7 @@ abbrev pub Wanted : Type 0
 Wanted = Result ReportAndRefusal Refusal
 
 abbrev pub IsToldBy : CommandLine → History → Answered → Type 0
-IsToldBy command old answer = IsExplainedBySomeReads old (λ read. AgreesUnlessDiskOrMemory (λ done. done) answer (report_for_command command read))
+IsToldBy command old answer = HoldsOfSomeReadsOfTree old (λ read. AgreesUnlessDiskOrMemory (λ done. done) answer (report_for_command command read))
 
 -- ---- nothing is given
 
@@ -75,7 +75,7 @@ reports_wanted (Err (IsRefused refusal)) verdict files wanted agrees told =
 reports_wanted (Err Disk) verdict files wanted agrees told = absurd (cc (told))
 reports_wanted (Err Memory) verdict files wanted agrees told = absurd (cc (told))
 
-same_reads : (v : TreeState) (rest : History) (P : Reads → Type 0) (e : IsExplainedBySomeReads (v ∷ rest) P) → e.read ≡ reads_in (files_of v)
+same_reads : (v : TreeState) (rest : History) (P : Reads → Type 0) (e : HoldsOfSomeReadsOfTree (v ∷ rest) P) → e.read ≡ reads_in (files_of v)
 same_reads v rest P e i n name = e.observed n name i
 
 module _ (command : CommandLine) (tells : effect_of command.applet ≡ AsksRoot) where

@@ -22,7 +22,7 @@ use Rattle.outcome.specs.Effect.{Effect, Makes}
 use Rattle.outcome.specs.Make.{make_outcome}
 use Rattle.outcome.specs.Outcome.{Outcome, commit_report, just_refusal, just_report}
 use Rattle.report_core.specs.declared.refusal.Refusal.TheVariants.{Reserved}
-use Rattle.apk_front.specs.Moments.{AreStatesOldOrLeadToOutcome, CanAddOutputNamesIfAny, IgnoresScratchNameOfOutput, IsDurableAndLeavesFiles, IsStateDuringRun, MustOutcomeBeDurableWithoutRecovery, NamesAreDurableWithoutIntentExcept, ignored_except_output, is_temporary_name, output_names}
+use Rattle.apk_front.specs.Moments.{AreStatesOldOrLeadToOutcome, CanAddOutputNamesIfAny, IgnoresScratchNameOfOutput, IsDurableAndLeavesFiles, IsStateDuringRun, OutcomeCommitsOrCrashesLeaveFilesAsRead, NamesAreDurableWithoutIntentExcept, ignored_except_output, is_temporary_name, output_names}
 use Rattle.apk_front.specs.RunContracts.{IsMakingRun}
 use Rattle.apk_front.specs.Runs.{AreFilesReadWithoutRecovery, IsRunAfterRecovery}
 use Rattle.apk_front.specs.Verdicts.{Reports, as_outcome}
@@ -59,7 +59,7 @@ abbrev pub IsEventWithoutCommit : (Outcome → Type 0) → Judged → TreeState 
 IsEventWithoutCommit IsOne judged v = (o : Outcome) → IsOne o → OnOk judged (Leaves (files_of v) o)
 
 -- what commits nothing is settled where it was so before
-pub settled_before : (ignored : List ℕ → Bool) (v : TreeState) (o : Outcome) → o.commits ≡ false → MustOutcomeBeDurableWithoutRecovery ignored v o → EachCrashLeavesStateOf ignored (files_of v) v
+pub settled_before : (ignored : List ℕ → Bool) (v : TreeState) (o : Outcome) → o.commits ≡ false → OutcomeCommitsOrCrashesLeaveFilesAsRead ignored v o → EachCrashLeavesStateOf ignored (files_of v) v
 settled_before ignored v o none (inl commits) = absurd (false≢true (sym none ∙ commits))
 settled_before ignored v o none (inr before) = before
 

@@ -84,21 +84,21 @@ pub record PrintsOnlyErrorLine (line : List ℕ) (out err : SinkBeforeAndAfter) 
 -- The answer is that of an outcome for which `IsOne` holds: the outcome's bytes are printed, and `Leaves` holds of
 -- the outcome. A fault of a sink may replace the answer and cut the bytes short. Or the tree failed (`tree_failed`
 -- holds), or memory ran out: then only the line of this error is printed.
-abbrev pub IsAnswerOfSomeOutcome :
+abbrev pub IsAnswerOfSomeOutcomeOrFailure :
     (Outcome → Type 0) → (Outcome → Type 0) → Type 0 → Answer → SinkBeforeAndAfter → SinkBeforeAndAfter
     → Type 0
-IsAnswerOfSomeOutcome IsOne Leaves tree_failed Ok out err =
+IsAnswerOfSomeOutcomeOrFailure IsOne Leaves tree_failed Ok out err =
     (outcome : Outcome) × IsOne outcome × IsAnsweredInFull outcome Ok out err × Leaves outcome
-IsAnswerOfSomeOutcome IsOne Leaves tree_failed (Refused refusal) out err =
+IsAnswerOfSomeOutcomeOrFailure IsOne Leaves tree_failed (Refused refusal) out err =
     (outcome : Outcome)
     × IsOne outcome
     × IsAnsweredInFull outcome (Refused refusal) out err
     × Leaves outcome
-IsAnswerOfSomeOutcome IsOne Leaves tree_failed OutFault out err =
+IsAnswerOfSomeOutcomeOrFailure IsOne Leaves tree_failed OutFault out err =
     (outcome : Outcome) × IsOne outcome × IsSingleSinkFault outcome out err × Leaves outcome
-IsAnswerOfSomeOutcome IsOne Leaves tree_failed TreeFault out err = tree_failed
+IsAnswerOfSomeOutcomeOrFailure IsOne Leaves tree_failed TreeFault out err = tree_failed
     × PrintsOnlyErrorLine tree_failure_line out err
-IsAnswerOfSomeOutcome IsOne Leaves tree_failed Memory out err =
+IsAnswerOfSomeOutcomeOrFailure IsOne Leaves tree_failed Memory out err =
     PrintsOnlyErrorLine out_of_memory_line out err
 
 -- the files as read after a run are its outcome's
@@ -148,7 +148,7 @@ AnswersOutcomeUnlessMemory words files answer =
 
 -- The counts of a tree or a sink say that no failure of its calls is planned (as tests plan them). Its count of
 -- misuses is below the greatest count, 2^64 - 1, so that one more misuse would be counted.
-pub record HasNoPlannedFailure (counts : Counts) : Type 0 where
+pub record HasNoPlannedFailureAndCanCountMisuse (counts : Counts) : Type 0 where
   -- the counts say that no call is to fail
   pub unplanned : counts.fallible ≡ false
   -- one more misuse would be counted

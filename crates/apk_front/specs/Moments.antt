@@ -13,7 +13,7 @@ use Rattle.journal_core.specs.Kept.{HasOldOrNewBytesOutsideJournal, JournalOnlyS
 use Rattle.journal_core.specs.Quiet.{StateIsUnchanged}
 use Rattle.journal_core.specs.Recovery.{EachCrashLeavesStateOf, StateDependsOn, intent_name, intent_of, is_staged}
 use Rattle.journal_core.specs.Replacing.{CanAddOutputNames, IgnoresScratchNameButNotIntent, IsMomentOfReplacing, scratch_name_of}
-use Rattle.journal_core.specs.Staged.{AreReplayPathsFree, AreStagingPathsFree, HasNoStagedNames, IsOldUntilCommit, unstaged_files}
+use Rattle.journal_core.specs.Staged.{AreJournalPathsFreeIfIntentIsReplayed, HasEmptyStageAndFreeJournalPaths, HasNoStagedNames, IsOldUntilCommit, unstaged_files}
 use Rattle.outcome.specs.Effect.{Effect, Computes, OnlyReadsFiles, AsksRoot, Makes, Changes, does_recover, effect_of_arguments, output}
 use Rattle.outcome.specs.Outcome.{Outcome}
 use Rattle.outcome.specs.Words.{IsOutcome}
@@ -54,20 +54,20 @@ ArePathsToWriteFree Computes output files = Unit {0}
 ArePathsToWriteFree OnlyReadsFiles output files = Unit {0}
 ArePathsToWriteFree AsksRoot output files = Unit {0}
 ArePathsToWriteFree Makes output files = CanAddOutputNamesIfAny output files
-ArePathsToWriteFree Changes output files = AreStagingPathsFree files
+ArePathsToWriteFree Changes output files = HasEmptyStageAndFreeJournalPaths files
 
 -- The paths that a run with these outcomes writes are free: those of recovery in the files, and those
 -- that the command writes in the recovered files, if its outcome commits.
-abbrev pub AreOutcomePathsFree : Effect → Option (List ℕ) → (Outcome → Type 0) → Files → Type 0
-AreOutcomePathsFree effect output IsOne files =
-    (does_recover effect ≡ true → AreReplayPathsFree files)
+abbrev pub AreRecoveryAndOutcomePathsFree : Effect → Option (List ℕ) → (Outcome → Type 0) → Files → Type 0
+AreRecoveryAndOutcomePathsFree effect output IsOne files =
+    (does_recover effect ≡ true → AreJournalPathsFreeIfIntentIsReplayed files)
     × ((outcome : Outcome) → IsOne outcome → outcome.commits ≡ true
     → ArePathsToWriteFree effect output (files_recovered_if_needed effect files))
 
 -- the paths that a run of this command line writes are free
 abbrev pub AreRunPathsFree : List (List ℕ) → Files → Type 0
 AreRunPathsFree words files =
-    AreOutcomePathsFree (effect_of_arguments (command_of words)) (output words)
+    AreRecoveryAndOutcomePathsFree (effect_of_arguments (command_of words)) (output words)
     (IsOutcome (command_of words)
     files)
     files
@@ -117,8 +117,8 @@ HasNothingToRecover effect v =
     (does_recover effect ≡ false) ⊎ ((v.names intent_name ≡ None) × HasNoStagedNames v.names)
 
 -- a run can recover: its command does, and the file under the intent's name is an intent
-abbrev pub CanRecover : Effect → TreeState → Type 0
-CanRecover effect v = (does_recover effect ≡ true) × IsSome (intent_of (files_of v))
+abbrev pub FindsValidIntentToRecover : Effect → TreeState → Type 0
+FindsValidIntentToRecover effect v = (does_recover effect ≡ true) × IsSome (intent_of (files_of v))
 
 -- w is a state during a recovery that began in state v
 pub record IsStateDuringRecovery (v w : TreeState) : Type 0 where
@@ -162,10 +162,11 @@ NamesAreDurableWithoutIntentExcept output w =
 -- The states of a run that leads to these files. In each the tree is durable, and a crash leaves a
 -- state from before or that of the files. It leaves one from before as long as no intent is committed,
 -- unless the run makes one file (`true`), for which it needs no intent.
-abbrev pub MomentsLeadToFiles :
+abbrev pub MomentsOfMakingOrChangeLeadToFiles :
     Bool → (List ℕ → Bool) → Files → TreeState → List TreeState → List TreeState → Type 0
-MomentsLeadToFiles true ignored files v old now = Since (IsMomentOfReplacing ignored files v) old now
-MomentsLeadToFiles false ignored files v old now =
+MomentsOfMakingOrChangeLeadToFiles true ignored files v old now =
+    Since (IsMomentOfReplacing ignored files v) old now
+MomentsOfMakingOrChangeLeadToFiles false ignored files v old now =
     SinceGivenEarlier (IsOldUntilCommit ignored files v) old now
 
 -- At each moment of the run the state is unchanged; or the run has an outcome that commits, and its moments
@@ -178,19 +179,19 @@ AreStatesOldOrLeadToOutcome IsOne makes ignored v old now =
     ⊎ ((outcome : Outcome)
     × IsOne outcome
     × (outcome.commits ≡ true)
-    × MomentsLeadToFiles makes ignored outcome.files v old now)
+    × MomentsOfMakingOrChangeLeadToFiles makes ignored outcome.files v old now)
 
 -- an outcome's files must be durable after the run: the outcome commits, or each crash at the start would have
 -- left the state of the files as read then
-abbrev pub MustOutcomeBeDurableWithoutRecovery : (List ℕ → Bool) → TreeState → Outcome → Type 0
-MustOutcomeBeDurableWithoutRecovery ignored v outcome =
+abbrev pub OutcomeCommitsOrCrashesLeaveFilesAsRead : (List ℕ → Bool) → TreeState → Outcome → Type 0
+OutcomeCommitsOrCrashesLeaveFilesAsRead ignored v outcome =
     (outcome.commits ≡ true) ⊎ EachCrashLeavesStateOf ignored (files_of v) v
 
--- an outcome's files must be durable after the run: by *MustOutcomeBeDurableWithoutRecovery*, or because an
+-- an outcome's files must be durable after the run: by *OutcomeCommitsOrCrashesLeaveFilesAsRead*, or because an
 -- intent can be recovered
 abbrev pub MustOutcomeBeDurable : Effect → (List ℕ → Bool) → TreeState → Outcome → Type 0
-MustOutcomeBeDurable effect ignored v outcome = MustOutcomeBeDurableWithoutRecovery ignored v outcome
-    ⊎ CanRecover effect v
+MustOutcomeBeDurable effect ignored v outcome = OutcomeCommitsOrCrashesLeaveFilesAsRead ignored v outcome
+    ⊎ FindsValidIntentToRecover effect v
 
 -- the tree is durable, and each crash leaves these files
 pub record IsDurableAndLeavesFiles (ignored : List ℕ → Bool) (files : Files) (w : TreeState) : Type 0 where
@@ -225,8 +226,9 @@ abbrev pub HasOutcomeWithoutCommit : (Outcome → Type 0) → Type 0
 HasOutcomeWithoutCommit IsOne = (outcome : Outcome) × IsOne outcome × (outcome.commits ≡ false)
 
 -- the answer is a refusal or out of memory; or one of these outcomes commits nothing, whatever the answer
-abbrev pub IsRefusedOrCommitsNothing : (Outcome → Type 0) → Answer → Type 0
-IsRefusedOrCommitsNothing IsOne answer = IsRefusedOrOutOfMemory answer ⊎ HasOutcomeWithoutCommit IsOne
+abbrev pub IsRefusedOutOfMemoryOrCommitsNothing : (Outcome → Type 0) → Answer → Type 0
+IsRefusedOutOfMemoryOrCommitsNothing IsOne answer =
+    IsRefusedOrOutOfMemory answer ⊎ HasOutcomeWithoutCommit IsOne
 
 -- if an outcome's files must be durable, each crash after the run leaves them
 abbrev pub LeavesDurableFilesIfRequired :
@@ -267,7 +269,7 @@ LeavesDurableStateIfCommitted IsOne output ignored now =
 
 -- at each moment of a run the tree accepts each name to which a recovery gives other bytes than a
 -- recovery of the files at the start: it was asked for the name before
-abbrev pub AreRecoveryTargetsAccepted :
+abbrev pub EachRecoveryChangesOnlyAcceptedNames :
     (Option (List ℕ) → List ℕ → Type 0) → List TreeState → List TreeState → Type 0
-AreRecoveryTargetsAccepted accepts old now = IfObservable old (λ v.
+EachRecoveryChangesOnlyAcceptedNames accepts old now = IfObservable old (λ v.
     Since (RecoveryChangesOnlyAcceptedNames accepts (unstaged_files (files_of v))) old now)

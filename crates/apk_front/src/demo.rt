@@ -14,7 +14,7 @@ ghost use Rattle.outcome.specs.demo_lines.Count.{demo_count};
 ghost use Rattle.outcome.specs.demo_lines.Lines.{mkpkg_words};
 ghost use Rattle.outcome.specs.demo_lines.Report.{demo_line};
 ghost use Rattle.outcome.specs.Commands.{IsOutcomeWithoutDemo};
-ghost use Rattle.outcome.specs.Demo.{IsDemoOutcomeAfterInstalling, IsDemoOutcomeAfterPackaging, IsDemoOutcome, IsOutcomeOfNextRun, with_demo_file};
+ghost use Rattle.outcome.specs.Demo.{IsDemoOutcomeAfterInstalling, IsDemoOutcomeAfterPackaging, IsDemoOutcome, IsOutcomeOfNextRunOrEarlierRefusal, with_demo_file};
 ghost use Rattle.outcome.specs.Outcome.{Outcome, just_report_unless_refusal};
 ghost use Rattle.tree_memory.specs.Memory.{tree_state};
 ghost use Rattle.words_core.specs.Grammar.{command_of};
@@ -24,8 +24,8 @@ use crate::judge::run;
 use base_core::{Name, Text, TreeFault, Words};
 use command_core::Operands;
 use outcome::{
-    add_words, demo_count, demo_file, demo_line, demo_repositories, demo_text, mkndx_words,
-    mkpkg_words,
+    add_words, contents_of_demo_file, demo_count, demo_file, demo_line, demo_repositories,
+    mkndx_words, mkpkg_words,
 };
 use report_core::Refusal;
 use std::alloc::{AllocError, Global};
@@ -126,7 +126,8 @@ fn package_behind(
     // and the files are those of the next run, or of `before` if that run was refused.
     ensures { IfOk result (λ verdict. (before : Outcome) → Reports last before
         → files_of (tree_state tree.old) ≡ before.files
-        → IsRunToOutcome (IsOutcomeOfNextRun (mkpkg_words i) (with_demo_file i before.files) before)
+        → IsRunToOutcome (IsOutcomeOfNextRunOrEarlierRefusal (mkpkg_words i)
+        (with_demo_file i before.files) before)
         verdict tree.new) }
 {
     if last.refusal.is_some() {
@@ -143,7 +144,7 @@ fn package(alloc: Global, i: u16, tree: &mut MemoryTree) -> Result<Verdict, Tree
         (with_demo_file i (files_of (tree_state tree.old)))) verdict tree.new) }
 {
     let name = demo_file(alloc, i)?;
-    let text = demo_text(alloc, i)?;
+    let text = contents_of_demo_file(alloc, i)?;
     put(alloc, &name, &text, tree)?;
     let words = mkpkg_words(alloc, i)?;
     run_words(alloc, &words, tree)
@@ -161,7 +162,7 @@ fn run_after(
     // and the files are those of the next run, or of `before` if that run was refused.
     ensures { IfOk result (λ verdict. (before : Outcome) → Reports last before
         → files_of (tree_state tree.old) ≡ before.files
-        → IsRunToOutcome (IsOutcomeOfNextRun words.now before.files before) verdict tree.new) }
+        → IsRunToOutcome (IsOutcomeOfNextRunOrEarlierRefusal words.now before.files before) verdict tree.new) }
 {
     if last.refusal.is_some() {
         return Ok(last);

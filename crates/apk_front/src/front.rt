@@ -2,8 +2,8 @@
 //! run is described in `docs/commands.md`, and its effect on a tree in `docs/crash-safety.md`,
 //! "Recovery", in the table of what a run of `apk` may leave.
 ghost use Rattle.std.specs.Prelude.{◌≡◌, ℕ, Bool, List, IsSome, IsTrue, is_some};
-ghost use Rattle.apk_front.specs.Answers.{is_applet_help_or_version_named, IsAnswerOfSomeOutcome, LeavesFiles, LeavesAnyFiles, IsAnswerExplainedByCounts, IsFaultless, AnswersOutcomeUnlessMemory, HasNoPlannedFailure, IsAnsweredInFullUnlessMemory};
-ghost use Rattle.apk_front.specs.Moments.{IsOkRefusedOrOutputFault, AreStatesOfRecoveryOrCommittingRun, AreStatesOldOrLeadToOutcome, IsRefusedOrCommitsNothing, HasNothingToRecover, IgnoresScratchNameOfOutput, AreRecoveryTargetsAccepted, LeavesDurableStateIfCommitted, LeavesDurableFilesOnceAnswered, AreRunPathsFree, NamesAreDurableWithoutIntentExcept};
+ghost use Rattle.apk_front.specs.Answers.{is_applet_help_or_version_named, IsAnswerOfSomeOutcomeOrFailure, LeavesFiles, LeavesAnyFiles, IsAnswerExplainedByCounts, IsFaultless, AnswersOutcomeUnlessMemory, HasNoPlannedFailureAndCanCountMisuse, IsAnsweredInFullUnlessMemory};
+ghost use Rattle.apk_front.specs.Moments.{IsOkRefusedOrOutputFault, AreStatesOfRecoveryOrCommittingRun, AreStatesOldOrLeadToOutcome, IsRefusedOutOfMemoryOrCommitsNothing, HasNothingToRecover, IgnoresScratchNameOfOutput, EachRecoveryChangesOnlyAcceptedNames, LeavesDurableStateIfCommitted, LeavesDurableFilesOnceAnswered, AreRunPathsFree, NamesAreDurableWithoutIntentExcept};
 ghost use Rattle.base_core.specs.Calls.{HoldsNow, IfObservable};
 ghost use Rattle.base_core.specs.Crash.{Since};
 ghost use Rattle.base_core.specs.Undone.{IsDurable};
@@ -46,7 +46,7 @@ pub fn apk<T: Tree, O: Sink, E: Sink>(
     // refusal. An I/O error of the tree or a fault of a sink, with its cause, or out of memory, may
     // be answered instead. After a sink's fault the files left are still the outcome's.
     ensures stated { IfObservable (T.history tree.old) (λ v.
-        IsAnswerOfSomeOutcome (IsOutcome (command_of words.now) (files_of v))
+        IsAnswerOfSomeOutcomeOrFailure (IsOutcome (command_of words.now) (files_of v))
         (LeavesFiles (T.history tree.new)) (IsFaultCountedWithCause (T.counts tree.old)
         (T.counts tree.new)) result
         (sink_before_and_after O.bytes O.counts out.old out.new)
@@ -62,7 +62,8 @@ pub fn apk<T: Tree, O: Sink, E: Sink>(
     // On every tree: an outcome that depends on the arguments alone is the answer, and the tree
     // never fails.
     ensures every_tree { IsTrue (depends_only_on_arguments (command_of words.now))
-        → IsAnswerOfSomeOutcome (IsOutcome (command_of words.now) no_names) LeavesAnyFiles ⊥ result
+        → IsAnswerOfSomeOutcomeOrFailure (IsOutcome
+        (command_of words.now) no_names) LeavesAnyFiles ⊥ result
         (sink_before_and_after O.bytes O.counts out.old out.new)
         (sink_before_and_after E.bytes E.counts err.old err.new) }
 
@@ -70,7 +71,8 @@ pub fn apk<T: Tree, O: Sink, E: Sink>(
     // contents at each read, and the first clash of names among some files. Or an added package is
     // no longer what was tested, and is reported as bad, with the cause of some file that has its
     // identity and other contents. That these are the contents of a real file system is trusted.
-    ensures found { IsAnswerOfSomeOutcome (IsPossibleOutcome (command_of words.now)) LeavesAnyFiles
+    ensures found { IsAnswerOfSomeOutcomeOrFailure (IsPossibleOutcome
+        (command_of words.now)) LeavesAnyFiles
         (IsFaultCountedWithCause (T.counts tree.old) (T.counts tree.new)) result
         (sink_before_and_after O.bytes O.counts out.old out.new)
         (sink_before_and_after E.bytes E.counts err.old err.new) }
@@ -105,8 +107,10 @@ pub fn apk<T: Tree, O: Sink, E: Sink>(
     // If these paths are free, and no failure of the tree and the sinks is planned, the run ends as
     // its outcome says, unless memory ran out: the run's, or the own memory of the tree or a sink.
     ensures unless_memory { IfObservable (T.history tree.old) (λ v.
-        AreRunPathsFree words.now (files_of v) → HasNoPlannedFailure (T.counts tree.old)
-        → HasNoPlannedFailure (O.counts out.old) → HasNoPlannedFailure (E.counts err.old)
+        AreRunPathsFree words.now (files_of v)
+        → HasNoPlannedFailureAndCanCountMisuse (T.counts tree.old)
+        → HasNoPlannedFailureAndCanCountMisuse (O.counts out.old)
+        → HasNoPlannedFailureAndCanCountMisuse (E.counts err.old)
         → IsAnsweredInFullUnlessMemory words.now (files_of v) (LeavesFiles
         (T.history tree.new)) result
         (T.counts tree.old) (T.counts tree.new)
@@ -128,12 +132,12 @@ pub fn apk<T: Tree, O: Sink, E: Sink>(
     // at each moment, if recovery would now change a name that it would not have changed at the
     // start, the tree has accepted that name.
     ensures promised { effect_of_arguments (command_of words.now) ≡ Changes
-        → AreRecoveryTargetsAccepted T.accepts (T.history tree.old) (T.history tree.new) }
+        → EachRecoveryChangesOnlyAcceptedNames T.accepts (T.history tree.old) (T.history tree.new) }
 
     // If there is nothing to recover, these runs write nothing, whatever is answered instead: those
     // that are refused, that run out of memory, or whose outcome commits nothing.
     ensures idle { IfObservable (T.history tree.old) (λ v.
-        IsRefusedOrCommitsNothing (IsOutcome (command_of words.now) (files_of v)) result
+        IsRefusedOutOfMemoryOrCommitsNothing (IsOutcome (command_of words.now) (files_of v)) result
         → HasNothingToRecover (effect_of_arguments (command_of words.now)) v
         → T.history tree.new ≡ T.history tree.old) }
 
@@ -168,7 +172,7 @@ pub fn apk<T: Tree, O: Sink, E: Sink>(
     // each moment a crash leaves a state from before the run, and the files as read have the old
     // state.
     ensures left { IfObservable (T.history tree.old) (λ v.
-        IsRefusedOrCommitsNothing (IsOutcome (command_of words.now) (files_of v)) result
+        IsRefusedOutOfMemoryOrCommitsNothing (IsOutcome (command_of words.now) (files_of v)) result
         → (ignored : List ℕ → Bool) → IsDurable (StateDependsOn ignored) v
         → Since (StateIsUnchanged ignored v) (T.history tree.old) (T.history tree.new)) }
 

@@ -15,7 +15,7 @@ ghost use Rattle.base_core.specs.Tree.{files_of};
 ghost use Rattle.command_core.specs.Sound.{IsValidCommand};
 ghost use Rattle.command_core.specs.declared.command.Applet.TheVariants.{Mkndx, Mkpkg};
 ghost use Rattle.command_core.specs.declared.values.TheConstants.{FILES};
-ghost use Rattle.make_core.specs.make_index.Files.{AreOperandReadsFileBytes};
+ghost use Rattle.make_core.specs.make_index.Files.{OperandReadsFindOnlyValidFileBytes};
 ghost use Rattle.make_core.specs.make_info.Output.{output_name};
 ghost use Rattle.make_core.specs.make_info.Reads.{Reads};
 ghost use Rattle.make_core.specs.package_files.Sources.{AreNamesBelowFirstFolder, values_of_letter};
@@ -94,7 +94,7 @@ pub(crate) fn mkndx<T: Tree>(
     // On every tree the verdict is the specification's, for some contents at each read. The files
     // are not used, so that `no_names` is written for them.
     ensures by_reads { IfOk result (λ verdict. (read : Reads)
-        × AreOperandReadsFileBytes read 0 command.now.operands
+        × OperandReadsFindOnlyValidFileBytes read 0 command.now.operands
         × Reports verdict (mkndx read no_names command.now)) }
     // The effect of the run on the tree.
     ensures run { IsMakingRun (IsIndexOutcome command.now) (output_name command.now)

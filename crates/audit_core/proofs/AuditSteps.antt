@@ -10,7 +10,7 @@ use Rattle.base_core.specs.Calls.{IfObservable}
 use Rattle.base_core.specs.Name.{IsName}
 use Rattle.base_core.specs.Tree.{TreeState, files_of}
 use Rattle.package_files.specs.make_info.Reads.{Reads}
-use Rattle.package_files.specs.Runs.{IsExplainedBySomeReads}
+use Rattle.package_files.specs.Runs.{HoldsOfSomeReadsOfTree}
 use Rattle.package_files.proofs.ReadLemmas.{as_told_of, explained, joined, joined_below, joined_from, joined_told, reads_or}
 use Rattle.adb_view.specs.Plain.{Plain}
 use Rattle.audit_core.specs.Audit.{FileDifference, audit_report, path_difference_if_any, difference_from_entry, difference_line, differences_from}
@@ -52,8 +52,8 @@ found_next (v ∷ earlier) path found n located = sym located
 pub one_more : (history : List TreeState) (first : ℕ) (rs : List PathAndEntry) (r : PathAndEntry) (found : Option (List ℕ)) (before after : List ℕ)
     → IfObservable history (λ v. found ≡ files_of v r.path)
     → after ≡ before ++ flat_map difference_line (difference_found r found)
-    → IsExplainedBySomeReads history (λ read. before ≡ flat_map difference_line (differences_from read first rs))
-    → IsExplainedBySomeReads history (λ read. after ≡ flat_map difference_line (differences_from read first (rs ++ r ∷ [])))
+    → HoldsOfSomeReadsOfTree history (λ read. before ≡ flat_map difference_line (differences_from read first rs))
+    → HoldsOfSomeReadsOfTree history (λ read. after ≡ flat_map difference_line (differences_from read first (rs ++ r ∷ [])))
 one_more history first rs r found before after located is so_far =
     let n = first + length rs in
     let next : Reads = reads_or history (λ k name. found) in
@@ -76,7 +76,7 @@ one_more history first rs r found before after located is so_far =
 
 -- the report of some records, from any number of reads on
 abbrev pub IsReport : List TreeState → List PathAndEntry → List ℕ → Type 0
-IsReport history rs report = (first : ℕ) → IsExplainedBySomeReads history (λ read. report ≡ flat_map difference_line (differences_from read first rs))
+IsReport history rs report = (first : ℕ) → HoldsOfSomeReadsOfTree history (λ read. report ≡ flat_map difference_line (differences_from read first rs))
 
 -- a report that is made longer by the line of a record, if its file differs
 abbrev pub IsLonger : List TreeState → PathAndEntry → List ℕ → List ℕ → Type 0
@@ -93,7 +93,7 @@ reported_more history now xs i x before after same l is so_far longer first =
     let here : IsLonger history (record_seen x) before after = subst (λ (h : List TreeState). IsLonger h (record_seen x) before after) same longer in
     let more : map record_seen (take (i + 1) xs) ≡ map record_seen (take i xs) ++ record_seen x ∷ [] =
     ap (map record_seen) (take_more xs i x l ∙ ap (λ y. take i xs ++ y ∷ []) (sym is)) ∙ map-append record_seen (take i xs) (x ∷ []) in
-    subst (λ (rs : List PathAndEntry). IsExplainedBySomeReads history (λ read. after ≡ flat_map difference_line (differences_from read first rs))) (sym more)
+    subst (λ (rs : List PathAndEntry). HoldsOfSomeReadsOfTree history (λ read. after ≡ flat_map difference_line (differences_from read first rs))) (sym more)
     (one_more history first (map record_seen (take i xs)) (record_seen x) here.0 before after here.1 here.2 (so_far first))
 
 pub reported_all : (history : List TreeState) (xs : List StoredRecord) (i : ℕ) (report : List ℕ) → length xs ≤ i → IsReport history (map record_seen (take i xs)) report → IsReport history (map record_seen xs) report
@@ -101,13 +101,13 @@ reported_all history xs i report l so_far = subst (λ (ys : List StoredRecord). 
 
 -- the records are those of some packages
 pub report_of_packages : (history : List TreeState) (first : ℕ) (packages : List Plain) (rs : List PathAndEntry) (report text : List ℕ) → rs ≡ records_by_path packages → text ≡ report
-    → IsExplainedBySomeReads history (λ read. report ≡ flat_map difference_line (differences_from read first rs)) → IsExplainedBySomeReads history (λ read. text ≡ audit_report read first packages)
+    → HoldsOfSomeReadsOfTree history (λ read. report ≡ flat_map difference_line (differences_from read first rs)) → HoldsOfSomeReadsOfTree history (λ read. text ≡ audit_report read first packages)
 unfolding audit_report
 report_of_packages history first packages rs report text are is so =
     record { read = so.read; observed = so.observed; is = is ∙ (so.is ∙ ap (λ qs. flat_map difference_line (differences_from so.read first qs)) are) }
 
 -- nothing is said of a failure
-pub nothing_said : {A E : Type 0} (history : List TreeState) (r : Result A E) (P : Reads → A → Type 0) (fault : E) → IsErrAnd r (λ e. e ≡ fault) → IsExplainedBySomeReads history (λ read. IfOk r (P read))
+pub nothing_said : {A E : Type 0} (history : List TreeState) (r : Result A E) (P : Reads → A → Type 0) (fault : E) → IsErrAnd r (λ e. e ≡ fault) → HoldsOfSomeReadsOfTree history (λ read. IfOk r (P read))
 nothing_said history (Ok x) P fault is = absurd is
 nothing_said history (Err e) P fault is = explained history (λ read. Unit {0}) (λ read. tt)
 

@@ -10,7 +10,7 @@ use Rattle.file_guard.specs.AsListed.{is_as_listed}
 use Rattle.package_files.specs.make_info.Reads.{Reads}
 use Rattle.audit_core.specs.Audit.{FileDifference, audit_report, path_difference_if_any, difference_from_entry, difference_line, differences_from}
 use Rattle.audit_core.specs.Differences.{AreAsRecorded, IsDifferenceIn, DiffersFromEntry, IsRecordOfPackages, file_differences}
-use Rattle.audit_core.specs.Records.{PathAndEntry, database_records, package_records, record_cmp, records_by_path}
+use Rattle.audit_core.specs.Records.{PathAndEntry, database_records, package_records, record_path_cmp, records_by_path}
 use Rattle.audit_core.specs.declared.comparing.Difference.{Difference}
 use Rattle.audit_core.specs.declared.comparing.Difference.TheVariants.{Changed, Missing}
 use Rattle.audit_core.proofs.SortedRecords.{from_sorted, in_sorted}
@@ -34,12 +34,12 @@ report_over files read first packages same = ap (flat_map difference_line) (over
 pub from_records : (packages : List Plain) (r : PathAndEntry) → IsIn r (records_by_path packages) → IsRecordOfPackages packages r
 unfolding records_by_path
 from_records packages r here =
-    let found = from-flat_map package_records r packages (from_sorted record_cmp r (database_records packages) here) in
+    let found = from-flat_map package_records r packages (from_sorted record_path_cmp r (database_records packages) here) in
     record { pkg = found.0; installed = found.1; listed = found.2 }
 
 pub in_records : (packages : List Plain) (r : PathAndEntry) → IsRecordOfPackages packages r → IsIn r (records_by_path packages)
 unfolding records_by_path
-in_records packages r is = in_sorted record_cmp r (database_records packages) (in-flat_map package_records r is.pkg packages is.installed is.listed)
+in_records packages r is = in_sorted record_path_cmp r (database_records packages) (in-flat_map package_records r is.pkg packages is.installed is.listed)
 
 -- ---- one file
 

@@ -19,7 +19,7 @@ use Rattle.base_core.proofs.Rising as Names
 use Rattle.base_core.proofs.Rising.{order, pairs_from_rises}
 use Rattle.audit_core.specs.Audit.{FileDifference, path_difference_if_any, difference_from_entry}
 use Rattle.audit_core.specs.Differences.{file_differences}
-use Rattle.audit_core.specs.Records.{PathAndEntry, database_records, record_cmp, records_by_path}
+use Rattle.audit_core.specs.Records.{PathAndEntry, database_records, record_path_cmp, records_by_path}
 use Rattle.audit_core.specs.declared.comparing.Difference.{Difference}
 use Rattle.audit_core.proofs.PathsOnce.{database_once, record_paths}
 
@@ -33,19 +33,19 @@ as_in q (name ∷ names) (inr here) = inr (as_in q names here)
 
 -- ---- a sorted list
 
-put_paths : (q : List ℕ) (x : PathAndEntry) (ys : List PathAndEntry) → Names.IsIn q (paths (with_element_inserted record_cmp x ys)) → (q ≡ x.path) ⊎ Names.IsIn q (paths ys)
+put_paths : (q : List ℕ) (x : PathAndEntry) (ys : List PathAndEntry) → Names.IsIn q (paths (with_element_inserted record_path_cmp x ys)) → (q ≡ x.path) ⊎ Names.IsIn q (paths ys)
 put_paths q x [] here = here
-put_paths q x (y ∷ ys) here = go (is_gt (record_cmp x y)) (put_paths q x ys) here
+put_paths q x (y ∷ ys) here = go (is_gt (record_path_cmp x y)) (put_paths q x ys) here
   where
-    go : (b : Bool) → (Names.IsIn q (paths (with_element_inserted record_cmp x ys)) → (q ≡ x.path) ⊎ Names.IsIn q (paths ys))
-        → Names.IsIn q (paths (if b then y ∷ with_element_inserted record_cmp x ys else x ∷ y ∷ ys)) → (q ≡ x.path) ⊎ Names.IsIn q (paths (y ∷ ys))
+    go : (b : Bool) → (Names.IsIn q (paths (with_element_inserted record_path_cmp x ys)) → (q ≡ x.path) ⊎ Names.IsIn q (paths ys))
+        → Names.IsIn q (paths (if b then y ∷ with_element_inserted record_path_cmp x ys else x ∷ y ∷ ys)) → (q ≡ x.path) ⊎ Names.IsIn q (paths (y ∷ ys))
     go true rest (inl is) = inr (inl is)
     go true rest (inr more) = elim (rest more) [ inl is ↦ inl is | inr old ↦ inr (inr old) ]
     go false rest here = here
 
-sorted_paths : (q : List ℕ) (rs : List PathAndEntry) → Names.IsIn q (paths (sorted_by record_cmp rs)) → Names.IsIn q (paths rs)
+sorted_paths : (q : List ℕ) (rs : List PathAndEntry) → Names.IsIn q (paths (sorted_by record_path_cmp rs)) → Names.IsIn q (paths rs)
 sorted_paths q [] here = here
-sorted_paths q (r ∷ rs) here = elim (put_paths q r (sorted_by record_cmp rs) here) [ inl is ↦ inl is | inr old ↦ inr (sorted_paths q rs old) ]
+sorted_paths q (r ∷ rs) here = elim (put_paths q r (sorted_by record_path_cmp rs) here) [ inl is ↦ inl is | inr old ↦ inr (sorted_paths q rs old) ]
 
 above : (x y : List ℕ) (names : List (List ℕ)) → order x y ≡ Less → Names.Rises (y ∷ names) → (q : List ℕ) → Names.IsIn q (y ∷ names) → order x q ≡ Less
 above x y names less rises q (inl is) = ap (order x) is ∙ less
@@ -55,26 +55,26 @@ later : (x y : List ℕ) (names : List (List ℕ)) → order x y ≡ Greater →
 later x y names greater rises q (inl is) = ap (order y) is ∙ nat_list_cmp_total.antisymm y x ∙ ap ordering_reverse greater
 later x y names greater rises q (inr old) = rises.0 q old
 
-order_is : (x y : PathAndEntry) → record_cmp x y ≡ order x.path y.path
-unfolding record_cmp
+order_is : (x y : PathAndEntry) → record_path_cmp x y ≡ order x.path y.path
+unfolding record_path_cmp
 order_is x y = refl
 
-rises_put : (x : PathAndEntry) (ys : List PathAndEntry) → Names.Rises (paths ys) → ((q : List ℕ) → Names.IsIn q (paths ys) → q ≡ x.path → ⊥) → Names.Rises (paths (with_element_inserted record_cmp x ys))
+rises_put : (x : PathAndEntry) (ys : List PathAndEntry) → Names.Rises (paths ys) → ((q : List ℕ) → Names.IsIn q (paths ys) → q ≡ x.path → ⊥) → Names.Rises (paths (with_element_inserted record_path_cmp x ys))
 rises_put x [] rises new = (λ q here. absurd here, tt)
 rises_put x (y ∷ ys) rises new = go (order x.path y.path) refl (order_is x y) (rises_put x ys rises.1 (λ q h. new q (inr h)))
   where
-    go : (o : Ordering) → order x.path y.path ≡ o → record_cmp x y ≡ order x.path y.path → Names.Rises (paths (with_element_inserted record_cmp x ys)) → Names.Rises (paths (with_element_inserted record_cmp x (y ∷ ys)))
-    go o is same rest = subst (λ (b : Ordering). Names.Rises (paths (if is_gt b then y ∷ with_element_inserted record_cmp x ys else x ∷ y ∷ ys))) (sym (same ∙ is)) (by o is)
+    go : (o : Ordering) → order x.path y.path ≡ o → record_path_cmp x y ≡ order x.path y.path → Names.Rises (paths (with_element_inserted record_path_cmp x ys)) → Names.Rises (paths (with_element_inserted record_path_cmp x (y ∷ ys)))
+    go o is same rest = subst (λ (b : Ordering). Names.Rises (paths (if is_gt b then y ∷ with_element_inserted record_path_cmp x ys else x ∷ y ∷ ys))) (sym (same ∙ is)) (by o is)
       where
-        by : (o : Ordering) → order x.path y.path ≡ o → Names.Rises (paths (if is_gt o then y ∷ with_element_inserted record_cmp x ys else x ∷ y ∷ ys))
+        by : (o : Ordering) → order x.path y.path ≡ o → Names.Rises (paths (if is_gt o then y ∷ with_element_inserted record_path_cmp x ys else x ∷ y ∷ ys))
         by Less is = (above x.path y.path (paths ys) is rises, rises)
         by Equal is = absurd (new y.path (inl refl) (sym (exact_bytes x.path y.path is)))
         by Greater is = (λ q here. later x.path y.path (paths ys) is rises q (put_paths q x ys here), rest)
 
-rises_sorted : (rs : List PathAndEntry) → AreDistinctNames (paths rs) → Names.Rises (paths (sorted_by record_cmp rs))
+rises_sorted : (rs : List PathAndEntry) → AreDistinctNames (paths rs) → Names.Rises (paths (sorted_by record_path_cmp rs))
 rises_sorted [] d = tt
 rises_sorted (r ∷ rs) d =
-    rises_put r (sorted_by record_cmp rs) (rises_sorted rs d.1)
+    rises_put r (sorted_by record_path_cmp rs) (rises_sorted rs d.1)
     (λ q here is. d.0 (subst (λ (name : List ℕ). IsIn name (paths rs)) is (as_in q (paths rs) (sorted_paths q rs here))))
 
 -- ---- those that differ

@@ -34,9 +34,9 @@ abbrev pub database_records : List Plain → List PathAndEntry
 database_records packages = flat_map package_records packages
 
 -- the order of records: the byte order of their paths
-unfoldable pub record_cmp : PathAndEntry → PathAndEntry → Ordering
-record_cmp = on (λ r. r.path) bytes_cmp
+unfoldable pub record_path_cmp : PathAndEntry → PathAndEntry → Ordering
+record_path_cmp = on (λ r. r.path) bytes_cmp
 
 -- the records of the files of all packages, in byte order of their paths
 unfoldable pub records_by_path : List Plain → List PathAndEntry
-records_by_path packages = sorted_by record_cmp (database_records packages)
+records_by_path packages = sorted_by record_path_cmp (database_records packages)

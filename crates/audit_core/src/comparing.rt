@@ -9,7 +9,7 @@ ghost use Rattle.base_core.specs.Name.{IsName};
 ghost use Rattle.base_core.specs.Read.{OnlyReads};
 ghost use Rattle.base_core.specs.Tree.{files_of};
 ghost use Rattle.db_core.specs.Seen.{packages_of};
-ghost use Rattle.package_files.specs.Runs.{IsExplainedBySomeReads};
+ghost use Rattle.package_files.specs.Runs.{HoldsOfSomeReadsOfTree};
 ghost use Rattle.report_core.specs.Reports.{report_line};
 ghost use Rattle.std.specs.List.{flat_map};
 ghost use Rattle.std.specs.Prelude.{◌≡◌, ◌++◌, ℕ, List, Option, All, IfOk, OnOk, map};
@@ -41,7 +41,7 @@ pub enum Difference {
 pub fn audit<T: Tree>(alloc: Global, db: &Db<'_>, tree: &mut T) -> Result<Text, TreeFault>
     // On Ok, for each number `first`, there are results of reads, numbered from `first` on, by
     // which the definition gives this report. If the tree is observable, the reads find its files.
-    ensures report { (first : ℕ) → IsExplainedBySomeReads (T.history tree.old) (λ read.
+    ensures report { (first : ℕ) → HoldsOfSomeReadsOfTree (T.history tree.old) (λ read.
         IfOk result (λ report. report ≡ audit_report read first (packages_of db.now))) }
     // The tree is only read. A failed call on it is reported with its cause.
     ensures tree { OnlyReads TreeFault.Disk (T.history tree.old) (T.history tree.new)
@@ -64,7 +64,7 @@ fn audit_records<T: Tree>(
     requires { All (λ r. IsName r.path) (map record_seen records.now) }
     // On Ok, the report has a line for each record whose file differs, by results of reads as in
     // `audit`.
-    ensures report { (first : ℕ) → IsExplainedBySomeReads (T.history tree.old) (λ read.
+    ensures report { (first : ℕ) → HoldsOfSomeReadsOfTree (T.history tree.old) (λ read.
         IfOk result (λ report. report.items ≡ flat_map difference_line
         (differences_from read first (map record_seen records.now)))) }
     // The tree is only read. A failed call on it is reported with its cause.

@@ -6,7 +6,7 @@ ghost use Rattle.path_clashes.specs.adb_fields.ListValue.{list_value};
 ghost use Rattle.path_clashes.specs.adb_fields.Repeated.{list_of};
 ghost use Rattle.db_core.specs.adb_schema.Views.{package_value};
 ghost use Rattle.adb_view.specs.Values.{count_of, entries_in, entry_in};
-ghost use Rattle.audit_core.specs.Records.{database_records, file_record, folder_records, package_records, record_cmp, records_by_path};
+ghost use Rattle.audit_core.specs.Records.{database_records, file_record, folder_records, package_records, record_path_cmp, records_by_path};
 ghost use Rattle.audit_core.specs.Seen.{record_seen};
 ghost use Rattle.db_core.specs.Seen.{packages_of};
 ghost use Rattle.base_core.specs.Sorted.{sorted_by};
@@ -72,7 +72,7 @@ pub(crate) fn records_by_path<'a>(alloc: Global, db: &Db<'a>) -> Result<Vec<Reco
 fn sort_records(records: &mut Vec<Record<'_>>) -> Result<(), AllocError>
     // On Ok, the records are sorted by their paths; records with equal paths keep their order.
     ensures { IfOk result (λ _. map record_seen records.new.items
-        ≡ sorted_by record_cmp (map record_seen records.old.items)) }
+        ≡ sorted_by record_path_cmp (map record_seen records.old.items)) }
 {
     records.sort_by(|one, other| one.path.compare(&other.path))?;
     Ok(())

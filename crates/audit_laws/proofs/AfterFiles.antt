@@ -8,8 +8,8 @@ use Rattle.audit_core.specs.declared.comparing.Difference.TheVariants.{Changed, 
 use Rattle.base_core.specs.Files.{Files}
 use Rattle.root_laws.specs.change_files.Fate.{is_protected_path}
 use Rattle.root_laws.specs.change_files.FileChange.{FileChange, added_owner_listing, is_listed_after_change, old_entry, owner_listing}
-use Rattle.root_laws.specs.change_files.FilesAfter.{DatabaseAndWorldAfter, files_after_change, apk_new_listing_at, path_of_apk_new_name}
-use Rattle.root_laws.specs.change_files.Touched.{IsModifiedConfigFile, is_apk_new_name, is_database_or_world_name}
+use Rattle.root_laws.specs.change_files.FilesAfter.{DatabaseAndWorldAfter, files_after_change, listing_written_as_apk_new_beside, path_of_apk_new_name}
+use Rattle.root_laws.specs.change_files.Touched.{IsModifiedConfigFile, is_name_of_written_apk_new_file, is_old_or_new_database_or_world_name}
 use Rattle.root_laws.proofs.change_files.Coming.{takes_path}
 use Rattle.root_laws.proofs.change_files.OwnedFiles.{beside_is, claimed_by_owner, coming_is, nobody_beside}
 use Rattle.root_laws.proofs.change_files.Untouched.{stays_as_it_is, takes_its_path, users_file_is_spared}
@@ -26,7 +26,7 @@ pub differs_by : (entry : Plain) (found : Option (List ℕ)) (bytes : List ℕ) 
 differs_by entry found bytes Missing is differs = absurd (cc (is, differs))
 differs_by entry found bytes Changed is differs = (refl, subst (λ (o : Option (List ℕ)). IsSomeAnd o (λ b. is_as_listed entry b ≡ false)) is differs)
 
-module _ (change : FileChange) (bytes_of : Listing → List ℕ) (records : DatabaseAndWorldAfter) (files : Files) (path : List ℕ) (plain : is_database_or_world_name records path ≡ false) where
+module _ (change : FileChange) (bytes_of : Listing → List ℕ) (records : DatabaseAndWorldAfter) (files : Files) (path : List ℕ) (plain : is_old_or_new_database_or_world_name records path ≡ false) where
   -- ---- of a package that stays
 
   pub stays_so : (l : Listing) (d : Difference) → owner_listing change path ≡ Some l → is_added l.member ≡ false
@@ -39,17 +39,17 @@ module _ (change : FileChange) (bytes_of : Listing → List ℕ) (records : Data
     claimed : is_listed_after_change change path ≡ true
     claimed = claimed_by_owner change path l (coming_is change path l comes).0
 
-    not_aside : is_apk_new_name change files path ≡ false
+    not_aside : is_name_of_written_apk_new_file change files path ≡ false
     not_aside = by_path (path_of_apk_new_name path) refl
       where
-        by_laid : (q : List ℕ) → path_of_apk_new_name path ≡ Some q → (o : Option Listing) → apk_new_listing_at change files q ≡ o → is_some o ≡ false
+        by_laid : (q : List ℕ) → path_of_apk_new_name path ≡ Some q → (o : Option Listing) → listing_written_as_apk_new_beside change files q ≡ o → is_some o ≡ false
         by_laid q e None laid = refl
         by_laid q e (Some m) laid =
             absurd (true≢false (sym claimed ∙ (ap (is_listed_after_change change) (beside_is path q e) ∙ nobody_beside change files q m laid)))
 
-        by_path : (o : Option (List ℕ)) → path_of_apk_new_name path ≡ o → is_some (option_and_then (apk_new_listing_at change files) o) ≡ false
+        by_path : (o : Option (List ℕ)) → path_of_apk_new_name path ≡ o → is_some (option_and_then (listing_written_as_apk_new_beside change files) o) ≡ false
         by_path None e = refl
-        by_path (Some q) e = by_laid q e (apk_new_listing_at change files q) refl
+        by_path (Some q) e = by_laid q e (listing_written_as_apk_new_beside change files q) refl
 
     -- ---- whether the user changed it
 

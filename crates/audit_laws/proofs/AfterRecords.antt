@@ -28,7 +28,7 @@ use Rattle.audit_core.proofs.PathsOnce.{database_once, record_paths}
 use Rattle.root_laws.specs.change_files.FileChange.{FileChange, owner_listing}
 use Rattle.root_laws.proofs.change_files.Lists.{IsOneOf, passing_kept}
 use Rattle.root_laws.proofs.change_files.OwnedFiles.{owner_is}
-use Rattle.audit_core.specs.db_core.Members.{Listing, Member, listings_of_path, member_listings, members_of_kept}
+use Rattle.audit_core.specs.db_core.Members.{Listing, Member, listings_of_path, listings_of_members, members_of_kept}
 use Rattle.audit_core.specs.db_core.OwnedListings.{owned_listings, owned_paths}
 use Rattle.root_laws.specs.db_write.NewDatabase.{packages_in_new_database}
 use Rattle.audit_core.specs.file_guard.AsListed.{file_hash, file_size, file_target, is_as_listed, is_as_listed_by_size_hash_target}
@@ -40,7 +40,7 @@ use Rattle.root_laws.specs.path_claims.Claims.{is_owning_member}
 pub record WrittenLaws : Type 0 where
   pub paths : (members : List Member) (flags : List Bool) → flat_map paths_of_package_files (list_of (packages_in_new_database members flags)) ≡ owned_paths members flags
   pub entries : (members : List Member) (flags : List Bool)
-      → map (λ l. l.entry) (member_listings (members_of_kept (list_of (packages_in_new_database members flags)))) ≡ map (λ l. without_zeros l.entry) (owned_listings (member_listings members) flags)
+      → map (λ l. l.entry) (listings_of_members (members_of_kept (list_of (packages_in_new_database members flags)))) ≡ map (λ l. without_zeros l.entry) (owned_listings (listings_of_members members) flags)
 
 -- ---- entries in which an integer 0 is Null
 
@@ -159,41 +159,41 @@ module _ (laws : WrittenLaws) (change : FileChange) (database : Plain) (sound : 
   flags = owned_flags_of change.members
 
   abbrev owned : List Listing
-  owned = owned_listings (member_listings change.members) flags
+  owned = owned_listings (listings_of_members change.members) flags
 
   records_are : database_records (list_of (packages_in_new_database change.members flags)) ≡ map kept_record owned
   records_are =
       let packages = list_of (packages_in_new_database change.members flags) in
       same_records (database_records packages) owned (record_paths packages ∙ laws.paths change.members flags)
       (ap (map (λ (r : PathAndEntry). r.entry)) (sym (records_are_listings packages))
-      ∙ (map_twice (λ (r : PathAndEntry). r.entry) listing_record (member_listings (members_of_kept packages)) ∙ laws.entries change.members flags))
+      ∙ (map_twice (λ (r : PathAndEntry). r.entry) listing_record (listings_of_members (members_of_kept packages)) ∙ laws.entries change.members flags))
 
   once : AreDistinctNames (map (λ l. l.path) owned)
   once = subst AreDistinctNames (ap (flat_map paths_of_package_files) are ∙ laws.paths change.members flags) (database_once database sound)
 
-  owned_is : (l : Listing) → IsIn l owned → IsIn l (member_listings change.members) × (owner_of_path change.members l.path ≡ Some l.place)
+  owned_is : (l : Listing) → IsIn l owned → IsIn l (listings_of_members change.members) × (owner_of_path change.members l.path ≡ Some l.place)
   unfolding owned_flags_of
   owned_is l here =
-      let found = flagged_in (λ l. is_owning_member l.place (owner_of_path change.members l.path)) l (member_listings change.members) here in
+      let found = flagged_in (λ l. is_owning_member l.place (owner_of_path change.members l.path)) l (listings_of_members change.members) here in
       (found.0, member_place l.place (owner_of_path change.members l.path) found.1)
 
-  is_owned : (l : Listing) → IsIn l (member_listings change.members) → owner_of_path change.members l.path ≡ Some l.place → IsIn l owned
+  is_owned : (l : Listing) → IsIn l (listings_of_members change.members) → owner_of_path change.members l.path ≡ Some l.place → IsIn l owned
   unfolding owned_flags_of
   is_owned l here place =
-      in_flagged (λ l. is_owning_member l.place (owner_of_path change.members l.path)) l (member_listings change.members) here
+      in_flagged (λ l. is_owning_member l.place (owner_of_path change.members l.path)) l (listings_of_members change.members) here
       (ap (is_owning_member l.place) place ∙ eq-eqb l.place l.place refl)
 
   owner_owned : (path : List ℕ) (l : Listing) → owner_listing change path ≡ Some l → IsIn l owned × (l.path ≡ path)
   owner_owned path l e =
       let owner = owner_is change path l e in
-      (is_owned l (as_in l (member_listings change.members) owner.listed) (ap (owner_of_path change.members) owner.of_path ∙ owner.place), owner.of_path)
+      (is_owned l (as_in l (listings_of_members change.members) owner.listed) (ap (owner_of_path change.members) owner.of_path ∙ owner.place), owner.of_path)
 
   some_owner : (l : Listing) → IsIn l owned → (k : Listing) × (owner_listing change l.path ≡ Some k)
   unfolding owner_listing listings_of_path
   some_owner l here =
       let is = owned_is l here in
-      let claims = filter (λ k. bytes_eq k.path l.path) (member_listings change.members) in
-      let found = some_found (λ k. k.place == l.place) claims l (passing_kept (λ k. bytes_eq k.path l.path) (member_listings change.members) l (as_one l (member_listings change.members) is.0) ((bytes_eq-Decides l.path l.path).1 refl))
+      let claims = filter (λ k. bytes_eq k.path l.path) (listings_of_members change.members) in
+      let found = some_found (λ k. k.place == l.place) claims l (passing_kept (λ k. bytes_eq k.path l.path) (listings_of_members change.members) l (as_one l (listings_of_members change.members) is.0) ((bytes_eq-Decides l.path l.path).1 refl))
       (eq-eqb l.place l.place refl) in
       (found.0, ap (option_and_then (λ place. find (λ k. k.place == place) claims)) is.1 ∙ found.1)
 

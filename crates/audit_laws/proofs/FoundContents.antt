@@ -10,7 +10,7 @@ use Rattle.root_laws.specs.change_inputs.Chains.{and_then}
 use Rattle.root_laws.specs.change_inputs.Inputs.{first_index_read_number}
 use Rattle.root_laws.proofs.change_outcome.Made.{and_then_ok}
 use Rattle.root_laws.specs.change_outcome.MembersAfter.{MemberFound, added_package_by_path, added_member_found, found_package_contents, members_after, found_members, member_of_name_after, member_of_name_by_change, member_of_name_by_selected, member_of_added_name, member_of_removed_name, members_of_names_after, kept_member_found}
-use Rattle.root_laws.specs.change_outcome.PackageFiles.{AddedPackage, first_script_of, package_file_path_of_candidate, added_package_or_refusal, package_in_file, scripts_of_change, package_unless_other_than_candidate, unless_script_number, unless_package_bad, unless_script_needed}
+use Rattle.root_laws.specs.change_outcome.PackageFiles.{AddedPackage, first_script_number_of_package, package_file_path_of_candidate, added_package_or_refusal, package_in_file, scripts_of_change, package_unless_other_than_candidate, unless_script_number, package_unless_bad_or_different, unless_script_needed}
 use Rattle.audit_core.specs.db_core.Members.{Member, is_added}
 use Rattle.audit_core.specs.db_core.Packages.{is_package_named}
 use Rattle.dep_core.specs.Repositories.{Repository}
@@ -51,7 +51,7 @@ module _ (told : HasFirstValue) (read : Reads) where
   file_ok : (c : Candidate) (file : List ℕ) (pkg : AddedPackage) → added_package_or_refusal c (Some file) ≡ Ok pkg → AreListedContents pkg.value pkg.contents
   file_ok c file pkg e = by_fault (package_fault file) refl e
     where
-      by_fault : (fault : Option Cause) → package_fault file ≡ fault → unless_package_bad c fault (package_in_file file) ≡ Ok pkg → AreListedContents pkg.value pkg.contents
+      by_fault : (fault : Option Cause) → package_fault file ≡ fault → package_unless_bad_or_different c fault (package_in_file file) ≡ Ok pkg → AreListedContents pkg.value pkg.contents
       by_fault None sound e =
           subst (λ (p : AddedPackage). AreListedContents p.value p.contents) (sym (different_ok c (package_in_file file) pkg e)) (tested_listed told file sound)
       by_fault (Some cause) sound e = absurd (cc (e))
@@ -66,7 +66,7 @@ module _ (told : HasFirstValue) (read : Reads) where
 
   script_ok : {A : Type 0} (no_scripts : Bool) (name : List ℕ) (pkg : Plain) (numbers : List ℕ) (a b : A) → unless_script_needed no_scripts name pkg numbers a ≡ Ok b → a ≡ b
   script_ok true name pkg numbers a b e = (cc (e))
-  script_ok false name pkg numbers a b e = by_number (first_script_of pkg numbers) e
+  script_ok false name pkg numbers a b e = by_number (first_script_number_of_package pkg numbers) e
     where
       by_number : (o : Option ℕ) → unless_script_number name o a ≡ Ok b → a ≡ b
       by_number None e = (cc (e))

@@ -6,7 +6,7 @@ use Rattle.audit_core.specs.adb_fields.FirstPair.{IsIn}
 use Rattle.audit_core.specs.adb_fields.Repeated.{entries_at}
 use Rattle.root_laws.specs.adb_schema.Reserved.{is_reserved}
 use Rattle.root_laws.specs.adb_schema.SoundContainers.{IsSoundContainer, IsSoundValue}
-use Rattle.root_laws.specs.adb_schema.Soundness.{container_fault_except_contents, payload_in, root_value}
+use Rattle.root_laws.specs.adb_schema.Soundness.{container_fault_except_contents, payload_in, root_value_of_payload}
 use Rattle.root_laws.specs.adb_schema.Texts.{is_file_with_contents}
 use Rattle.adb_view.specs.FieldIndexes.{IDB_PACKAGES}
 use Rattle.adb_view.specs.Plain.{Plain}
@@ -18,18 +18,18 @@ use Rattle.base_core.specs.Files.{Files}
 use Rattle.base_core.specs.declared.cause.Cause.{Cause}
 use Rattle.root_laws.specs.change_files.FileChange.{FileChange, added_owner_listing, if_member_added, owner_listing}
 use Rattle.root_laws.specs.change_files.FilesAfter.{DatabaseAndWorldAfter, files_after_change, listing_bytes}
-use Rattle.root_laws.specs.change_files.Touched.{is_database_or_world_name}
+use Rattle.root_laws.specs.change_files.Touched.{is_old_or_new_database_or_world_name}
 use Rattle.root_laws.proofs.change_files.Lists.{IsOneOf, contains_from_one}
 use Rattle.root_laws.proofs.change_files.OwnedFiles.{coming_is}
 use Rattle.root_laws.proofs.change_files.RecordNames.{database_after}
 use Rattle.root_laws.specs.change_inputs.Chains.{and_then, unless_cause}
-use Rattle.root_laws.specs.change_inputs.Database.{Database, container_database, database_from_parts, root_database}
+use Rattle.root_laws.specs.change_inputs.Database.{Database, container_database, database_of_packages_file_and_is_text, root_database}
 use Rattle.root_laws.specs.change_outcome.ChangeOutcome.{ChangeDone, ChangeWishes, change_or_refusal, file_change, database_and_world_after_change}
 use Rattle.root_laws.specs.change_outcome.Made.{IsChangeMade}
 use Rattle.root_laws.specs.change_outcome.MembersAfter.{MemberFound, found_package_contents, found_members}
 use Rattle.command_core.specs.Command.{CommandLine}
 use Rattle.audit_core.specs.db_core.ListedAt.{IsListedAt}
-use Rattle.audit_core.specs.db_core.Members.{Listing, Member, is_added, member_listings}
+use Rattle.audit_core.specs.db_core.Members.{Listing, Member, is_added, listings_of_members}
 use Rattle.root_laws.specs.change_inputs.Inputs.{Inputs}
 use Rattle.root_laws.specs.engine_core.Changed.{InputsAndReplacement, change_of_command, change_of_selected, simulated_change}
 use Rattle.root_laws.specs.engine_core.Wishes.{wishes_of}
@@ -38,7 +38,7 @@ use Rattle.root_laws.specs.make_info.Reads.{Reads}
 use Rattle.root_laws.specs.package_changes.Changes.{Replacement}
 use Rattle.audit_core.specs.path_clashes.Clash.{NamePair}
 use Rattle.root_laws.specs.pkg_core.Contents.{Contents, expected_files_of_package}
-use Rattle.root_laws.specs.pkg_core.GoodContents.{AreContentsOf, HaveValidDigestLengths}
+use Rattle.root_laws.specs.pkg_core.GoodContents.{AreContentsOfExpectedFiles, HaveValidDigestLengths}
 use Rattle.root_laws.proofs.pkg_core.Digests.{HasFirstValue}
 use Rattle.report_core.specs.declared.refusal.Refusal.{Refusal}
 use Rattle.report_core.specs.declared.refusal.Refusal.TheVariants.{DatabaseBad}
@@ -51,8 +51,8 @@ use Rattle.audit_laws.proofs.FoundContents.{contents_listed}
 
 -- what the laws of the crates below say
 pub record Laws : Type 0 where
-  pub values : (which : Which) (file : List ℕ) → IsSoundContainer which file → IsSoundValue which (root_value which (payload_in file))
-  pub reserved : (records : DatabaseAndWorldAfter) (name : List ℕ) → is_database_or_world_name records name ≡ true → is_reserved name ≡ true
+  pub values : (which : Which) (file : List ℕ) → IsSoundContainer which file → IsSoundValue which (root_value_of_payload which (payload_in file))
+  pub reserved : (records : DatabaseAndWorldAfter) (name : List ℕ) → is_old_or_new_database_or_world_name records name ≡ true → is_reserved name ≡ true
   pub made : (inputs : Inputs) (r : Replacement) (wishes : ChangeWishes) (read : Reads) (clash : Option NamePair) (files : Files) (done : ChangeDone)
       → change_or_refusal inputs r wishes read clash files ≡ Ok done → IsChangeMade inputs r wishes read clash files done
   pub differences : (files : Files) (packages : List Plain) (d : FileDifference) → IsIn d (file_differences files packages) ↔ IsDifferenceIn packages files d
@@ -63,22 +63,22 @@ pub record Laws : Type 0 where
 abbrev kept : Database → Result Database Refusal
 kept d = Ok d
 
-container_ok : (file : List ℕ) (packages : List Plain) (bytes : List ℕ) → container_database file ≡ Ok (database_from_parts packages (Some bytes) false)
-    → (container_fault_except_contents Idb file ≡ None) × (entries_at IDB_PACKAGES (root_value Idb (payload_in file)) ≡ packages)
+container_ok : (file : List ℕ) (packages : List Plain) (bytes : List ℕ) → container_database file ≡ Ok (database_of_packages_file_and_is_text packages (Some bytes) false)
+    → (container_fault_except_contents Idb file ≡ None) × (entries_at IDB_PACKAGES (root_value_of_payload Idb (payload_in file)) ≡ packages)
 container_ok file packages bytes e = by_fault (container_fault_except_contents Idb file) refl e
   where
     there : Database
-    there = database_from_parts (entries_at IDB_PACKAGES (root_value Idb (payload_in file))) (Some file) false
+    there = database_of_packages_file_and_is_text (entries_at IDB_PACKAGES (root_value_of_payload Idb (payload_in file))) (Some file) false
 
-    by_fault : (fault : Option Cause) → container_fault_except_contents Idb file ≡ fault → unless_cause DatabaseBad fault there ≡ Ok (database_from_parts packages (Some bytes) false)
-        → (container_fault_except_contents Idb file ≡ None) × (entries_at IDB_PACKAGES (root_value Idb (payload_in file)) ≡ packages)
-    by_fault None t e = (let same : there ≡ database_from_parts packages (Some bytes) false = (let both : kept there ≡ kept (database_from_parts packages (Some bytes) false) = e in cc) in (t, ap (λ (d : Database). d.packages) same))
+    by_fault : (fault : Option Cause) → container_fault_except_contents Idb file ≡ fault → unless_cause DatabaseBad fault there ≡ Ok (database_of_packages_file_and_is_text packages (Some bytes) false)
+        → (container_fault_except_contents Idb file ≡ None) × (entries_at IDB_PACKAGES (root_value_of_payload Idb (payload_in file)) ≡ packages)
+    by_fault None t e = (let same : there ≡ database_of_packages_file_and_is_text packages (Some bytes) false = (let both : kept there ≡ kept (database_of_packages_file_and_is_text packages (Some bytes) false) = e in cc) in (t, ap (λ (d : Database). d.packages) same))
     by_fault (Some cause) t e = absurd (cc (e))
 
-not_record : (records : DatabaseAndWorldAfter) (name : List ℕ) → ((records : DatabaseAndWorldAfter) (name : List ℕ) → is_database_or_world_name records name ≡ true → is_reserved name ≡ true) → is_reserved name ≡ false → is_database_or_world_name records name ≡ false
-not_record records name reserved free = by_test (is_database_or_world_name records name) refl
+not_record : (records : DatabaseAndWorldAfter) (name : List ℕ) → ((records : DatabaseAndWorldAfter) (name : List ℕ) → is_old_or_new_database_or_world_name records name ≡ true → is_reserved name ≡ true) → is_reserved name ≡ false → is_old_or_new_database_or_world_name records name ≡ false
+not_record records name reserved free = by_test (is_old_or_new_database_or_world_name records name) refl
   where
-    by_test : (b : Bool) → is_database_or_world_name records name ≡ b → is_database_or_world_name records name ≡ false
+    by_test : (b : Bool) → is_old_or_new_database_or_world_name records name ≡ b → is_old_or_new_database_or_world_name records name ≡ false
     by_test true t = absurd (true≢false (sym (reserved records name t) ∙ free))
     by_test false t = t
 
@@ -121,7 +121,7 @@ module _ (laws : Laws) (command : CommandLine) (read : Reads) (files : Files) (c
   database_there : done.files database_name ≡ Some made_so.database
   database_there = ap (λ (fs : Files). fs database_name) files_are ∙ database_after change bytes_of records files
 
-  read_back : (container_fault_except_contents Idb made_so.database ≡ None) × (entries_at IDB_PACKAGES (root_value Idb (payload_in made_so.database)) ≡ packages_left left)
+  read_back : (container_fault_except_contents Idb made_so.database ≡ None) × (entries_at IDB_PACKAGES (root_value_of_payload Idb (payload_in made_so.database)) ≡ packages_left left)
   read_back =
       let next : Reads = λ n name. done.files name in
       container_ok made_so.database (packages_left left) left.bytes
@@ -129,12 +129,12 @@ module _ (laws : Laws) (command : CommandLine) (read : Reads) (files : Files) (c
       ∙ left.database command next (record { database = refl; world = refl }))
 
   abbrev value : Plain
-  value = root_value Idb (payload_in made_so.database)
+  value = root_value_of_payload Idb (payload_in made_so.database)
 
   sound : IsSoundValue Idb value
   sound = laws.values Idb made_so.database read_back.0
 
-  plain : (path : List ℕ) (l : Listing) → owner_listing change path ≡ Some l → is_database_or_world_name records path ≡ false
+  plain : (path : List ℕ) (l : Listing) → owner_listing change path ≡ Some l → is_old_or_new_database_or_world_name records path ≡ false
   plain path l owner = not_record records path laws.reserved (owner_free laws.written change value sound read_back.1 path l owner)
 
   -- ---- what differs was left so
@@ -201,18 +201,18 @@ empty_by entry bytes brought unlike = by_tests (is_file_with_contents entry) ref
     by_tests false with false target false same = record { no_contents = with; no_link = target; unlike = same }
 
 pub empty_alone :
-    HasFirstValue → ((members : List Member) (i : ℕ) (l : Listing) → slice_get (member_listings members) i ≡ Some l → IsListedAt members l)
-    → ((contents : ℕ → List Contents) (members : List Member) (l : Listing) → Contains (member_listings members) l → HaveValidDigestLengths (expected_files_of_package l.member.pkg)
-    → AreContentsOf (expected_files_of_package l.member.pkg) (contents l.place) → (is_file_with_contents l.entry ≡ false → has_target l.entry ≡ false → is_as_listed l.entry [] ≡ true)
+    HasFirstValue → ((members : List Member) (i : ℕ) (l : Listing) → slice_get (listings_of_members members) i ≡ Some l → IsListedAt members l)
+    → ((contents : ℕ → List Contents) (members : List Member) (l : Listing) → Contains (listings_of_members members) l → HaveValidDigestLengths (expected_files_of_package l.member.pkg)
+    → AreContentsOfExpectedFiles (expected_files_of_package l.member.pkg) (contents l.place) → (is_file_with_contents l.entry ≡ false → has_target l.entry ≡ false → is_as_listed l.entry [] ≡ true)
     → is_as_listed l.entry (listing_bytes contents l) ≡ true)
     → (command : CommandLine) (read : Reads) (chosen : Option (List ℕ)) (done : ChangeDone) (left : IsRootLeftByChange command read chosen done) (path : List ℕ) (l : Listing)
     → added_owner_listing (change_left left) path ≡ Some l → is_as_listed l.entry (listing_bytes (contents_left left) l) ≡ false → IsEmptyFileWithOtherDigest l.entry
 empty_alone told placed brought command read chosen done left path l comes unlike =
     let members = found_members left.found in
     let owner = coming_is (change_left left) path l comes in
-    let listed : IsOneOf l (member_listings members) = owner.0.listed in
-    let place = some_place l (member_listings members) listed in
+    let listed : IsOneOf l (listings_of_members members) = owner.0.listed in
+    let place = some_place l (listings_of_members members) listed in
     let s = left.selected in
     let are = contents_listed told read s.replacement s.inputs.root.repositories (wishes_of command).no_scripts left.found l.place l.member left.members (placed members place.0 l place.1).member owner.1 in
     empty_by l.entry (listing_bytes (contents_left left) l)
-    (brought (contents_left left) members l (contains_from_one (member_listings members) l listed) are.0 are.1) unlike
+    (brought (contents_left left) members l (contains_from_one (listings_of_members members) l listed) are.0 are.1) unlike

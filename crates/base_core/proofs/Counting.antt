@@ -3,7 +3,7 @@ use Rattle.std.proofs.Common.{◌≡◌, ◌∙◌, ◌≤◌, ℕ, inl, inr, Li
 use Rattle.base_core.specs.Calls.{IfObservable}
 use Rattle.base_core.specs.Read.{OnlyReads}
 use Rattle.base_core.specs.Faults.{Counts, CountsOnlyRise, IsFaultCountedWithCause, CountsNoNewFault, RoseOrIsSaturated}
-use Rattle.base_core.specs.Restart.{HasNameLedToFileFromNumber}
+use Rattle.base_core.specs.Restart.{HasNameLedToFileNumberedAtLeast}
 use Rattle.base_core.specs.Tree.{TreeState}
 
 pub goes_on_twice : (a b c : Counts) → CountsOnlyRise a b → CountsOnlyRise b c → CountsOnlyRise a c
@@ -95,11 +95,11 @@ readings_two disk h0 h1 h2 a b c value (Err fault) h k = record {
 
 -- ---- a file that was made in a run
 
-pub led_sooner : (name : List ℕ) (a b : ℕ) (moments : List TreeState) → a ≤ b → HasNameLedToFileFromNumber name b moments → HasNameLedToFileFromNumber name a moments
+pub led_sooner : (name : List ℕ) (a b : ℕ) (moments : List TreeState) → a ≤ b → HasNameLedToFileNumberedAtLeast name b moments → HasNameLedToFileNumberedAtLeast name a moments
 led_sooner name a b [] up led = led
 led_sooner name a b (v ∷ earlier) up (inl here) = inl (here.0, here.1, omega (arith, up, here.2))
 led_sooner name a b (v ∷ earlier) up (inr before) = inr (led_sooner name a b earlier up before)
 
-pub led_later : (name : List ℕ) (made : ℕ) (later moments : List TreeState) → HasNameLedToFileFromNumber name made moments → HasNameLedToFileFromNumber name made (later ++ moments)
+pub led_later : (name : List ℕ) (made : ℕ) (later moments : List TreeState) → HasNameLedToFileNumberedAtLeast name made moments → HasNameLedToFileNumberedAtLeast name made (later ++ moments)
 led_later name made [] moments led = led
 led_later name made (v ∷ later) moments led = inr (led_later name made later moments led)

@@ -3,10 +3,10 @@ use Rattle.std.proofs.Common.{◌≡◌, inl, inr, ℕ, true, List, [], ◌∷�
 use Rattle.base_core.specs.Files.{Files, NameMap}
 use Rattle.base_core.specs.Lists.{IsIn}
 use Rattle.base_core.specs.Tree.{TreeState, File, IsCurrentOrOlderMap, bytes_of_file_number, files_under_map, files_of}
-use Rattle.base_core.specs.Crash.{CrashMayLeave, IsCrashImageUnderMap, IsCrashImageIfUndoneNewestFirst, IsDurableIfUndoneNewestFirst}
+use Rattle.base_core.specs.Crash.{CrashMayLeaveBytesOfFileNumber, IsCrashImageUnderMap, IsCrashImageIfUndoneNewestFirst, IsDurableIfUndoneNewestFirst}
 use Rattle.base_core.specs.Restart.{IsAfterCrashIfUndoneNewestFirst}
 
-pub may_leave_as_read : (files : ℕ → File) (n : Option ℕ) → CrashMayLeave files n (bytes_of_file_number files n)
+pub may_leave_as_read : (files : ℕ → File) (n : Option ℕ) → CrashMayLeaveBytesOfFileNumber files n (bytes_of_file_number files n)
 may_leave_as_read files None = refl
 may_leave_as_read files (Some n) = λ _. refl
 
@@ -16,7 +16,7 @@ map_is_left v map among = (map, among, λ q. may_leave_as_read v.files (map q))
 pub read_is_left : (v : TreeState) → IsCrashImageIfUndoneNewestFirst v (files_of v)
 read_is_left v = map_is_left v v.names (inl refl)
 
-pub left_as_read : (files : ℕ → File) (n : Option ℕ) (bytes : Option (List ℕ)) → ((k : ℕ) → n ≡ Some k → (files k).synced ≡ true) → CrashMayLeave files n bytes → bytes ≡ bytes_of_file_number files n
+pub left_as_read : (files : ℕ → File) (n : Option ℕ) (bytes : Option (List ℕ)) → ((k : ℕ) → n ≡ Some k → (files k).synced ≡ true) → CrashMayLeaveBytesOfFileNumber files n bytes → bytes ≡ bytes_of_file_number files n
 left_as_read files None bytes synced may = may
 left_as_read files (Some n) None synced may = absurd may
 left_as_read files (Some n) (Some bytes) synced may = ap Some (may (synced n refl))

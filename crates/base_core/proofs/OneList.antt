@@ -7,7 +7,7 @@ use Rattle.std.proofs.lemmas.Bool.{and_parts}
 use Rattle.std.proofs.lemmas.Bool.Decides.{Decides-eqb}
 use Rattle.std.proofs.lemmas.Slice.Eq.{bytes_eq-Decides}
 use Rattle.std.proofs.lemmas.Map.Views.{Contains-from_any}
-use Rattle.base_core.specs.Files.{NameMap, HaveValidNamesAndBytes, AreFileBytes, HasNamesAmong, IsFolderOf}
+use Rattle.base_core.specs.Files.{NameMap, HaveValidNamesAndBytes, AreFileBytes, HasOnlyNamesAmong, IsFolderOf}
 use Rattle.base_core.specs.Tree.{TreeState, IsCurrentOrOlderMap, IsWellFormed, bytes_of_file_number, files_under_map, files_of}
 use Rattle.base_core.specs.Listed.{AreSortedNamesBelowFolder, IsSortedListingOfFolder, IsValidNameBelowFolder, AreSortedNamesInMap, AreSortedDistinctNames}
 use Rattle.base_core.proofs.Rising.{in_at, keep, keep_rises, kept_passes, passing_kept, same_list, contains_from_in, in_from_contains, pairs_from_rises, rises_from_pairs}
@@ -38,7 +38,7 @@ only_list P a b one two = same_list a b (rises_from_pairs a one.rising) (rises_f
 
 -- ---- all names of a map
 
-pub names_exist : {X : Type 0} (map : List ℕ → Option X) (within : List (List ℕ)) → HasNamesAmong within map → (names : List (List ℕ)) × AreSortedNamesInMap map names
+pub names_exist : {X : Type 0} (map : List ℕ → Option X) (within : List (List ℕ)) → HasOnlyNamesAmong within map → (names : List (List ℕ)) × AreSortedNamesInMap map names
 names_exist map within finite =
     let found = listed (λ q. IsSome (map q)) (λ q. is_some (map q)) (λ q. (λ h. h, λ h. h)) within finite in
     (found.0, record { rising = found.1.rising; each = found.1.each })
@@ -122,7 +122,7 @@ files_named v whole map among = record {
   each = λ q bytes is. some_bytes v (map q) bytes whole is;
 }
 
-pub files_finite : (v : TreeState) → IsWellFormed v → (names : List (List ℕ)) × HasNamesAmong names (files_of v)
+pub files_finite : (v : TreeState) → IsWellFormed v → (names : List (List ℕ)) × HasOnlyNamesAmong names (files_of v)
 files_finite v whole =
     let finite = whole.finite v.names (inl refl) in
     (finite.0, λ q some. finite.1 q ((has_bytes v (v.names q)).1 some))

@@ -6,7 +6,7 @@ use Rattle.base_core.specs.Files.{Files, NameMap}
 use Rattle.base_core.specs.Lists.{IsIn}
 use Rattle.base_core.specs.Restart.{IsAfterCrashIfUndoneNewestFirst}
 use Rattle.base_core.specs.Tree.{TreeState, IsCurrentOrOlderMap, bytes_of_file_number, files_under_map, files_of}
-use Rattle.base_core.specs.Undone.{IsAfterCrash, IsDurable, MayBeLeftByCrash, IsCrashImage, IsCrashMap, lead_to_same_file, with_change_replayed}
+use Rattle.base_core.specs.Undone.{IsAfterCrash, IsDurable, CrashOfMapsMayLeaveMap, IsCrashImage, IsCrashMap, lead_to_same_file, with_change_replayed}
 use Rattle.base_core.proofs.Left.{left_as_read, may_leave_as_read}
 
 -- ---- one change
@@ -53,22 +53,22 @@ change_whole old new i q = change_here old new old q refl i
 
 -- ---- the maps
 
-pub newest_left : (new : NameMap) (older : List NameMap) → MayBeLeftByCrash new older new
+pub newest_left : (new : NameMap) (older : List NameMap) → CrashOfMapsMayLeaveMap new older new
 newest_left new [] = refl
 newest_left new (old ∷ older) = inl (old, newest_left old older, sym (change_whole old new))
 
-pub among_left : (new : NameMap) (older : List NameMap) (map : NameMap) → IsIn map (new ∷ older) → MayBeLeftByCrash new older map
+pub among_left : (new : NameMap) (older : List NameMap) (map : NameMap) → IsIn map (new ∷ older) → CrashOfMapsMayLeaveMap new older map
 among_left new [] map (inl is) = is
 among_left new [] map (inr none) = absurd none
 among_left new (old ∷ older) map (inl is) = inl (old, newest_left old older, is ∙ sym (change_whole old new))
 among_left new (old ∷ older) map (inr among) = inr (among_left old older map among)
 
-pub left_one : (new : NameMap) (older : List NameMap) → older ≡ [] → (map : NameMap) → MayBeLeftByCrash new older map → map ≡ new
+pub left_one : (new : NameMap) (older : List NameMap) → older ≡ [] → (map : NameMap) → CrashOfMapsMayLeaveMap new older map → map ≡ new
 left_one new [] none map is = is
 left_one new (old ∷ older) none map is = absurd (cc)
 
 -- a map that a crash may leave leads, at each name, where one of the maps of the list leads
-pub left_at : (new : NameMap) (older : List NameMap) (map : NameMap) → MayBeLeftByCrash new older map → (q : List ℕ) → (one : NameMap) × IsIn one (new ∷ older) × (map q ≡ one q)
+pub left_at : (new : NameMap) (older : List NameMap) (map : NameMap) → CrashOfMapsMayLeaveMap new older map → (q : List ℕ) → (one : NameMap) × IsIn one (new ∷ older) × (map q ≡ one q)
 left_at new [] map is q = (new, inl refl, ap (λ (m : NameMap). m q) is)
 left_at new (old ∷ older) map (inr left) q = let (one, among, same) = left_at old older map left q in (one, inr among, same)
 left_at new (old ∷ older) map (inl (kept, left, is)) q =

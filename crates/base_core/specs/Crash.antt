@@ -6,14 +6,15 @@ use Rattle.base_core.specs.Tree.{TreeState, File, IsCurrentOrOlderMap, files_und
 
 -- what a crash may leave of the file with this number: its bytes if the file is synced, and any bytes if it is not.
 -- Without a number (None) there is no file
-abbrev pub CrashMayLeave : (ℕ → File) → Option ℕ → Option (List ℕ) → Type 0
-CrashMayLeave files None bytes = bytes ≡ None
-CrashMayLeave files (Some n) None = ⊥
-CrashMayLeave files (Some n) (Some bytes) = (files n).synced ≡ true → bytes ≡ (files n).bytes
+abbrev pub CrashMayLeaveBytesOfFileNumber : (ℕ → File) → Option ℕ → Option (List ℕ) → Type 0
+CrashMayLeaveBytesOfFileNumber files None bytes = bytes ≡ None
+CrashMayLeaveBytesOfFileNumber files (Some n) None = ⊥
+CrashMayLeaveBytesOfFileNumber files (Some n) (Some bytes) =
+    (files n).synced ≡ true → bytes ≡ (files n).bytes
 
 -- `image` are files that a crash may leave of the state `v` if it leaves this map of names
 abbrev pub IsCrashImageUnderMap : TreeState → NameMap → Files → Type 0
-IsCrashImageUnderMap v map image = (q : List ℕ) → CrashMayLeave v.files (map q) (image q)
+IsCrashImageUnderMap v map image = (q : List ℕ) → CrashMayLeaveBytesOfFileNumber v.files (map q) (image q)
 
 -- `image` are files that a crash may leave of the state `v` if it undoes only the newest changes of names: those under
 -- the current map of names or an older one

@@ -30,8 +30,8 @@ abbrev pub no_names : {X : Type 0} → List ℕ → Option X
 no_names q = None
 
 -- each name that is present in the map is in the list `names`, so finitely many are present
-abbrev pub HasNamesAmong : {X : Type 0} → List (List ℕ) → (List ℕ → Option X) → Type 0
-HasNamesAmong names map = (q : List ℕ) → IsSome (map q) → list_any (bytes_eq q) names ≡ true
+abbrev pub HasOnlyNamesAmong : {X : Type 0} → List (List ℕ) → (List ℕ → Option X) → Type 0
+HasOnlyNamesAmong names map = (q : List ℕ) → IsSome (map q) → list_any (bytes_eq q) names ≡ true
 
 -- each key that is present in the map is a valid name: the path of a file below the root
 abbrev pub AreNames : {X : Type 0} → (List ℕ → Option X) → Type 0

@@ -1,5 +1,5 @@
 -- The tree after a crash, and what holds at a moment given the earlier ones. The rules are in
--- `docs/crash-safety.md`, "What a crash leaves", and of `HasNameLedToFileFromNumber` in "Moments".
+-- `docs/crash-safety.md`, "What a crash leaves", and of `HasNameLedToFileNumberedAtLeast` in "Moments".
 use Rattle.std.specs.Prelude.{◌≡◌, ◌⊎◌, ◌≤◌, ℕ, true, List, [], ◌∷◌, ◌++◌, Some}
 use Rattle.base_core.specs.Crash.{IsCrashImageIfUndoneNewestFirst}
 use Rattle.base_core.specs.Tree.{TreeState, files_of}
@@ -32,7 +32,7 @@ pub record SinceGivenEarlier (P : List TreeState → TreeState → Type 0)
 
 -- at one of these moments the name, as read, led to a file whose number is at least `made`: a file that was made after
 -- the first `made` files
-abbrev pub HasNameLedToFileFromNumber : List ℕ → ℕ → List TreeState → Type 0
-HasNameLedToFileFromNumber name made [] = ⊥
-HasNameLedToFileFromNumber name made (v ∷ earlier) =
-    ((n : ℕ) × (v.names name ≡ Some n) × (made ≤ n)) ⊎ HasNameLedToFileFromNumber name made earlier
+abbrev pub HasNameLedToFileNumberedAtLeast : List ℕ → ℕ → List TreeState → Type 0
+HasNameLedToFileNumberedAtLeast name made [] = ⊥
+HasNameLedToFileNumberedAtLeast name made (v ∷ earlier) =
+    ((n : ℕ) × (v.names name ≡ Some n) × (made ≤ n)) ⊎ HasNameLedToFileNumberedAtLeast name made earlier

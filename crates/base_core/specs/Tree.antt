@@ -3,7 +3,7 @@
 -- counts".
 use Rattle.std.specs.Prelude.{◌≡◌, ◌⊎◌, ◌≢◌, ◌≤◌, ◌<◌, ℕ, ◌+◌, Bool, true, false, if◌then◌else◌, ◌==◌, List, [], ◌∷◌, ◌++◌, Option, Some, None, IsSome, length}
 use Rattle.base_core.specs.Lists.{IsIn}
-use Rattle.base_core.specs.Files.{Files, NameMap, put_name, drop_name, move_name, AreNames, AreFileBytes, HasNoFileAsFolder, HasNamesAmong}
+use Rattle.base_core.specs.Files.{Files, NameMap, put_name, drop_name, move_name, AreNames, AreFileBytes, HasNoFileAsFolder, HasOnlyNamesAmong}
 
 -- a file: its bytes as read, and whether a crash keeps exactly these
 pub record File : Type 0 where
@@ -49,8 +49,8 @@ with_file_changed change v None = v
 with_file_changed change v (Some n) = record v { files = set_file v.files n (change (v.files n)) }
 
 -- the state with this new map of names; the previous map becomes the newest older map, which a crash may restore
-abbrev pub with_names : TreeState → NameMap → TreeState
-with_names v names = record v { names = names; older = v.names ∷ v.older }
+abbrev pub with_newer_name_map : TreeState → NameMap → TreeState
+with_newer_name_map v names = record v { names = names; older = v.names ∷ v.older }
 
 -- the state after `create`: a new empty file, not synced, is under the name
 abbrev pub after_create : List ℕ → TreeState → TreeState
@@ -79,7 +79,7 @@ after_sync name v = with_file_changed (λ f. record { bytes = f.bytes; synced = 
 -- number
 abbrev pub with_file_moved : List ℕ → List ℕ → TreeState → Option ℕ → TreeState
 with_file_moved from to v None = v
-with_file_moved from to v (Some n) = with_names v (move_name v.names from to n)
+with_file_moved from to v (Some n) = with_newer_name_map v (move_name v.names from to n)
 
 -- after `rename`: the file of the name `from` is under the name `to`, in place of the file that was there
 abbrev pub after_rename : List ℕ → List ℕ → TreeState → TreeState
@@ -88,7 +88,7 @@ after_rename from to v = with_file_moved from to v (v.names from)
 -- the state in which nothing is under the name; unchanged if there is no number
 abbrev pub with_name_removed : List ℕ → TreeState → Option ℕ → TreeState
 with_name_removed name v None = v
-with_name_removed name v (Some n) = with_names v (drop_name v.names name)
+with_name_removed name v (Some n) = with_newer_name_map v (drop_name v.names name)
 
 -- after `remove`: the name leads to no file; the file itself stays, since an older map of names may lead to it
 abbrev pub after_remove : List ℕ → TreeState → TreeState
@@ -146,7 +146,7 @@ IsCurrentOrOlderMap v map = IsIn map (v.names ∷ v.older)
 pub record IsWellFormed (v : TreeState) : Type 0 where
   -- in each map finitely many names are present
   pub finite : (map : NameMap) → IsCurrentOrOlderMap v map → (names : List (List ℕ))
-      × HasNamesAmong names map
+      × HasOnlyNamesAmong names map
   -- each present name is a valid name
   pub named : (map : NameMap) → IsCurrentOrOlderMap v map → AreNames map
   -- no present name is a folder of another

@@ -19,15 +19,15 @@ with_change_replayed old new map q = if lead_to_same_file (old q) (new q) then m
 
 -- A crash may leave the map `map`, given the newest map and the older ones. If there is no older map, it leaves the
 -- newest. Otherwise it leaves a map that it may leave of the older ones, with the change to the newest map or without.
-abbrev pub MayBeLeftByCrash : NameMap → List NameMap → NameMap → Type 0
-MayBeLeftByCrash new [] map = map ≡ new
-MayBeLeftByCrash new (old ∷ older) map =
-    ((kept : NameMap) × MayBeLeftByCrash old older kept × (map ≡ with_change_replayed old new kept))
-    ⊎ MayBeLeftByCrash old older map
+abbrev pub CrashOfMapsMayLeaveMap : NameMap → List NameMap → NameMap → Type 0
+CrashOfMapsMayLeaveMap new [] map = map ≡ new
+CrashOfMapsMayLeaveMap new (old ∷ older) map =
+    ((kept : NameMap) × CrashOfMapsMayLeaveMap old older kept × (map ≡ with_change_replayed old new kept))
+    ⊎ CrashOfMapsMayLeaveMap old older map
 
 -- a crash may leave this map of names: any of the changes of names since their last sync may be undone
 abbrev pub IsCrashMap : TreeState → NameMap → Type 0
-IsCrashMap v map = MayBeLeftByCrash v.names v.older map
+IsCrashMap v map = CrashOfMapsMayLeaveMap v.names v.older map
 
 -- `image` are files that a crash may leave of the state `v`: those under a map of names that it may leave
 abbrev pub IsCrashImage : TreeState → Files → Type 0

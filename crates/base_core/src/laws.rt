@@ -5,11 +5,11 @@
 ghost use Rattle.std.specs.Prelude.{◌≡◌, ◌≤◌, ◌++◌, ℕ, List, [], Option, Result, Bool};
 ghost use Rattle.base_core.specs.Crash.{IsCrashImageIfUndoneNewestFirst, IsCrashImageUnderMap, IsDurableIfUndoneNewestFirst};
 ghost use Rattle.base_core.specs.Faults.{Counts, CountsOnlyRise, IsFaultCountedWithCause, CountsNoNewFault};
-ghost use Rattle.base_core.specs.Files.{Files, NameMap, HaveValidNamesAndBytes, HasNamesAmong};
+ghost use Rattle.base_core.specs.Files.{Files, NameMap, HaveValidNamesAndBytes, HasOnlyNamesAmong};
 ghost use Rattle.base_core.specs.Listed.{AreSortedNamesBelowFolder, IsSortedListingOfFolder, AreSortedNamesInMap};
 ghost use Rattle.base_core.specs.Read.{OnlyReads};
-ghost use Rattle.base_core.specs.Restart.{HasNameLedToFileFromNumber, IsAfterCrashIfUndoneNewestFirst};
-ghost use Rattle.base_core.specs.Tree.{TreeState, IsCurrentOrOlderMap, IsWellFormed, files_of, files_under_map, with_names};
+ghost use Rattle.base_core.specs.Restart.{HasNameLedToFileNumberedAtLeast, IsAfterCrashIfUndoneNewestFirst};
+ghost use Rattle.base_core.specs.Tree.{TreeState, IsCurrentOrOlderMap, IsWellFormed, files_of, files_under_map, with_newer_name_map};
 ghost use Rattle.base_core.specs.Undone.{IsAfterCrash, IsDurable, IsCrashImage, IsCrashMap, with_change_replayed};
 
 // ---- crashes
@@ -78,10 +78,10 @@ pub fn a_crash_may_undo_any_changes()
         → IsCrashImage v (files_under_map v map) }
     // After one more change of names, a crash may leave any map that it could leave before.
     ensures undone { (v : TreeState) (names map : NameMap) → IsCrashMap v map
-        → IsCrashMap (with_names v names) map }
+        → IsCrashMap (with_newer_name_map v names) map }
     // After one more change of names, a crash may leave such a map with this change replayed.
     ensures kept { (v : TreeState) (names map : NameMap) → IsCrashMap v map
-        → IsCrashMap (with_names v names) (with_change_replayed v.names names map) }
+        → IsCrashMap (with_newer_name_map v names) (with_change_replayed v.names names map) }
 {}
 
 /// A crash that undoes only the newest changes of names is a special case of a crash, which may
@@ -162,7 +162,7 @@ pub fn a_folder_has_one_listing()
 /// state is such a map.
 pub fn a_map_has_one_list_of_names()
     // If all names of the map are in the list `within`, there is a sorted list of its names.
-    ensures exists { (map : NameMap) (within : List (List ℕ)) → HasNamesAmong within map
+    ensures exists { (map : NameMap) (within : List (List ℕ)) → HasOnlyNamesAmong within map
         → (names : List (List ℕ)) × AreSortedNamesInMap map names }
     // Two lists of the names in one map are equal.
     ensures one { (map : NameMap) (a b : List (List ℕ)) → AreSortedNamesInMap map a
@@ -173,7 +173,7 @@ pub fn a_map_has_one_list_of_names()
 /// Files under finitely many names have exactly one list of their names.
 pub fn files_have_one_list_of_names()
     // If all names of the files are in the list `within`, there is a sorted list of their names.
-    ensures exists { (files : Files) (within : List (List ℕ)) → HasNamesAmong within files
+    ensures exists { (files : Files) (within : List (List ℕ)) → HasOnlyNamesAmong within files
         → (names : List (List ℕ)) × AreSortedNamesInMap files names }
     // Two lists of the names of the same files are equal.
     ensures one { (files : Files) (a b : List (List ℕ)) → AreSortedNamesInMap files a
@@ -197,7 +197,7 @@ pub fn the_files_of_a_well_formed_state_are_named_files()
     ensures read { (v : TreeState) → IsWellFormed v → HaveValidNamesAndBytes (files_of v) }
     // The files as read are finitely many.
     ensures finite { (v : TreeState) → IsWellFormed v → (names : List (List ℕ))
-        × HasNamesAmong names (files_of v) }
+        × HasOnlyNamesAmong names (files_of v) }
 {}
 
 // ---- calls in a row
@@ -234,15 +234,16 @@ pub fn consecutive_reads_compose<A, B, E>()
         → OnlyReads disk_fault h0 h2 a c then }
 {}
 
-/// `HasNameLedToFileFromNumber name b moments` says that at one of these moments the name led to a
+/// `HasNameLedToFileNumberedAtLeast name b moments` says that at one of these moments the name led to a
 /// file whose number is `b` or larger. Then this also holds for each smaller number (`begun`), and
 /// for a longer list of moments (`later`).
 pub fn a_file_made_in_a_run_was_made_in_an_earlier_one()
     // If a is at most b, a number that is at least b is at least a.
     ensures begun { (name : List ℕ) (a b : ℕ) (moments : List TreeState) → a ≤ b
-        → HasNameLedToFileFromNumber name b moments → HasNameLedToFileFromNumber name a moments }
+        → HasNameLedToFileNumberedAtLeast name b moments
+        → HasNameLedToFileNumberedAtLeast name a moments }
     // If this holds of some moments, it also holds of these with the moments `later`.
     ensures later { (name : List ℕ) (made : ℕ) (later moments : List TreeState)
-        → HasNameLedToFileFromNumber name made moments
-        → HasNameLedToFileFromNumber name made (later ++ moments) }
+        → HasNameLedToFileNumberedAtLeast name made moments
+        → HasNameLedToFileNumberedAtLeast name made (later ++ moments) }
 {}

@@ -5,7 +5,7 @@ use Rattle.std.specs.Prelude.{option_to_list}
 use Rattle.adb_view.specs.Plain.{Plain, Plains, none, more}
 use Rattle.adb_view.specs.Values.{count_of, nth}
 use Rattle.dep_core.specs.Dependency.{Dependency}
-use Rattle.candidate_core.specs.Candidates.{dependency_in, dependencies_of}
+use Rattle.candidate_core.specs.Candidates.{dependency_in, dependencies_among_values}
 
 abbrev pub dependencies_to : ℕ → Plains → List Dependency
 dependencies_to zero values = []
@@ -40,6 +40,6 @@ read_step n values value found before after h is_value is_found is_before is_aft
     let v : value ≡ nth values n = is_value ∙ ap (nth values) e in
     is_after ∙ (ap (λ xs. xs ++ option_to_list found) is_before ∙ (ap (λ d. dependencies_to n values ++ option_to_list d) (is_found ∙ ap dependency_in v) ∙ sym (dependencies_step n values h)))
 
-pub all_dependencies : (values : Plains) → dependencies_to (count_of values) values ≡ dependencies_of values
+pub all_dependencies : (values : Plains) → dependencies_to (count_of values) values ≡ dependencies_among_values values
 all_dependencies none = refl
 all_dependencies (more value values) = ap (cons_option (dependency_in value)) (all_dependencies values)

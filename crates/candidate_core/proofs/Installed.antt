@@ -7,26 +7,26 @@ use Rattle.std.specs.List.{list_any}
 use Rattle.std.specs.Str.{bytes_eq}
 use Rattle.std.proofs.lemmas.Bool.{cases_Bool}
 use Rattle.base_core.proofs.Booleans.{both_second, both_first}
-use Rattle.candidate_core.specs.Candidates.{Candidate, as_installed, as_installed_where_same, is_same_package, offers_name, with_installed}
+use Rattle.candidate_core.specs.Candidates.{Candidate, as_installed, marked_installed_where_same_as, is_same_package, offers_name, with_installed_marked_or_added}
 use Rattle.candidate_core.specs.CandidateList.{is_installed_package_at, marked_installed_if_same_at}
-use Rattle.candidate_core.specs.Options.{places_passing_from}
+use Rattle.candidate_core.specs.Options.{places_passing_counted_from}
 use Rattle.candidate_core.specs.Packages.{marked_installed_at}
 
-pub length-as_installed_where_same : (installed : Candidate) (cs : List Candidate) → length (as_installed_where_same installed cs) ≡ length cs
-length-as_installed_where_same installed [] = refl
-length-as_installed_where_same installed (c ∷ cs) = ap suc (length-as_installed_where_same installed cs)
+pub length-marked_installed_where_same_as : (installed : Candidate) (cs : List Candidate) → length (marked_installed_where_same_as installed cs) ≡ length cs
+length-marked_installed_where_same_as installed [] = refl
+length-marked_installed_where_same_as installed (c ∷ cs) = ap suc (length-marked_installed_where_same_as installed cs)
 
-pub counted_once : (cs : List Candidate) (installed : Candidate) → list_any (is_same_package installed) cs ≡ true → length (with_installed cs installed) ≡ length cs
-counted_once cs installed h = rw h (length-as_installed_where_same installed cs)
+pub counted_once : (cs : List Candidate) (installed : Candidate) → list_any (is_same_package installed) cs ≡ true → length (with_installed_marked_or_added cs installed) ≡ length cs
+counted_once cs installed h = rw h (length-marked_installed_where_same_as installed cs)
 
-pub stands_last : (cs : List Candidate) (installed : Candidate) → list_any (is_same_package installed) cs ≡ false → with_installed cs installed ≡ cs ++ installed ∷ []
+pub stands_last : (cs : List Candidate) (installed : Candidate) → list_any (is_same_package installed) cs ≡ false → with_installed_marked_or_added cs installed ≡ cs ++ installed ∷ []
 stands_last cs installed h = rw h refl
 
 offers_still : (name : List ℕ) (installed c : Candidate) → offers_name name (if is_same_package installed c then as_installed c else c) ≡ offers_name name c
 offers_still name installed c = elim (cases_Bool (is_same_package installed c)) [ inl e ↦ rw e refl | inr e ↦ rw e refl ]
 
 -- a candidate offers what it offered
-pub places_still : (name : List ℕ) (installed : Candidate) (n : ℕ) (cs : List Candidate) → places_passing_from n (offers_name name) (as_installed_where_same installed cs) ≡ places_passing_from n (offers_name name) cs
+pub places_still : (name : List ℕ) (installed : Candidate) (n : ℕ) (cs : List Candidate) → places_passing_counted_from n (offers_name name) (marked_installed_where_same_as installed cs) ≡ places_passing_counted_from n (offers_name name) cs
 places_still name installed n [] = refl
 places_still name installed n (c ∷ cs) =
     let rest = places_still name installed (suc n) cs in
@@ -61,24 +61,24 @@ not_same installed c h = elim (cases_Bool (is_same_package installed c)) [
   | inr e ↦ e
 ]
 
-marked_after : (installed : Candidate) (front cs : List Candidate) → marked_among installed (places_passing_from (length front) (offers_name installed.name) cs) (front ++ cs) ≡ front ++ as_installed_where_same installed cs
+marked_after : (installed : Candidate) (front cs : List Candidate) → marked_among installed (places_passing_counted_from (length front) (offers_name installed.name) cs) (front ++ cs) ≡ front ++ marked_installed_where_same_as installed cs
 marked_after installed front [] = refl
 marked_after installed front (c ∷ cs) =
     let test = offers_name installed.name in
     let new : Candidate = if is_same_package installed c then as_installed c else c in
     let len : length (front ++ new ∷ []) ≡ suc (length front) = simp length-append (omega arith) in
-    let rest : marked_among installed (places_passing_from (suc (length front)) test cs) (front ++ new ∷ cs) ≡ front ++ new ∷ as_installed_where_same installed cs =
-    subst (λ (n : ℕ). marked_among installed (places_passing_from n test cs) (front ++ new ∷ cs) ≡ front ++ new ∷ as_installed_where_same installed cs) len
-    (subst (λ (z : List Candidate). marked_among installed (places_passing_from (length (front ++ new ∷ [])) test cs) z ≡ front ++ new ∷ as_installed_where_same installed cs) (append_assoc front (new ∷ []) cs)
-    (marked_after installed (front ++ new ∷ []) cs ∙ append_assoc front (new ∷ []) (as_installed_where_same installed cs))) in
+    let rest : marked_among installed (places_passing_counted_from (suc (length front)) test cs) (front ++ new ∷ cs) ≡ front ++ new ∷ marked_installed_where_same_as installed cs =
+    subst (λ (n : ℕ). marked_among installed (places_passing_counted_from n test cs) (front ++ new ∷ cs) ≡ front ++ new ∷ marked_installed_where_same_as installed cs) len
+    (subst (λ (z : List Candidate). marked_among installed (places_passing_counted_from (length (front ++ new ∷ [])) test cs) z ≡ front ++ new ∷ marked_installed_where_same_as installed cs) (append_assoc front (new ∷ []) cs)
+    (marked_after installed (front ++ new ∷ []) cs ∙ append_assoc front (new ∷ []) (marked_installed_where_same_as installed cs))) in
     elim (cases_Bool (test c)) [
-      | inl e ↦ rw e (ap (marked_among installed (places_passing_from (suc (length front)) test cs)) (at_front installed c front cs) ∙ rest)
+      | inl e ↦ rw e (ap (marked_among installed (places_passing_counted_from (suc (length front)) test cs)) (at_front installed c front cs) ∙ rest)
       | inr e ↦
           let same : c ≡ new = sym (rw (not_same installed c e) refl) in
-          rw e (ap (λ (k : Candidate). marked_among installed (places_passing_from (suc (length front)) test cs) (front ++ k ∷ cs)) same ∙ rest)
+          rw e (ap (λ (k : Candidate). marked_among installed (places_passing_counted_from (suc (length front)) test cs) (front ++ k ∷ cs)) same ∙ rest)
     ]
 
-pub marked_all : (installed : Candidate) (cs : List Candidate) → marked_among installed (places_passing_from 0 (offers_name installed.name) cs) cs ≡ as_installed_where_same installed cs
+pub marked_all : (installed : Candidate) (cs : List Candidate) → marked_among installed (places_passing_counted_from 0 (offers_name installed.name) cs) cs ≡ marked_installed_where_same_as installed cs
 marked_all installed cs = marked_after installed [] cs
 
 same_still : (installed c : Candidate) → is_same_package installed (if is_same_package installed c then as_installed c else c) ≡ is_same_package installed c
@@ -95,7 +95,7 @@ pub same_among_still : (installed : Candidate) (ks : List ℕ) (cs : List Candid
 same_among_still installed [] cs k = refl
 same_among_still installed (j ∷ ks) cs k = same_among_still installed ks (marked_installed_if_same_at installed j cs) k ∙ same_at_still installed j cs k
 
-any_places : (weak strong : Candidate → Bool) (all : ℕ → Option Candidate) (n : ℕ) (cs : List Candidate) → ((c : Candidate) → strong c ≡ true → weak c ≡ true) → ((k : ℕ) → all (n + k) ≡ slice_get cs k) → list_any (λ k. option_map_or strong (all k) false) (places_passing_from n weak cs) ≡ list_any strong cs
+any_places : (weak strong : Candidate → Bool) (all : ℕ → Option Candidate) (n : ℕ) (cs : List Candidate) → ((c : Candidate) → strong c ≡ true → weak c ≡ true) → ((k : ℕ) → all (n + k) ≡ slice_get cs k) → list_any (λ k. option_map_or strong (all k) false) (places_passing_counted_from n weak cs) ≡ list_any strong cs
 any_places weak strong all n [] to there = refl
 any_places weak strong all n (c ∷ cs) to there =
     let z : n + 0 ≡ n = omega arith in
@@ -110,7 +110,7 @@ any_places weak strong all n (c ∷ cs) to there =
       ]
     ]
 
-pub any_same : (installed : Candidate) (cs : List Candidate) → list_any (is_installed_package_at installed cs) (places_passing_from 0 (offers_name installed.name) cs) ≡ list_any (is_same_package installed) cs
+pub any_same : (installed : Candidate) (cs : List Candidate) → list_any (is_installed_package_at installed cs) (places_passing_counted_from 0 (offers_name installed.name) cs) ≡ list_any (is_same_package installed) cs
 any_same installed cs =
     any_places (offers_name installed.name) (is_same_package installed) (λ k. slice_get cs k) 0 cs (same_is_named installed) (λ k. ap (slice_get cs) (omega arith))
 
@@ -139,7 +139,7 @@ pub length-marked_among : (installed : Candidate) (ks : List ℕ) (cs : List Can
 length-marked_among installed [] cs = refl
 length-marked_among installed (k ∷ ks) cs = length-marked_among installed ks (marked_installed_if_same_at installed k cs) ∙ length-marked_installed_if_same_at installed k cs
 
-pub none_same : (installed : Candidate) (cs : List Candidate) → list_any (is_same_package installed) cs ≡ false → as_installed_where_same installed cs ≡ cs
+pub none_same : (installed : Candidate) (cs : List Candidate) → list_any (is_same_package installed) cs ≡ false → marked_installed_where_same_as installed cs ≡ cs
 none_same installed [] h = refl
 none_same installed (c ∷ cs) h = elim (cases_Bool (is_same_package installed c)) [
   | inl e ↦ let bad : true ≡ false = rw e at h in absurd (cc)

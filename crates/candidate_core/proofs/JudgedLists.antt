@@ -12,7 +12,7 @@ use Rattle.adb_view.specs.Values.{count_of, entry_in, int_in, nth, text_in}
 use Rattle.dep_core.specs.Dependency.{Dependency, is_dep_name}
 use Rattle.dep_core.specs.Value.{is_match_number, is_version_or_empty}
 use Rattle.dep_core.specs.ValueReading.{dependency_of_value}
-use Rattle.candidate_core.specs.Candidates.{dependency_in, dependencies_of}
+use Rattle.candidate_core.specs.Candidates.{dependency_in, dependencies_among_values}
 use Rattle.candidate_core.proofs.DependencyLists.{dependencies_step, dependencies_to}
 
 -- ---- judged entries
@@ -44,16 +44,16 @@ nothing_at : (k : ℕ) (d : Dependency) (ys : List Dependency) → slice_get not
 nothing_at zero d ys h = absurd (cc)
 nothing_at (suc k) d ys h = absurd (cc)
 
-front_get : (n k : ℕ) (values : Plains) (d : Dependency) → slice_get (dependencies_to n values) k ≡ Some d → slice_get (dependencies_of values) k ≡ Some d
-front_get zero k values d h = nothing_at k d (dependencies_of values) h
+front_get : (n k : ℕ) (values : Plains) (d : Dependency) → slice_get (dependencies_to n values) k ≡ Some d → slice_get (dependencies_among_values values) k ≡ Some d
+front_get zero k values d h = nothing_at k d (dependencies_among_values values) h
 front_get (suc n) k none d h = nothing_at k d [] h
-front_get (suc n) k (more v vs) d h = behind (dependency_in v) (dependencies_to n vs) (dependencies_of vs) k d h (λ j g. front_get n j vs d g)
+front_get (suc n) k (more v vs) d h = behind (dependency_in v) (dependencies_to n vs) (dependencies_among_values vs) k d h (λ j g. front_get n j vs d g)
 
 at_end : (xs : List Dependency) (d : Dependency) → slice_get (xs ++ d ∷ []) (length xs) ≡ Some d
 at_end [] d = refl
 at_end (x ∷ xs) d = at_end xs d
 
-pub stands_at : (n : ℕ) (values : Plains) (value : Plain) (d : Dependency) (place : ℕ) → n < count_of values → value ≡ nth values ((n + 1) - 1) → Some d ≡ dependency_in value → place ≡ length (dependencies_to n values) → slice_get (dependencies_of values) place ≡ Some d
+pub stands_at : (n : ℕ) (values : Plains) (value : Plain) (d : Dependency) (place : ℕ) → n < count_of values → value ≡ nth values ((n + 1) - 1) → Some d ≡ dependency_in value → place ≡ length (dependencies_to n values) → slice_get (dependencies_among_values values) place ≡ Some d
 stands_at n values value d place h at is was =
     front_get (n + 1) place values d
     (ap (λ (xs : List Dependency). slice_get xs place) (next_is n values value (Some d) h at is)
@@ -96,17 +96,17 @@ past_front (Some d) xs i h = refl
 abbrev pub AreSound : Plains → Type 0
 AreSound values = (i : ℕ) → i < count_of values → IsSoundDependency (nth values i)
 
-pub sound_count : (values : Plains) → AreSound values → length (dependencies_of values) ≡ count_of values
+pub sound_count : (values : Plains) → AreSound values → length (dependencies_among_values values) ≡ count_of values
 sound_count none s = refl
 sound_count (more v vs) s =
-    one_longer (dependency_in v) (dependencies_of vs) (some_of v (s 0 (omega arith)))
+    one_longer (dependency_in v) (dependencies_among_values vs) (some_of v (s 0 (omega arith)))
     ∙ ap suc (sound_count vs (λ i h. s (suc i) (omega (arith, h))))
 
-pub sound_at : (values : Plains) (i : ℕ) → AreSound values → i < count_of values → slice_get (dependencies_of values) i ≡ dependency_in (nth values i)
+pub sound_at : (values : Plains) (i : ℕ) → AreSound values → i < count_of values → slice_get (dependencies_among_values values) i ≡ dependency_in (nth values i)
 sound_at none i s h = absurd (omega (arith, h))
-sound_at (more v vs) zero s h = at_front (dependency_in v) (dependencies_of vs) (some_of v (s 0 h))
+sound_at (more v vs) zero s h = at_front (dependency_in v) (dependencies_among_values vs) (some_of v (s 0 h))
 sound_at (more v vs) (suc i) s h =
-    past_front (dependency_in v) (dependencies_of vs) i (some_of v (s 0 (omega (arith, h))))
+    past_front (dependency_in v) (dependencies_among_values vs) i (some_of v (s 0 (omega (arith, h))))
     ∙ sound_at vs i (λ j g. s (suc j) (omega (arith, g))) (omega (arith, h))
 
 pub some_mapped : {X Y : Type 0} (f : X → Y) (o : Option X) → is_some o ≡ true → is_some (option_map f o) ≡ true

@@ -5,7 +5,7 @@ use Rattle.std.specs.Option.{option_map_or}
 use Rattle.std.proofs.lemmas.Bool.{cases_Bool}
 use Rattle.candidate_core.specs.Candidates.{Candidate, offers_name}
 use Rattle.candidate_core.specs.Rank.{SealedPool, candidate_at_passes}
-use Rattle.candidate_core.specs.Options.{IsIn, AreStrictlyIncreasing, places_passing_from, places_offering}
+use Rattle.candidate_core.specs.Options.{IsIn, AreStrictlyIncreasing, places_passing_counted_from, places_offering}
 use Rattle.candidate_core.proofs.OptionLists.{in_places, places_above, places_in}
 
 below_length : (test : Candidate → Bool) (cs : List Candidate) (k : ℕ) → option_map_or test (slice_get cs k) false ≡ true → k < length cs
@@ -26,7 +26,7 @@ offers_each pool name c h =
     let z : 0 + c ≡ c = omega arith in
     subst (λ (k : ℕ). IsIn k (places_offering name pool.candidates)) z (in_places 0 (offers_name name) pool.candidates c h)
 
-pub places_rising : (n : ℕ) (test : Candidate → Bool) (cs : List Candidate) → AreStrictlyIncreasing (places_passing_from n test cs)
+pub places_rising : (n : ℕ) (test : Candidate → Bool) (cs : List Candidate) → AreStrictlyIncreasing (places_passing_counted_from n test cs)
 places_rising n test [] = tt
 places_rising n test (c ∷ cs) = elim (cases_Bool (test c)) [
   | inl e ↦ rw e ((λ d h. let r = places_above (suc n) test cs d h in omega arith), places_rising (suc n) test cs)
@@ -34,7 +34,7 @@ places_rising n test (c ∷ cs) = elim (cases_Bool (test c)) [
 ]
 
 -- one more candidate at the end
-pub places_more : (n : ℕ) (test : Candidate → Bool) (cs : List Candidate) (d : Candidate) → places_passing_from n test (cs ++ d ∷ []) ≡ places_passing_from n test cs ++ (if test d then (n + length cs) ∷ [] else [])
+pub places_more : (n : ℕ) (test : Candidate → Bool) (cs : List Candidate) (d : Candidate) → places_passing_counted_from n test (cs ++ d ∷ []) ≡ places_passing_counted_from n test cs ++ (if test d then (n + length cs) ∷ [] else [])
 places_more n test [] d =
     let z : n ≡ n + 0 = omega arith in
     elim (cases_Bool (test d)) [
@@ -43,20 +43,20 @@ places_more n test [] d =
     ]
 places_more n test (c ∷ cs) d =
     let z : suc n + length cs ≡ n + suc (length cs) = omega arith in
-    let rest : places_passing_from (suc n) test (cs ++ d ∷ []) ≡ places_passing_from (suc n) test cs ++ (if test d then (n + suc (length cs)) ∷ [] else []) =
-    subst (λ (k : ℕ). places_passing_from (suc n) test (cs ++ d ∷ []) ≡ places_passing_from (suc n) test cs ++ (if test d then k ∷ [] else [])) z (places_more (suc n) test cs d) in
+    let rest : places_passing_counted_from (suc n) test (cs ++ d ∷ []) ≡ places_passing_counted_from (suc n) test cs ++ (if test d then (n + suc (length cs)) ∷ [] else []) =
+    subst (λ (k : ℕ). places_passing_counted_from (suc n) test (cs ++ d ∷ []) ≡ places_passing_counted_from (suc n) test cs ++ (if test d then k ∷ [] else [])) z (places_more (suc n) test cs d) in
     elim (cases_Bool (test c)) [
       | inl e ↦ rw e (ap (λ (z : List ℕ). n ∷ z) rest)
       | inr e ↦ rw e rest
     ]
 
-pub places_below : (n : ℕ) (test : Candidate → Bool) (cs : List Candidate) (o : ℕ) → IsIn o (places_passing_from n test cs) → o < n + length cs
+pub places_below : (n : ℕ) (test : Candidate → Bool) (cs : List Candidate) (o : ℕ) → IsIn o (places_passing_counted_from n test cs) → o < n + length cs
 places_below n test cs o h =
     let r = places_in n test cs o h in
     let b = below_length test cs r.0 r.2 in
     omega (arith, r.1, b)
 
-pub places_snoc : (test : Candidate → Bool) (cs : List Candidate) (d : Candidate) → places_passing_from 0 test (cs ++ d ∷ []) ≡ places_passing_from 0 test cs ++ (if test d then length cs ∷ [] else [])
+pub places_snoc : (test : Candidate → Bool) (cs : List Candidate) (d : Candidate) → places_passing_counted_from 0 test (cs ++ d ∷ []) ≡ places_passing_counted_from 0 test cs ++ (if test d then length cs ∷ [] else [])
 places_snoc test cs d =
     let z : 0 + length cs ≡ length cs = omega arith in
-    subst (λ (k : ℕ). places_passing_from 0 test (cs ++ d ∷ []) ≡ places_passing_from 0 test cs ++ (if test d then k ∷ [] else [])) z (places_more 0 test cs d)
+    subst (λ (k : ℕ). places_passing_counted_from 0 test (cs ++ d ∷ []) ≡ places_passing_counted_from 0 test cs ++ (if test d then k ∷ [] else [])) z (places_more 0 test cs d)

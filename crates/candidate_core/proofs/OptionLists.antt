@@ -10,7 +10,7 @@ use Rattle.std.proofs.lemmas.Bool.{cases_Bool}
 use Rattle.base_core.proofs.Orderings.{is_less}
 use Rattle.candidate_core.specs.Candidates.{Candidate, Need, is_eligible, meets_need}
 use Rattle.candidate_core.specs.Rank.{SealedPool, candidate_at, candidate_cmp, is_better, is_eligible_at, meets_at, rank_cmp}
-use Rattle.candidate_core.specs.Options.{AreDistinct, IsIn, IsSortedBestFirst, is_eligible_for_need, options_for, places_passing_from, insert_by_rank, rank_order_of}
+use Rattle.candidate_core.specs.Options.{AreDistinct, IsIn, IsSortedBestFirst, is_eligible_for_need, options_for, places_passing_counted_from, insert_by_rank, rank_order_of}
 
 -- ---- what is put among ranked ones
 
@@ -58,34 +58,34 @@ module _ (better : ℕ → ℕ → Bool) (chain : (a b c : ℕ) → better a b �
 
 -- ---- places
 
-pub places_above : (n : ℕ) (test : Candidate → Bool) (cs : List Candidate) (o : ℕ) → IsIn o (places_passing_from n test cs) → n ≤ o
+pub places_above : (n : ℕ) (test : Candidate → Bool) (cs : List Candidate) (o : ℕ) → IsIn o (places_passing_counted_from n test cs) → n ≤ o
 places_above n test [] o h = absurd h
 places_above n test (c ∷ cs) o h = elim (cases_Bool (test c)) [
   | inl e ↦ elim (rw e at h) [ inl q ↦ omega arith | inr k ↦ let r = places_above (suc n) test cs o k in omega arith ]
   | inr e ↦ let r = places_above (suc n) test cs o (rw e at h) in omega arith
 ]
 
-pub places_apart : (n : ℕ) (test : Candidate → Bool) (cs : List Candidate) → AreDistinct (places_passing_from n test cs)
+pub places_apart : (n : ℕ) (test : Candidate → Bool) (cs : List Candidate) → AreDistinct (places_passing_counted_from n test cs)
 places_apart n test [] = tt
 places_apart n test (c ∷ cs) = elim (cases_Bool (test c)) [
   | inl e ↦ rw e ((λ h. let r = places_above (suc n) test cs n h in absurd (omega arith)), places_apart (suc n) test cs)
   | inr e ↦ rw e (places_apart (suc n) test cs)
 ]
 
-pub in_places : (n : ℕ) (test : Candidate → Bool) (cs : List Candidate) (k : ℕ) → option_map_or test (slice_get cs k) false ≡ true → IsIn (n + k) (places_passing_from n test cs)
+pub in_places : (n : ℕ) (test : Candidate → Bool) (cs : List Candidate) (k : ℕ) → option_map_or test (slice_get cs k) false ≡ true → IsIn (n + k) (places_passing_counted_from n test cs)
 in_places n test [] zero h = absurd (cc)
 in_places n test [] (suc k) h = absurd (cc)
 in_places n test (c ∷ cs) zero h =
     let z : n + 0 ≡ n = omega arith in
-    subst (λ (o : ℕ). IsIn o (places_passing_from n test (c ∷ cs))) (sym z) (rw h (inl refl))
+    subst (λ (o : ℕ). IsIn o (places_passing_counted_from n test (c ∷ cs))) (sym z) (rw h (inl refl))
 in_places n test (c ∷ cs) (suc k) h =
     let z : n + suc k ≡ suc n + k = omega arith in
-    subst (λ (o : ℕ). IsIn o (places_passing_from n test (c ∷ cs))) (sym z) (elim (cases_Bool (test c)) [
+    subst (λ (o : ℕ). IsIn o (places_passing_counted_from n test (c ∷ cs))) (sym z) (elim (cases_Bool (test c)) [
       | inl e ↦ rw e (inr (in_places (suc n) test cs k h))
       | inr e ↦ rw e (in_places (suc n) test cs k h)
     ])
 
-pub places_in : (n : ℕ) (test : Candidate → Bool) (cs : List Candidate) (o : ℕ) → IsIn o (places_passing_from n test cs) → (k : ℕ) × (o ≡ n + k) × (option_map_or test (slice_get cs k) false ≡ true)
+pub places_in : (n : ℕ) (test : Candidate → Bool) (cs : List Candidate) (o : ℕ) → IsIn o (places_passing_counted_from n test cs) → (k : ℕ) × (o ≡ n + k) × (option_map_or test (slice_get cs k) false ≡ true)
 places_in n test [] o h = absurd h
 places_in n test (c ∷ cs) o h = elim (cases_Bool (test c)) [
   | inl e ↦ elim (rw e at h) [
@@ -135,13 +135,13 @@ module _ (pool : SealedPool) (need : Need) (total : IsTotalOrder (rank_cmp pool 
   pub options_ranked : IsSortedBestFirst (is_better pool need) (options_for pool need)
   unfolding options_for
   options_ranked =
-      let places = places_passing_from 0 (is_eligible_for_need pool need) pool.candidates in
+      let places = places_passing_counted_from 0 (is_eligible_for_need pool need) pool.candidates in
       ranked_keeps (is_better pool need) chain one_of places (places_apart 0 (is_eligible_for_need pool need) pool.candidates)
 
 pub options_those : (pool : SealedPool) (need : Need) (c : ℕ) → IsIn c (options_for pool need) → (is_eligible_at pool c ≡ true) × (meets_at pool c need ≡ true)
 unfolding options_for
 options_those pool need c h =
-    let places = places_passing_from 0 (is_eligible_for_need pool need) pool.candidates in
+    let places = places_passing_counted_from 0 (is_eligible_for_need pool need) pool.candidates in
     let r = places_in 0 (is_eligible_for_need pool need) pool.candidates c (ranked_in (is_better pool need) c places h) in
     let z : r.0 ≡ c = omega (arith, r.1) in
     both_at (is_eligible pool.world) (meets_need need) (slice_get pool.candidates c) (subst (λ (k : ℕ). option_map_or (is_eligible_for_need pool need) (slice_get pool.candidates k) false ≡ true) z r.2)
@@ -149,6 +149,6 @@ options_those pool need c h =
 pub options_each : (pool : SealedPool) (need : Need) (c : ℕ) → is_eligible_at pool c ≡ true → meets_at pool c need ≡ true → IsIn c (options_for pool need)
 unfolding options_for
 options_each pool need c eligible meets =
-    let places = places_passing_from 0 (is_eligible_for_need pool need) pool.candidates in
+    let places = places_passing_counted_from 0 (is_eligible_for_need pool need) pool.candidates in
     let z : 0 + c ≡ c = omega arith in
     in_ranked (is_better pool need) c places (subst (λ (k : ℕ). IsIn k places) z (in_places 0 (is_eligible_for_need pool need) pool.candidates c (at_both (is_eligible pool.world) (meets_need need) (slice_get pool.candidates c) eligible meets)))

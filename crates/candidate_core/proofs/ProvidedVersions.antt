@@ -9,14 +9,14 @@ use Rattle.adb_view.specs.Values.{count_of, entry_in, int_in, nth, text_in}
 use Rattle.dep_core.specs.Dependency.{Dependency, is_dep_name}
 use Rattle.dep_core.specs.Reading.{dependency_on_any_version}
 use Rattle.dep_core.specs.Value.{is_match_number, is_version_or_empty}
-use Rattle.dep_core.specs.ValueReading.{dependency_of_value, with_wanted_version}
-use Rattle.candidate_core.specs.Candidates.{dependencies_of, dependency_in}
+use Rattle.dep_core.specs.ValueReading.{dependency_of_value, with_wanted_version_if_any}
+use Rattle.candidate_core.specs.Candidates.{dependencies_among_values, dependency_in}
 use Rattle.candidate_core.proofs.DependencyLists.{dependencies_step, dependencies_to}
 use Rattle.candidate_core.proofs.LoopTests.{found_snoc}
 
 -- ---- texts
 
-constraint_text : (conflict : Bool) (name text : List ℕ) (bits : Option ℕ) → IfSome (with_wanted_version (dependency_on_any_version conflict name) text bits).version (λ v. v ≡ text)
+constraint_text : (conflict : Bool) (name text : List ℕ) (bits : Option ℕ) → IfSome (with_wanted_version_if_any (dependency_on_any_version conflict name) text bits).version (λ v. v ≡ text)
 constraint_text conflict name [] bits = tt
 constraint_text conflict name (b ∷ rest) None = tt
 constraint_text conflict name (b ∷ rest) (Some bits) = refl
@@ -48,10 +48,10 @@ module _ (p : Dependency → Bool) where
     | inr e ↦ rw e (to (rw e at h))
   ]
 
-  found_in_front : (n : ℕ) (values : Plains) (d : Dependency) → find p (dependencies_to n values) ≡ Some d → find p (dependencies_of values) ≡ Some d
+  found_in_front : (n : ℕ) (values : Plains) (d : Dependency) → find p (dependencies_to n values) ≡ Some d → find p (dependencies_among_values values) ≡ Some d
   found_in_front zero values d h = let bad : None ≡ Some d = h in absurd (cc)
   found_in_front (suc n) none d h = let bad : None ≡ Some d = h in absurd (cc)
-  found_in_front (suc n) (more v vs) d h = in_front (dependency_in v) (dependencies_to n vs) (dependencies_of vs) d (found_in_front n vs d) h
+  found_in_front (suc n) (more v vs) d h = in_front (dependency_in v) (dependencies_to n vs) (dependencies_among_values vs) d (found_in_front n vs d) h
 
   found_last : (xs : List Dependency) (d : Dependency) → find p xs ≡ None → p d ≡ true → find p (xs ++ d ∷ []) ≡ Some d
   found_last [] d n e = rw e refl
@@ -66,7 +66,7 @@ module _ (p : Dependency → Bool) where
       let found : dependency_in (nth values n) ≡ o = sym (is ∙ ap dependency_in (at ∙ ap (nth values) e)) in
       dependencies_step n values h ∙ ap (λ (z : Option Dependency). dependencies_to n values ++ option_to_list z) found
 
-  pub first_found : (n : ℕ) (values : Plains) (value : Plain) (d : Dependency) → n < count_of values → value ≡ nth values ((n + 1) - 1) → Some d ≡ dependency_in value → find p (dependencies_to n values) ≡ None → p d ≡ true → find p (dependencies_of values) ≡ Some d
+  pub first_found : (n : ℕ) (values : Plains) (value : Plain) (d : Dependency) → n < count_of values → value ≡ nth values ((n + 1) - 1) → Some d ≡ dependency_in value → find p (dependencies_to n values) ≡ None → p d ≡ true → find p (dependencies_among_values values) ≡ Some d
   first_found n values value d h at is before passes =
       found_in_front (n + 1) values d (ap (find p) (next_of n values value (Some d) h at is) ∙ found_last (dependencies_to n values) d before passes)
 

@@ -16,7 +16,7 @@ use Rattle.adb_view.specs.Values.{count_of, nth, text_in, value_at}
 use Rattle.adb_view.specs.declared.tables.Kind.TheVariants.{Text}
 use Rattle.dep_core.specs.Dependency.{Dependency}
 use Rattle.dep_core.specs.Meets.{meets}
-use Rattle.candidate_core.specs.Candidates.{Need, dependencies_of, dependency_in, entry, named}
+use Rattle.candidate_core.specs.Candidates.{Need, dependencies_among_values, dependency_in, entry, named}
 use Rattle.candidate_core.specs.Matches.{AreMatchesFor, AreRememberedMatchesOf, GivesTextsOfSource, dependency_accepts, text_place_cmp}
 use Rattle.candidate_core.specs.VersionTexts.{HasVersionTextFrom}
 use Rattle.candidate_core.specs.declared.matches.KnownMatches.{KnownMatches}
@@ -98,10 +98,10 @@ module _ (p : Dependency → Bool) where
     | inr e ↦ rw e (to (rw e at h))
   ]
 
-  any_to : (n : ℕ) (values : Plains) → list_any p (dependencies_to n values) ≡ true → list_any p (dependencies_of values) ≡ true
+  any_to : (n : ℕ) (values : Plains) → list_any p (dependencies_to n values) ≡ true → list_any p (dependencies_among_values values) ≡ true
   any_to zero values h = absurd (true≢false (sym h))
   any_to (suc n) none h = absurd (true≢false (sym h))
-  any_to (suc n) (more v vs) h = any_in_front (dependency_in v) (dependencies_to n vs) (dependencies_of vs) (any_to n vs) h
+  any_to (suc n) (more v vs) h = any_in_front (dependency_in v) (dependencies_to n vs) (dependencies_among_values vs) (any_to n vs) h
 
   -- one entry more is answered
   pub any_next : (n : ℕ) (values : Plains) (value : Plain) (t : Bool) → n < count_of values → value ≡ nth values ((n + 1) - 1) → t ≡ list_any p (option_to_list (dependency_in value)) → list_any p (dependencies_to n values) ≡ false → list_any p (dependencies_to (n + 1) values) ≡ t
@@ -110,5 +110,5 @@ module _ (p : Dependency → Bool) where
       ∙ (list_any-append p (dependencies_to n values) (option_to_list (dependency_in value))
       ∙ (ap (λ b. b || list_any p (option_to_list (dependency_in value))) before ∙ sym is))
 
-  pub any_of_all : (n : ℕ) (values : Plains) (value : Plain) (t : Bool) → n < count_of values → value ≡ nth values ((n + 1) - 1) → t ≡ list_any p (option_to_list (dependency_in value)) → list_any p (dependencies_to n values) ≡ false → t ≡ true → true ≡ list_any p (dependencies_of values)
+  pub any_of_all : (n : ℕ) (values : Plains) (value : Plain) (t : Bool) → n < count_of values → value ≡ nth values ((n + 1) - 1) → t ≡ list_any p (option_to_list (dependency_in value)) → list_any p (dependencies_to n values) ≡ false → t ≡ true → true ≡ list_any p (dependencies_among_values values)
   any_of_all n values value t h at is before passes = sym (any_to (n + 1) values (any_next n values value t h at is before ∙ passes))

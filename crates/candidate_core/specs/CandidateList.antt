@@ -1,7 +1,7 @@
 -- The list of candidates under construction, and how candidates are marked as installed one by one. The rules are in
 -- `docs/selection.md`, "What there is to choose from". The contracts of `Pool` cite *IsCandidateList* and
 -- *candidates_in*. Proofs use *is_installed_package_at* and *marked_installed_if_same_at*: these do for one place of
--- the list what *with_installed* does for all.
+-- the list what *with_installed_marked_or_added* does for all.
 use Rattle.std.specs.Prelude.{◌≤◌, ℕ, zero, suc, Bool, false, if◌then◌else◌, List, [], ◌∷◌, length, Option, Some, None, slice_get}
 use Rattle.std.specs.Option.{option_map_or}
 use Rattle.candidate_core.specs.declared.candidate_list.CandidateList.{CandidateList}

@@ -49,13 +49,14 @@ version_of_text text = if is_version text then Some text else None
 
 -- the dependencies to which these values of an array refer; a value that is no dependency is left out, and no tested
 -- container has one
-abbrev pub dependencies_of : Plains → List Dependency
-dependencies_of none = []
-dependencies_of (more value values) = cons_option (dependency_in value) (dependencies_of values)
+abbrev pub dependencies_among_values : Plains → List Dependency
+dependencies_among_values none = []
+dependencies_among_values (more value values) =
+    cons_option (dependency_in value) (dependencies_among_values values)
 
 -- the dependencies in the value of one field of a package's information, such as its `depends`
-abbrev pub dependencies_in : Plain → List Dependency
-dependencies_in value = dependencies_of (entries_in value)
+abbrev pub dependencies_in_list_value : Plain → List Dependency
+dependencies_in_list_value value = dependencies_among_values (entries_in value)
 
 -- a candidate from its parts, in the order of the fields of *Candidate*
 abbrev pub candidate_from_parts :
@@ -82,8 +83,9 @@ abbrev pub candidate_of : Plain → Option ℕ → Option (List ℕ) → Bool �
 candidate_of info repository tag installed =
     candidate_from_parts info (text_in (entry_in info INFO_NAME))
     (version_of_text (text_in (entry_in info INFO_VERSION)))
-    (text_in (entry_in info INFO_HASHES)) (dependencies_in (entry_in info INFO_DEPENDS))
-    (dependencies_in (entry_in info INFO_PROVIDES)) (dependencies_in (entry_in info INFO_INSTALL_IF))
+    (text_in (entry_in info INFO_HASHES)) (dependencies_in_list_value (entry_in info INFO_DEPENDS))
+    (dependencies_in_list_value (entry_in info INFO_PROVIDES))
+    (dependencies_in_list_value (entry_in info INFO_INSTALL_IF))
     (int_in (entry_in info INFO_PROVIDER_PRIORITY)) repository tag installed
 
 -- ---- the list: the packages of each index, then the installed ones that no index has
@@ -122,17 +124,17 @@ abbrev pub as_installed : Candidate → Candidate
 as_installed c = record c { installed = true }
 
 -- the list, in which each candidate that is the same package as `installed` is marked as installed
-abbrev pub as_installed_where_same : Candidate → List Candidate → List Candidate
-as_installed_where_same installed [] = []
-as_installed_where_same installed (c ∷ cs) =
+abbrev pub marked_installed_where_same_as : Candidate → List Candidate → List Candidate
+marked_installed_where_same_as installed [] = []
+marked_installed_where_same_as installed (c ∷ cs) =
     (if is_same_package installed c then as_installed c else c)
-    ∷ as_installed_where_same installed cs
+    ∷ marked_installed_where_same_as installed cs
 
 -- the list after an installed package was added: the candidates that are the same package are marked as installed; if
 -- there are none, the installed package is appended as a candidate of its own
-abbrev pub with_installed : List Candidate → Candidate → List Candidate
-with_installed cs installed =
-    if list_any (is_same_package installed) cs then as_installed_where_same installed cs
+abbrev pub with_installed_marked_or_added : List Candidate → Candidate → List Candidate
+with_installed_marked_or_added cs installed =
+    if list_any (is_same_package installed) cs then marked_installed_where_same_as installed cs
     else cs ++ installed ∷ []
 
 -- ---- what a candidate meets
@@ -220,8 +222,8 @@ is_eligible world c = is_allowed_by_tags_of_world world c && not (is_barred_by_w
 
 -- whether a candidate has an install-if that can apply: the candidate may be selected, and its install-if has an
 -- entry and no conflict
-abbrev pub has_usable_install_if : List Dependency → Candidate → Bool
-has_usable_install_if world c =
+abbrev pub is_eligible_with_positive_install_if : List Dependency → Candidate → Bool
+is_eligible_with_positive_install_if world c =
     is_eligible world c
     && (not (length c.install_if == 0)
     && list_all (λ (d : Dependency). not d.conflict) c.install_if)

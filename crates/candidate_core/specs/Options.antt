@@ -18,15 +18,16 @@ AreDistinct (c ∷ cs) = (IsIn c cs → ⊥) × AreDistinct cs
 
 -- the places of all candidates of the list that pass a test, in rising order; the first candidate of the list has the
 -- place `n`
-abbrev pub places_passing_from : ℕ → (Candidate → Bool) → List Candidate → List ℕ
-places_passing_from n test [] = []
-places_passing_from n test (c ∷ cs) =
-    if test c then n ∷ places_passing_from (suc n) test cs else places_passing_from (suc n) test cs
+abbrev pub places_passing_counted_from : ℕ → (Candidate → Bool) → List Candidate → List ℕ
+places_passing_counted_from n test [] = []
+places_passing_counted_from n test (c ∷ cs) =
+    if test c then n ∷ places_passing_counted_from (suc n) test cs else places_passing_counted_from
+    (suc n) test cs
 
 -- the offers of a name: the places, counted from 0, of the candidates that are named so or provide
 -- it
 abbrev pub places_offering : List ℕ → List Candidate → List ℕ
-places_offering name candidates = places_passing_from 0 (offers_name name) candidates
+places_offering name candidates = places_passing_counted_from 0 (offers_name name) candidates
 
 -- whether the candidate may be selected and meets the need
 abbrev pub is_eligible_for_need : SealedPool → Need → Candidate → Bool
@@ -47,7 +48,7 @@ rank_order_of better (c ∷ cs) = insert_by_rank better c (rank_order_of better 
 unfoldable pub options_for : SealedPool → Need → List ℕ
 options_for pool need =
     rank_order_of (is_better pool need)
-    (places_passing_from 0 (is_eligible_for_need pool need) pool.candidates)
+    (places_passing_counted_from 0 (is_eligible_for_need pool need) pool.candidates)
 
 -- each place of the list is better than all places after it, where `better` says which of two places is better
 abbrev pub IsSortedBestFirst : (ℕ → ℕ → Bool) → List ℕ → Type 0

@@ -82,8 +82,8 @@ earlier_repository_first_cmp = flip_args (option_cmp (flip_args nat_cmp))
 
 -- Keys 2 to 4. A candidate of a repository without tag is first; then one with the needed name; and then
 -- one that is installed and kept.
-abbrev pub tag_name_kept_cmp : UpgradedNames → Need → Candidate → Candidate → Ordering
-tag_name_kept_cmp upgraded need =
+abbrev pub untagged_then_named_then_kept_cmp : UpgradedNames → Need → Candidate → Candidate → Ordering
+untagged_then_named_then_kept_cmp upgraded need =
     then_cmp (quality_first is_untagged)
     (then_cmp (quality_first (has_needed_name need))
     (quality_first (is_kept_installed upgraded)))
@@ -91,8 +91,8 @@ tag_name_kept_cmp upgraded need =
 -- Keys 5 to 8. The candidate that meets the need under the greater version is first; at equal versions
 -- the one with the greater provider-priority, then the one whose name is less in byte order, and then the
 -- one whose own version is greater.
-abbrev pub version_and_priority_cmp : Need → Candidate → Candidate → Ordering
-version_and_priority_cmp need =
+abbrev pub met_version_priority_name_own_version_cmp : Need → Candidate → Candidate → Ordering
+met_version_priority_name_own_version_cmp need =
     then_cmp (on (version_meeting_need need) greater_version_first_cmp)
     (then_cmp (on (λ (c : Candidate). c.priority) (flip_args nat_cmp))
     (then_cmp (on (λ (c : Candidate). c.name) bytes_cmp)
@@ -108,8 +108,8 @@ version_text_and_repository_cmp =
 -- the order of two candidates by keys 2 to 10, if world pins both of them, or neither of them
 abbrev pub candidate_cmp_after_pinning : UpgradedNames → Need → Candidate → Candidate → Ordering
 candidate_cmp_after_pinning upgraded need =
-    then_cmp (tag_name_kept_cmp upgraded need)
-    (then_cmp (version_and_priority_cmp need) version_text_and_repository_cmp)
+    then_cmp (untagged_then_named_then_kept_cmp upgraded need)
+    (then_cmp (met_version_priority_name_own_version_cmp need) version_text_and_repository_cmp)
 
 -- the order of two candidates by keys 1 to 10, all but the place: candidates that world pins are first
 abbrev pub candidate_cmp : SealedPool → Need → Candidate → Candidate → Ordering

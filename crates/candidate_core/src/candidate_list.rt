@@ -10,7 +10,7 @@ ghost use Rattle.adb_view.specs.declared.tables.Which.TheVariants as Tables;
 ghost use Rattle.adb_view.specs.Adb.{payload_of};
 ghost use Rattle.adb_view.specs.Entries.{array_entries};
 ghost use Rattle.adb_view.specs.Values.{count_of, entries_in, entry_in};
-ghost use Rattle.candidate_core.specs.Candidates.{as_installed_where_same, candidate_of, is_same_package, with_installed};
+ghost use Rattle.candidate_core.specs.Candidates.{marked_installed_where_same_as, candidate_of, is_same_package, with_installed_marked_or_added};
 ghost use Rattle.candidate_core.specs.Options.{places_offering};
 ghost use Rattle.candidate_core.specs.CandidateList.{IsCandidateList, is_installed_package_at, marked_installed_if_same_at};
 ghost use Rattle.candidate_core.specs.PackageWords.{IsPackageWordOf};
@@ -155,12 +155,14 @@ impl<'a> CandidateList<'a> {
         ensures list { OnOk result (IsCandidateList self.new) }
         // The list then has the installed package: the candidates that are the same package are
         // marked, or the installed package is a candidate of its own.
-        ensures pushed { OnOk result (candidates_of_packages self.new.packages ≡ with_installed
+        ensures pushed { OnOk result (candidates_of_packages self.new.packages
+            ≡ with_installed_marked_or_added
             (candidates_of_packages self.old.packages)
             (candidate_of (info_value info.entry) None None true)) }
         // A refusal for too many candidates is right for the number of candidates that the list
         // would have.
-        ensures fault { IfErr result (λ fault. IsPoolFault fault (length (with_installed
+        ensures fault { IfErr result (λ fault. IsPoolFault fault (length
+            (with_installed_marked_or_added
             (candidates_of_packages self.old.packages)
             (candidate_of (info_value info.entry) None None true)))) }
     {
@@ -186,7 +188,7 @@ impl<'a> CandidateList<'a> {
         ensures list { IsCandidateList self.new }
         ensures some { result ≡ list_any (is_same_package installed.now)
             (candidates_of_packages self.old.packages) }
-        ensures same { candidates_of_packages self.new.packages ≡ as_installed_where_same
+        ensures same { candidates_of_packages self.new.packages ≡ marked_installed_where_same_as
             installed.now (candidates_of_packages self.old.packages) }
     {
         mark_among(
@@ -205,7 +207,8 @@ fn mark_among<'a>(packages: &mut Packages<'a>, ids: &[CandId], installed: &Detai
         ≡ places_offering installed.now.name (candidates_of_packages packages.old) }
     ensures some { result ≡ list_any (is_same_package installed.now)
         (candidates_of_packages packages.old) }
-    ensures same { candidates_of_packages packages.new ≡ as_installed_where_same installed.now
+    ensures same { candidates_of_packages packages.new
+        ≡ marked_installed_where_same_as installed.now
         (candidates_of_packages packages.old) }
 {
     let mut found = false;

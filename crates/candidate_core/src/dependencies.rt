@@ -8,7 +8,7 @@ ghost use Rattle.adb_schema.specs.adb_fields.ListValue.{list_value};
 ghost use Rattle.adb_schema.specs.SoundValues.{IsSoundDependency};
 ghost use Rattle.adb_schema.specs.Views.{dependency_value};
 ghost use Rattle.dep_core.specs.Meets.{dependency};
-ghost use Rattle.candidate_core.specs.Candidates.{dependencies_in, dependency_in};
+ghost use Rattle.candidate_core.specs.Candidates.{dependencies_in_list_value, dependency_in};
 ghost use Rattle.candidate_core.specs.SoundTexts.{HasSoundEntries};
 
 use adb_schema::{DepView, List};
@@ -30,13 +30,13 @@ impl<'a> Model for Deps<'a> {
     ghost use Rattle.std.specs.Prelude.{◌≡◌, true, List as Items};
     ghost use Rattle.adb_schema.specs.adb_fields.ListValue.{list_value};
     ghost use Rattle.dep_core.specs.Dependency.{Dependency};
-    ghost use Rattle.candidate_core.specs.Candidates.{dependencies_in};
+    ghost use Rattle.candidate_core.specs.Candidates.{dependencies_in_list_value};
     ghost use Rattle.candidate_core.specs.SoundTexts.{HasSoundEntries};
 
     ghost Value = { Items Dependency };
 
     // The value is the list of the dependencies, without the entries that are none.
-    ghost view = { λ deps. dependencies_in (list_value deps.list) };
+    ghost view = { λ deps. dependencies_in_list_value (list_value deps.list) };
 
     // If the entries are known to be dependencies, each of them is one.
     ghost invariant = { λ deps. deps.are_sound ≡ true → HasSoundEntries (list_value deps.list) };
@@ -48,7 +48,7 @@ impl<'a> Deps<'a> {
     pub fn of(list: List<'a, DepView<'a>>, are_sound: bool) -> Deps<'a>
         // If the entries are said to be dependencies, each of them is one.
         requires { are_sound ≡ true → HasSoundEntries (list_value list) }
-        ensures { result ≡ dependencies_in (list_value list.entry) }
+        ensures { result ≡ dependencies_in_list_value (list_value list.entry) }
     {
         Deps { list, are_sound }
     }
@@ -108,7 +108,7 @@ pub(crate) fn read_if_sound<'a>(view: &DepView<'a>) -> Option<Dep<'a>>
 
 // How many entries of a list are dependencies; each is tested.
 fn count_sound<'a>(list: &List<'a, DepView<'a>>) -> usize
-    ensures { result ≡ length (dependencies_in (list_value list.now)) }
+    ensures { result ≡ length (dependencies_in_list_value (list_value list.now)) }
 {
     let mut count = 0;
     for i in 0..list.len() {
@@ -122,8 +122,8 @@ fn count_sound<'a>(list: &List<'a, DepView<'a>>) -> usize
 // The dependency that has `place` other dependencies of the list before it; each entry up to it is
 // tested.
 fn read_judged<'a>(list: &List<'a, DepView<'a>>, place: usize) -> Dep<'a>
-    requires { place < length (dependencies_in (list_value list.now)) }
-    ensures { slice_get (dependencies_in (list_value list.now)) place
+    requires { place < length (dependencies_in_list_value (list_value list.now)) }
+    ensures { slice_get (dependencies_in_list_value (list_value list.now)) place
         ≡ Some (dependency result) }
 {
     // The number of dependencies so far.

@@ -8,7 +8,7 @@ ghost use Rattle.std.specs.Str.{bytes_eq};
 ghost use Rattle.adb_view.specs.Values.{entry_in, text_in};
 ghost use Rattle.dep_core.specs.Dependency.{Dependency};
 ghost use Rattle.dep_core.specs.Meets.{dependency};
-ghost use Rattle.candidate_core.specs.Candidates.{dependencies_in, dependency_in, entry, is_met_by_provides_entry, meets_by_own_name, meets_dependency, meets_need, version_of_text, version_meeting_need};
+ghost use Rattle.candidate_core.specs.Candidates.{dependencies_in_list_value, dependency_in, entry, is_met_by_provides_entry, meets_by_own_name, meets_dependency, meets_need, version_of_text, version_meeting_need};
 ghost use Rattle.candidate_core.specs.Matches.{AreMatchesIn, GivesTextsOfSource};
 ghost use Rattle.candidate_core.specs.PackageWords.{IsPackageWordOf, info_in_source};
 ghost use Rattle.candidate_core.specs.Packages.{candidate_in_source};
@@ -157,7 +157,7 @@ fn provided_version<'a>(
     ensures { IsVersionReadFrom source.now kept.source (option_and_then (λ
         (p : Dependency). p.version)
         (find (is_met_by_provides_entry (dependency dep.now))
-        (dependencies_in (entry_in (info_in_source source.now kept.word) 15)))) result }
+        (dependencies_in_list_value (entry_in (info_in_source source.now kept.word) 15)))) result }
 {
     let word = Val::of(kept.word);
     let entries = objects_field(source.adb, Which::PkgInfo, word, PROVIDES, Which::Dep);
@@ -241,7 +241,8 @@ pub(crate) fn depends_version_place(
     // is that of the text of this version.
     ensures { (text : ℕ → ℕ → List ℕ) (d : Dependency)
         → GivesTextsOfSource source.now kept.source text
-        → slice_get (dependencies_in (entry_in (info_in_source source.now kept.word) 14)) index
+        → slice_get (dependencies_in_list_value (entry_in
+        (info_in_source source.now kept.word) 14)) index
         ≡ Some d → IfSome result (λ place. IfSome d.version (λ version. version
         ≡ text place.source place.word)) }
 {
@@ -362,7 +363,7 @@ fn any_entry_meets(
     // Unless memory runs out, the answer is right, and the remembered results stay right.
     ensures { AnswersAndRemembers (GivesTextsOfSource source.now kept.source)
         (entry (dependency dep.now)) (list_any (is_met_by_provides_entry (dependency dep.now))
-        (dependencies_in (entry_in (info_in_source source.now kept.word) 15)))
+        (dependencies_in_list_value (entry_in (info_in_source source.now kept.word) 15)))
         known.old known.new result }
 {
     let word = Val::of(kept.word);

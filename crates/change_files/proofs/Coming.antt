@@ -8,12 +8,12 @@ use Rattle.adb_view.specs.Plain.{Plain}
 use Rattle.base_core.specs.Files.{Files}
 use Rattle.base_core.specs.Name.{IsName, is_name, is_path_part, path_parts_of}
 use Rattle.file_owners.specs.db_core.Members.{Listing}
-use Rattle.file_guard.specs.AsListed.{do_entries_agree, is_as_listed}
+use Rattle.file_guard.specs.AsListed.{are_sizes_hashes_targets_equal, is_as_listed}
 use Rattle.change_files.specs.Fate.{AddedFileFate, agrees_with_old_entry, apk_new_name, fate_if_user_modified_file, fate_with_file_found, fate_of, gives_way, goes_aside, goes_in, is_as_old_entry_lists, is_protected_path}
 use Rattle.change_files.specs.FileChange.{FileChange, added_owner_listing, is_listed_after_change, old_entry}
-use Rattle.change_files.specs.FilesAfter.{if_written_as_apk_new, if_written_in_place, apk_new_listing_at, path_of_apk_new_name, listing_written_under_name}
+use Rattle.change_files.specs.FilesAfter.{if_written_as_apk_new, if_written_in_place, listing_written_as_apk_new_beside, path_of_apk_new_name, listing_written_under_name}
 use Rattle.std.specs.Option.{option_or}
-use Rattle.change_files.specs.Touched.{DiffersFromOldEntry, IsModifiedConfigFile}
+use Rattle.change_files.specs.Touched.{DiffersFromOldEntryIfAny, IsModifiedConfigFile}
 use Rattle.change_files.proofs.OwnedFiles.{aside_found, claimed_by_owner, coming_is, is_beside, nobody_beside}
 use Rattle.change_files.proofs.Untouched.{users_fate}
 
@@ -52,7 +52,7 @@ nobodys_fate change files path l comes nobodys = fate_at change files path l com
 pub takes_path : (change : FileChange) (files : Files) (path : List ℕ) (l : Listing) → added_owner_listing change path ≡ Some l → ((bytes : List ℕ) → IsModifiedConfigFile change files path bytes → ⊥) → listing_written_under_name change files path ≡ Some l
 unfolding listing_written_under_name
 takes_path change files path l comes nobodys =
-    let beside : Option Listing = option_and_then (apk_new_listing_at change files) (path_of_apk_new_name path) in
+    let beside : Option Listing = option_and_then (listing_written_as_apk_new_beside change files) (path_of_apk_new_name path) in
     ap (λ (o : Option Listing). option_or (option_and_then (λ l. if_written_in_place l (fate_of change files l)) o) beside) comes
     ∙ ap (λ (f : AddedFileFate). option_or (if_written_in_place l f) beside) (nobodys_fate change files path l comes nobodys)
 
@@ -66,15 +66,15 @@ name_is_short bytes named =
     let c = and_parts _ (not (list_any (λ x. x == 0) bytes)) b.0 in
     (and_parts (nat_lt 0 (length bytes)) (nat_le (length bytes) 1024) c.0).1
 
-new_disagrees : (change : FileChange) (path : List ℕ) (entry : Plain) → DiffersFromOldEntry change path entry → agrees_with_old_entry (old_entry change path) entry ≡ false
+new_disagrees : (change : FileChange) (path : List ℕ) (entry : Plain) → DiffersFromOldEntryIfAny change path entry → agrees_with_old_entry (old_entry change path) entry ≡ false
 new_disagrees change path entry differs = by_entry (old_entry change path) differs
   where
-    by_entry : (o : Option Plain) → ((old : Plain) → o ≡ Some old → do_entries_agree old entry ≡ false) → agrees_with_old_entry o entry ≡ false
+    by_entry : (o : Option Plain) → ((old : Plain) → o ≡ Some old → are_sizes_hashes_targets_equal old entry ≡ false) → agrees_with_old_entry o entry ≡ false
     by_entry None differs = refl
     by_entry (Some old) differs = differs old refl
 
-pub lies_beside : (change : FileChange) (files : Files) (path bytes : List ℕ) (l : Listing) → added_owner_listing change path ≡ Some l → IsModifiedConfigFile change files path bytes → DiffersFromOldEntry change path l.entry
-    → IsName (apk_new_name path) → is_listed_after_change change (apk_new_name path) ≡ false → apk_new_listing_at change files path ≡ Some l
+pub lies_beside : (change : FileChange) (files : Files) (path bytes : List ℕ) (l : Listing) → added_owner_listing change path ≡ Some l → IsModifiedConfigFile change files path bytes → DiffersFromOldEntryIfAny change path l.entry
+    → IsName (apk_new_name path) → is_listed_after_change change (apk_new_name path) ≡ false → listing_written_as_apk_new_beside change files path ≡ Some l
 lies_beside change files path bytes l comes own differs named free =
     let tests : (not (agrees_with_old_entry (old_entry change path) l.entry) && (nat_le (length (apk_new_name path)) 1024 && not (is_listed_after_change change (apk_new_name path)))) ≡ true =
     and_from (not (agrees_with_old_entry (old_entry change path) l.entry)) (nat_le (length (apk_new_name path)) 1024 && not (is_listed_after_change change (apk_new_name path)))
@@ -85,10 +85,10 @@ lies_beside change files path bytes l comes own differs named free =
     ∙ ap (if_written_as_apk_new l) (users_fate change files path bytes l own comes ∙ ap (λ (b : Bool). if b then goes_aside else gives_way) tests)
 
 -- an entry that goes aside differs from the one before
-new_entry : (change : FileChange) (path : List ℕ) (entry : Plain) → fate_if_user_modified_file change path entry ≡ goes_aside → DiffersFromOldEntry change path entry
-new_entry change path entry aside old is = by_tests (do_entries_agree old entry) refl
+new_entry : (change : FileChange) (path : List ℕ) (entry : Plain) → fate_if_user_modified_file change path entry ≡ goes_aside → DiffersFromOldEntryIfAny change path entry
+new_entry change path entry aside old is = by_tests (are_sizes_hashes_targets_equal old entry) refl
   where
-    by_tests : (b : Bool) → do_entries_agree old entry ≡ b → do_entries_agree old entry ≡ false
+    by_tests : (b : Bool) → are_sizes_hashes_targets_equal old entry ≡ b → are_sizes_hashes_targets_equal old entry ≡ false
     by_tests false agrees = agrees
     by_tests true agrees =
         let way : fate_if_user_modified_file change path entry ≡ gives_way =
@@ -96,20 +96,20 @@ new_entry change path entry aside old is = by_tests (do_entries_agree old entry)
         (ap (λ (o : Option Plain). agrees_with_old_entry o entry) is ∙ agrees) in
         absurd (cc)
 
-pub beside_users_file : (change : FileChange) (files : Files) (path : List ℕ) (l : Listing) → apk_new_listing_at change files path ≡ Some l
-    → ((bytes : List ℕ) × IsModifiedConfigFile change files path bytes) × DiffersFromOldEntry change path l.entry × (is_listed_after_change change (apk_new_name path) ≡ false)
+pub beside_users_file : (change : FileChange) (files : Files) (path : List ℕ) (l : Listing) → listing_written_as_apk_new_beside change files path ≡ Some l
+    → ((bytes : List ℕ) × IsModifiedConfigFile change files path bytes) × DiffersFromOldEntryIfAny change path l.entry × (is_listed_after_change change (apk_new_name path) ≡ false)
 beside_users_file change files path l laid =
     let (comes, aside) = aside_found change files path l laid in
     let (own, differs) = by_file comes (files path) refl (sym (fate_at change files path l comes) ∙ aside) in
     (own, differs, nobody_beside change files path l laid)
   where
     by_file : added_owner_listing change path ≡ Some l → (found : Option (List ℕ)) → files path ≡ found → fate_with_file_found change path l.entry found ≡ goes_aside
-        → ((bytes : List ℕ) × IsModifiedConfigFile change files path bytes) × DiffersFromOldEntry change path l.entry
+        → ((bytes : List ℕ) × IsModifiedConfigFile change files path bytes) × DiffersFromOldEntryIfAny change path l.entry
     by_file comes None present aside = absurd (cc)
     by_file comes (Some bytes) present aside = by_tests (not (is_protected_path path) || (is_as_listed l.entry bytes || is_as_old_entry_lists (old_entry change path) bytes)) refl aside
       where
         by_tests : (b : Bool) → (not (is_protected_path path) || (is_as_listed l.entry bytes || is_as_old_entry_lists (old_entry change path) bytes)) ≡ b → (if b then goes_in else fate_if_user_modified_file change path l.entry) ≡ goes_aside
-            → ((bytes : List ℕ) × IsModifiedConfigFile change files path bytes) × DiffersFromOldEntry change path l.entry
+            → ((bytes : List ℕ) × IsModifiedConfigFile change files path bytes) × DiffersFromOldEntryIfAny change path l.entry
         by_tests true tests aside = absurd (cc)
         by_tests false tests aside = ((bytes, users_file change files path bytes l comes present tests), new_entry change path l.entry aside)
 
@@ -122,9 +122,9 @@ no_owner change name free = by_owner (added_owner_listing change name) refl
     by_owner None e = refl
     by_owner (Some l) e = absurd (true≢false (sym (claimed_by_owner change name l (coming_is change name l e).0) ∙ free))
 
-pub written_beside : (change : FileChange) (files : Files) (path : List ℕ) (l : Listing) → apk_new_listing_at change files path ≡ Some l → listing_written_under_name change files (apk_new_name path) ≡ Some l
+pub written_beside : (change : FileChange) (files : Files) (path : List ℕ) (l : Listing) → listing_written_as_apk_new_beside change files path ≡ Some l → listing_written_under_name change files (apk_new_name path) ≡ Some l
 unfolding listing_written_under_name
 written_beside change files path l laid =
-    ap (λ (o : Option Listing). option_or (option_and_then (λ l. if_written_in_place l (fate_of change files l)) o) (option_and_then (apk_new_listing_at change files) (path_of_apk_new_name (apk_new_name path))))
+    ap (λ (o : Option Listing). option_or (option_and_then (λ l. if_written_in_place l (fate_of change files l)) o) (option_and_then (listing_written_as_apk_new_beside change files) (path_of_apk_new_name (apk_new_name path))))
     (no_owner change (apk_new_name path) (nobody_beside change files path l laid))
-    ∙ (ap (option_and_then (apk_new_listing_at change files)) (is_beside path) ∙ laid)
+    ∙ (ap (option_and_then (listing_written_as_apk_new_beside change files)) (is_beside path) ∙ laid)

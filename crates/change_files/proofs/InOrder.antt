@@ -14,7 +14,7 @@ use Rattle.base_core.specs.ByteOrder.{bytes_cmp}
 use Rattle.base_core.specs.Sorted.{sorted_by, with_element_inserted}
 use Rattle.base_core.proofs.Sorting.{Each, rises_in_order, ranks}
 use Rattle.base_core.proofs.Sorting as sorting
-use Rattle.change_files.specs.PlanLists.{sorted_distinct_names, prepend_unless_repeated, without_repeats}
+use Rattle.change_files.specs.PlanLists.{sorted_distinct_names, prepend_unless_equal_to_first, without_adjacent_repeats}
 
 -- ---- sorted
 
@@ -48,7 +48,7 @@ from_sorted q (x ∷ xs) h = elim (from_with q x (sorted_by bytes_cmp xs) h) [ i
 
 -- ---- each once
 
-pub in_unless : (q x : List ℕ) (ys : List (List ℕ)) → (q ≡ x) ⊎ IsIn q ys → IsIn q (prepend_unless_repeated x ys)
+pub in_unless : (q x : List ℕ) (ys : List (List ℕ)) → (q ≡ x) ⊎ IsIn q ys → IsIn q (prepend_unless_equal_to_first x ys)
 in_unless q x [] h = h
 in_unless q x (y ∷ ys) h = by_test (bytes_eq x y) refl h
   where
@@ -57,7 +57,7 @@ in_unless q x (y ∷ ys) h = by_test (bytes_eq x y) refl h
     by_test true e (inr more) = more
     by_test false e h = h
 
-pub from_unless : (q x : List ℕ) (ys : List (List ℕ)) → IsIn q (prepend_unless_repeated x ys) → (q ≡ x) ⊎ IsIn q ys
+pub from_unless : (q x : List ℕ) (ys : List (List ℕ)) → IsIn q (prepend_unless_equal_to_first x ys) → (q ≡ x) ⊎ IsIn q ys
 from_unless q x [] h = h
 from_unless q x (y ∷ ys) h = by_test (bytes_eq x y) h
   where
@@ -65,14 +65,14 @@ from_unless q x (y ∷ ys) h = by_test (bytes_eq x y) h
     by_test true h = inr h
     by_test false h = h
 
-pub in_once : (q : List ℕ) (xs : List (List ℕ)) → IsIn q xs → IsIn q (without_repeats xs)
+pub in_once : (q : List ℕ) (xs : List (List ℕ)) → IsIn q xs → IsIn q (without_adjacent_repeats xs)
 in_once q [] h = h
-in_once q (x ∷ xs) (inl is) = in_unless q x (without_repeats xs) (inl is)
-in_once q (x ∷ xs) (inr more) = in_unless q x (without_repeats xs) (inr (in_once q xs more))
+in_once q (x ∷ xs) (inl is) = in_unless q x (without_adjacent_repeats xs) (inl is)
+in_once q (x ∷ xs) (inr more) = in_unless q x (without_adjacent_repeats xs) (inr (in_once q xs more))
 
-pub from_once : (q : List ℕ) (xs : List (List ℕ)) → IsIn q (without_repeats xs) → IsIn q xs
+pub from_once : (q : List ℕ) (xs : List (List ℕ)) → IsIn q (without_adjacent_repeats xs) → IsIn q xs
 from_once q [] h = h
-from_once q (x ∷ xs) h = elim (from_unless q x (without_repeats xs) h) [ inl is ↦ inl is | inr more ↦ inr (from_once q xs more) ]
+from_once q (x ∷ xs) h = elim (from_unless q x (without_adjacent_repeats xs) h) [ inl is ↦ inl is | inr more ↦ inr (from_once q xs more) ]
 
 pub in_order : (q : List ℕ) (names : List (List ℕ)) → IsIn q names → IsIn q (sorted_distinct_names names)
 unfolding sorted_distinct_names
@@ -97,7 +97,7 @@ comes_first x y late apart = by_order (order x y) refl
     by_order Equal e = absurd (true≢false (sym ((bytes_eq-Decides x y).1 (exact_bytes x y e)) ∙ apart))
     by_order Greater e = absurd (true≢false (sym (ap is_lt (nat_list_cmp_total.antisymm y x ∙ ap ordering_reverse e)) ∙ late))
 
-rises_next : (x : List ℕ) (ys : List (List ℕ)) → ((q : List ℕ) → IsIn q ys → is_lt (order q x) ≡ false) → Rises ys → Rises (prepend_unless_repeated x ys)
+rises_next : (x : List ℕ) (ys : List (List ℕ)) → ((q : List ℕ) → IsIn q ys → is_lt (order q x) ≡ false) → Rises ys → Rises (prepend_unless_equal_to_first x ys)
 rises_next x [] late rises = (λ q here. absurd here, tt)
 rises_next x (y ∷ ys) late rises = by_test (bytes_eq x y) refl
   where
@@ -115,10 +115,10 @@ rises_next x (y ∷ ys) late rises = by_test (bytes_eq x y) refl
 abbrev RisesWeakly : List (List ℕ) → Type 0
 RisesWeakly xs = sorting.Rises (λ x y. is_lt (bytes_cmp x y)) (ranks bytes_cmp nat_list_cmp_total) xs
 
-rises_once : (xs : List (List ℕ)) → RisesWeakly xs → Rises (without_repeats xs)
+rises_once : (xs : List (List ℕ)) → RisesWeakly xs → Rises (without_adjacent_repeats xs)
 rises_once [] h = tt
 rises_once (x ∷ xs) h =
-    rises_next x (without_repeats xs) (λ q here. each_in (λ y. is_lt (order y x) ≡ false) xs h.0 q (from_once q xs here)) (rises_once xs h.1)
+    rises_next x (without_adjacent_repeats xs) (λ q here. each_in (λ y. is_lt (order y x) ≡ false) xs h.0 q (from_once q xs here)) (rises_once xs h.1)
 
 pub order_rises : (names : List (List ℕ)) → Rises (sorted_distinct_names names)
 unfolding sorted_distinct_names

@@ -9,12 +9,12 @@ use Rattle.std.proofs.lemmas.Slice.Eq.{bytes_eq-Decides}
 use Rattle.adb_view.specs.Plain.{Plain}
 use Rattle.base_core.specs.Files.{Files}
 use Rattle.base_core.proofs.Rising.{IsIn}
-use Rattle.file_owners.specs.db_core.Members.{Listing, Member, listings_of_path, is_added, member_listings}
+use Rattle.file_owners.specs.db_core.Members.{Listing, Member, listings_of_path, is_added, listings_of_members}
 use Rattle.file_owners.specs.Owners.{owner_of_path}
 use Rattle.file_guard.specs.AsListed.{is_as_listed}
 use Rattle.change_files.specs.Fate.{AddedFileFate, agrees_with_old_entry, apk_new_name, fate_if_user_modified_file, fate_with_file_found, fate_of, gives_way, goes_aside, goes_in, is_as_old_entry_lists, is_protected_path}
 use Rattle.change_files.specs.FileChange.{FileChange, added_owner_listing, if_member_added, is_listed_after_change, old_entry, old_listings, owner_listing}
-use Rattle.change_files.specs.FilesAfter.{if_written_as_apk_new, if_written_in_place, apk_new_listing_at, path_of_apk_new_name, listing_written_under_name, listing_written_in_place}
+use Rattle.change_files.specs.FilesAfter.{if_written_as_apk_new, if_written_in_place, listing_written_as_apk_new_beside, path_of_apk_new_name, listing_written_under_name, listing_written_in_place}
 use Rattle.std.specs.Option.{option_or}
 use Rattle.change_files.specs.NamesAfter.{added_paths}
 use Rattle.change_files.proofs.Lists.{IsOneOf, any_passes, contains_from_one, found_passes, kept_passes, passing_kept, seen_in}
@@ -24,7 +24,7 @@ use Rattle.change_files.proofs.Lists.{IsOneOf, any_passes, contains_from_one, fo
 -- the member at this place owns the path, and lists it so
 pub record IsOwner (change : FileChange) (path : List ℕ) (l : Listing) : Type 0 where
   pub of_path : l.path ≡ path
-  pub listed : IsOneOf l (member_listings change.members)
+  pub listed : IsOneOf l (listings_of_members change.members)
   pub place : owner_of_path change.members path ≡ Some l.place
 
 owner_at : (members : List Member) (path : List ℕ) (place : Option ℕ) (l : Listing) → option_and_then (λ place. find (λ l. l.place == place) (listings_of_path members path)) place ≡ Some l
@@ -34,10 +34,10 @@ owner_at members path (Some place) l e =
     let found = found_passes (λ l. l.place == place) (listings_of_path members path) l e in
     (found.0, ap (λ (n : ℕ). Some n) (sym (eqb-true l.place place found.1)))
 
-claim_is : (members : List Member) (path : List ℕ) (l : Listing) → IsOneOf l (listings_of_path members path) → IsOneOf l (member_listings members) × (l.path ≡ path)
+claim_is : (members : List Member) (path : List ℕ) (l : Listing) → IsOneOf l (listings_of_path members path) → IsOneOf l (listings_of_members members) × (l.path ≡ path)
 unfolding listings_of_path
 claim_is members path l here =
-    let kept = kept_passes (λ l. bytes_eq l.path path) (member_listings members) l here in
+    let kept = kept_passes (λ l. bytes_eq l.path path) (listings_of_members members) l here in
     (kept.0, (bytes_eq-Decides l.path path).0 kept.1)
 
 pub owner_is : (change : FileChange) (path : List ℕ) (l : Listing) → owner_listing change path ≡ Some l → IsOwner change path l
@@ -50,7 +50,7 @@ owner_is change path l e =
 pub claimed_by_owner : (change : FileChange) (path : List ℕ) (l : Listing) → IsOwner change path l → is_listed_after_change change path ≡ true
 unfolding is_listed_after_change
 claimed_by_owner change path l owner =
-    any_passes (λ l. bytes_eq l.path path) (member_listings change.members) l owner.listed ((bytes_eq-Decides l.path path).1 owner.of_path)
+    any_passes (λ l. bytes_eq l.path path) (listings_of_members change.members) l owner.listed ((bytes_eq-Decides l.path path).1 owner.of_path)
 
 if_comes : (o : Option Listing) (l : Listing) → if_member_added o ≡ Some l → (o ≡ Some l) × (is_added l.member ≡ true)
 if_comes None l e = absurd (cc)
@@ -70,8 +70,8 @@ pub in_coming_paths : (change : FileChange) (path : List ℕ) (l : Listing) → 
 in_coming_paths change path l e =
     let (owner, comes) = coming_is change path l e in
     subst (λ (q : List ℕ). IsIn q (added_paths change.members)) owner.of_path
-    (seen_in (λ l. l.path) (filter (λ l. is_added l.member) (member_listings change.members)) l
-    (passing_kept (λ l. is_added l.member) (member_listings change.members) l owner.listed comes))
+    (seen_in (λ l. l.path) (filter (λ l. is_added l.member) (listings_of_members change.members)) l
+    (passing_kept (λ l. is_added l.member) (listings_of_members change.members) l owner.listed comes))
 
 -- ---- what was listed before
 
@@ -109,7 +109,7 @@ only_aside (Some m) fate l e = by_fate (fate m) refl e
 pub goes_in_found : (change : FileChange) (files : Files) (path : List ℕ) (l : Listing) → listing_written_in_place change files path ≡ Some l → (added_owner_listing change path ≡ Some l) × (fate_of change files l ≡ goes_in)
 goes_in_found change files path l e = only_in (added_owner_listing change path) (fate_of change files) l e
 
-pub aside_found : (change : FileChange) (files : Files) (path : List ℕ) (l : Listing) → apk_new_listing_at change files path ≡ Some l → (added_owner_listing change path ≡ Some l) × (fate_of change files l ≡ goes_aside)
+pub aside_found : (change : FileChange) (files : Files) (path : List ℕ) (l : Listing) → listing_written_as_apk_new_beside change files path ≡ Some l → (added_owner_listing change path ≡ Some l) × (fate_of change files l ≡ goes_aside)
 aside_found change files path l e = only_aside (added_owner_listing change path) (fate_of change files) l e
 
 -- beside a file nothing is laid under a name that a package lists
@@ -130,7 +130,7 @@ free_by change path entry (Some bytes) e = by_test (not (is_protected_path path)
     by_test true e = absurd (cc)
     by_test false e = free_beside change path entry e
 
-pub nobody_beside : (change : FileChange) (files : Files) (path : List ℕ) (l : Listing) → apk_new_listing_at change files path ≡ Some l → is_listed_after_change change (apk_new_name path) ≡ false
+pub nobody_beside : (change : FileChange) (files : Files) (path : List ℕ) (l : Listing) → listing_written_as_apk_new_beside change files path ≡ Some l → is_listed_after_change change (apk_new_name path) ≡ false
 unfolding fate_of
 nobody_beside change files path l e =
     let (comes, fate) = aside_found change files path l e in
@@ -165,13 +165,13 @@ is_beside path =
 -- the file goes in under its own path, or is laid beside it
 pub record IsWritten (change : FileChange) (files : Files) (name : List ℕ) (l : Listing) : Type 0 where
   pub comes : added_owner_listing change l.path ≡ Some l
-  pub under : ((name ≡ l.path) × (listing_written_in_place change files name ≡ Some l)) ⊎ ((name ≡ apk_new_name l.path) × (apk_new_listing_at change files l.path ≡ Some l))
+  pub under : ((name ≡ l.path) × (listing_written_in_place change files name ≡ Some l)) ⊎ ((name ≡ apk_new_name l.path) × (listing_written_as_apk_new_beside change files l.path ≡ Some l))
 
 either : (inside beside : Option Listing) (l : Listing) → option_or inside beside ≡ Some l → (inside ≡ Some l) ⊎ ((inside ≡ None) × (beside ≡ Some l))
 either None beside l e = inr (refl, e)
 either (Some m) beside l e = inl e
 
-beside_at : (change : FileChange) (files : Files) (path : Option (List ℕ)) (l : Listing) → option_and_then (apk_new_listing_at change files) path ≡ Some l → (q : List ℕ) × (path ≡ Some q) × (apk_new_listing_at change files q ≡ Some l)
+beside_at : (change : FileChange) (files : Files) (path : Option (List ℕ)) (l : Listing) → option_and_then (listing_written_as_apk_new_beside change files) path ≡ Some l → (q : List ℕ) × (path ≡ Some q) × (listing_written_as_apk_new_beside change files q ≡ Some l)
 beside_at change files None l e = absurd (cc)
 beside_at change files (Some q) l e = (q, refl, e)
 
@@ -181,7 +181,7 @@ own_path change path l e = let (owner, comes) = coming_is change path l e in sub
 pub written_is : (change : FileChange) (files : Files) (name : List ℕ) (l : Listing) → listing_written_under_name change files name ≡ Some l → IsWritten change files name l
 unfolding listing_written_under_name
 written_is change files name l e =
-    elim (either (listing_written_in_place change files name) (option_and_then (apk_new_listing_at change files) (path_of_apk_new_name name)) l e) [
+    elim (either (listing_written_in_place change files name) (option_and_then (listing_written_as_apk_new_beside change files) (path_of_apk_new_name name)) l e) [
       | inl inside ↦ (let (comes, fate) = goes_in_found change files name l inside in
           let (owner, coming) = coming_is change name l comes in
           record { comes = own_path change name l comes; under = inl (sym owner.of_path, inside) })
@@ -192,15 +192,15 @@ written_is change files name l e =
             comes = own_path change path l comes;
             under = inr (
               beside_is name path at ∙ ap apk_new_name (sym owner.of_path),
-              subst (λ (q : List ℕ). apk_new_listing_at change files q ≡ Some l) (sym owner.of_path) laid,
+              subst (λ (q : List ℕ). listing_written_as_apk_new_beside change files q ≡ Some l) (sym owner.of_path) laid,
             );
           })
     ]
 
 -- nothing goes in, and nothing is laid beside another file under this name
-pub not_written : (change : FileChange) (files : Files) (name : List ℕ) → listing_written_in_place change files name ≡ None → is_some (option_and_then (apk_new_listing_at change files) (path_of_apk_new_name name)) ≡ false → listing_written_under_name change files name ≡ None
+pub not_written : (change : FileChange) (files : Files) (name : List ℕ) → listing_written_in_place change files name ≡ None → is_some (option_and_then (listing_written_as_apk_new_beside change files) (path_of_apk_new_name name)) ≡ false → listing_written_under_name change files name ≡ None
 unfolding listing_written_under_name
-not_written change files name none beside = ap (λ (o : Option Listing). option_or o (option_and_then (apk_new_listing_at change files) (path_of_apk_new_name name))) none ∙ no_value (option_and_then (apk_new_listing_at change files) (path_of_apk_new_name name)) beside
+not_written change files name none beside = ap (λ (o : Option Listing). option_or o (option_and_then (listing_written_as_apk_new_beside change files) (path_of_apk_new_name name))) none ∙ no_value (option_and_then (listing_written_as_apk_new_beside change files) (path_of_apk_new_name name)) beside
   where
     no_value : (o : Option Listing) → is_some o ≡ false → o ≡ None
     no_value None e = refl
@@ -209,10 +209,10 @@ not_written change files name none beside = ap (λ (o : Option Listing). option_
 -- ---- as laws say it
 
 pub coming_listed : (change : FileChange) (path : List ℕ) (l : Listing) → added_owner_listing change path ≡ Some l
-    → (l.path ≡ path) × (is_added l.member ≡ true) × Contains (member_listings change.members) l × (owner_of_path change.members path ≡ Some l.place)
+    → (l.path ≡ path) × (is_added l.member ≡ true) × Contains (listings_of_members change.members) l × (owner_of_path change.members path ≡ Some l.place)
 coming_listed change path l e =
     let (owner, comes) = coming_is change path l e in
-    (owner.of_path, comes, contains_from_one (member_listings change.members) l owner.listed, owner.place)
+    (owner.of_path, comes, contains_from_one (listings_of_members change.members) l owner.listed, owner.place)
 
 pub written_under : (change : FileChange) (files : Files) (name : List ℕ) (l : Listing) → listing_written_under_name change files name ≡ Some l → (added_owner_listing change l.path ≡ Some l) × ((name ≡ l.path) ⊎ (name ≡ apk_new_name l.path))
 written_under change files name l e =

@@ -9,9 +9,9 @@ use Rattle.base_core.proofs.Rising.{IsIn, contains_from_in, in_from_contains, pa
 use Rattle.file_owners.specs.db_core.Members.{Listing}
 use Rattle.change_files.specs.Fate.{apk_new_name}
 use Rattle.change_files.specs.FileChange.{FileChange}
-use Rattle.change_files.specs.FilesAfter.{is_modified_file_kept, is_removed, is_written, apk_new_listing_at, listing_written_under_name}
+use Rattle.change_files.specs.FilesAfter.{is_left_over_modified_file_kept, is_removed, is_listing_written_under_name, listing_written_as_apk_new_beside, listing_written_under_name}
 use Rattle.change_files.specs.NamesAfter.{added_paths}
-use Rattle.change_files.specs.PlanLists.{FileWrite, paths_with_apk_new_file, file_writes_of, kept_paths_of, sorted_distinct_names, old_paths, removals_of, file_write_under_name}
+use Rattle.change_files.specs.PlanLists.{FileWrite, paths_with_apk_new_file, file_writes_of, kept_left_over_paths_of, sorted_distinct_names, old_paths, removals_of, file_write_under_name}
 use Rattle.change_files.specs.Touched.{IsPlannedWrite}
 use Rattle.change_files.proofs.InOrder.{filter_rises, from_filter, in_filter, in_left, in_map, in_order, in_right, order_rises}
 use Rattle.change_files.proofs.Lists.{IsOneOf, any_is, contains_from_one, one_from_contains}
@@ -70,22 +70,22 @@ pub some_listing : (o : Option Listing) → is_some o ≡ true → (l : Listing)
 some_listing None e = absurd (true≢false (sym e))
 some_listing (Some l) e = (l, refl)
 
-pub writes_names : (change : FileChange) (files : Files) → map (λ w. w.name) (file_writes_of change files) ≡ filter (is_written change files) (written_names change)
+pub writes_names : (change : FileChange) (files : Files) → map (λ w. w.name) (file_writes_of change files) ≡ filter (is_listing_written_under_name change files) (written_names change)
 unfolding file_writes_of
 writes_names change files = names_written (listing_written_under_name change files) (written_names change)
 
 pub writes_rise : (change : FileChange) (files : Files) → AreSortedDistinctNames (map (λ w. w.name) (file_writes_of change files))
 writes_rise change files =
     subst AreSortedDistinctNames (sym (writes_names change files))
-    (pairs_from_rises _ (filter_rises (is_written change files) (written_names change) (order_rises (added_paths change.members ++ map apk_new_name (added_paths change.members)))))
+    (pairs_from_rises _ (filter_rises (is_listing_written_under_name change files) (written_names change) (order_rises (added_paths change.members ++ map apk_new_name (added_paths change.members)))))
 
-pub writes_hold : (change : FileChange) (files : Files) (name : List ℕ) → Contains (map (λ w. w.name) (file_writes_of change files)) name ↔ (is_written change files name ≡ true)
+pub writes_hold : (change : FileChange) (files : Files) (name : List ℕ) → Contains (map (λ w. w.name) (file_writes_of change files)) name ↔ (is_listing_written_under_name change files name ≡ true)
 writes_hold change files name = (
-  λ here. (from_filter (is_written change files) (written_names change) name
+  λ here. (from_filter (is_listing_written_under_name change files) (written_names change) name
       (in_from_contains _ name (subst (λ (names : List (List ℕ)). Contains names name) (writes_names change files) here))).1,
   λ written. (let found = some_listing (listing_written_under_name change files name) written in
       subst (λ (names : List (List ℕ)). Contains names name) (sym (writes_names change files))
-      (contains_from_in _ name (in_filter (is_written change files) (written_names change) name (among_written change files name found.0 found.1) written))),
+      (contains_from_in _ name (in_filter (is_listing_written_under_name change files) (written_names change) name (among_written change files name found.0 found.1) written))),
 )
 
 write_is : (change : FileChange) (files : Files) (q : List ℕ) (w : FileWrite) (o : Option Listing) → listing_written_under_name change files q ≡ o → option_map (file_write_under_name q) o ≡ Some w → IsPlannedWrite change files w
@@ -123,37 +123,37 @@ pub removals_rise : (change : FileChange) (files : Files) → AreSortedDistinctN
 unfolding removals_of
 removals_rise change files = rises_just (is_removed change files) (old_paths change)
 
-pub kept_hold : (change : FileChange) (files : Files) (path : List ℕ) → Contains (kept_paths_of change files) path ↔ (is_modified_file_kept change files path ≡ true)
-unfolding kept_paths_of
-kept_hold change files path = holds_just (is_modified_file_kept change files) (old_paths change) (λ q kept. in_old_paths change q ((kept_is change files q kept).0).listed) path
+pub kept_hold : (change : FileChange) (files : Files) (path : List ℕ) → Contains (kept_left_over_paths_of change files) path ↔ (is_left_over_modified_file_kept change files path ≡ true)
+unfolding kept_left_over_paths_of
+kept_hold change files path = holds_just (is_left_over_modified_file_kept change files) (old_paths change) (λ q kept. in_old_paths change q ((kept_is change files q kept).0).listed) path
 
-pub kept_rise : (change : FileChange) (files : Files) → AreSortedDistinctNames (kept_paths_of change files)
-unfolding kept_paths_of
-kept_rise change files = rises_just (is_modified_file_kept change files) (old_paths change)
+pub kept_rise : (change : FileChange) (files : Files) → AreSortedDistinctNames (kept_left_over_paths_of change files)
+unfolding kept_left_over_paths_of
+kept_rise change files = rises_just (is_left_over_modified_file_kept change files) (old_paths change)
 
-pub aside_hold : (change : FileChange) (files : Files) (path : List ℕ) → Contains (paths_with_apk_new_file change files) path ↔ (is_some (apk_new_listing_at change files path) ≡ true)
+pub aside_hold : (change : FileChange) (files : Files) (path : List ℕ) → Contains (paths_with_apk_new_file change files) path ↔ (is_some (listing_written_as_apk_new_beside change files path) ≡ true)
 unfolding paths_with_apk_new_file
 aside_hold change files path =
-    holds_just (λ path. is_some (apk_new_listing_at change files path)) (added_paths change.members)
-    (λ q laid. (let found = some_listing (apk_new_listing_at change files q) laid in in_coming_paths change q found.0 ((aside_found change files q found.0 found.1).0))) path
+    holds_just (λ path. is_some (listing_written_as_apk_new_beside change files path)) (added_paths change.members)
+    (λ q laid. (let found = some_listing (listing_written_as_apk_new_beside change files q) laid in in_coming_paths change q found.0 ((aside_found change files q found.0 found.1).0))) path
 
 pub aside_rise : (change : FileChange) (files : Files) → AreSortedDistinctNames (paths_with_apk_new_file change files)
 unfolding paths_with_apk_new_file
-aside_rise change files = rises_just (λ path. is_some (apk_new_listing_at change files path)) (added_paths change.members)
+aside_rise change files = rises_just (λ path. is_some (listing_written_as_apk_new_beside change files path)) (added_paths change.members)
 
 -- ---- no name is in two of the lists
 
-pub written_or_removed : (change : FileChange) (files : Files) (name : List ℕ) → is_written change files name ≡ true → is_removed change files name ≡ true → ⊥
+pub written_or_removed : (change : FileChange) (files : Files) (name : List ℕ) → is_listing_written_under_name change files name ≡ true → is_removed change files name ≡ true → ⊥
 written_or_removed change files name written removed = true≢false (sym written ∙ ((removed_is change files name removed).0).unwritten)
 
-pub removed_or_kept : (change : FileChange) (files : Files) (name : List ℕ) → is_removed change files name ≡ true → is_modified_file_kept change files name ≡ true → ⊥
+pub removed_or_kept : (change : FileChange) (files : Files) (name : List ℕ) → is_removed change files name ≡ true → is_left_over_modified_file_kept change files name ≡ true → ⊥
 removed_or_kept change files name removed kept = true≢false (sym ((kept_is change files name kept).1) ∙ (removed_is change files name removed).1)
 
 -- ---- as tests on names
 
-pub written_any : (change : FileChange) (files : Files) (name : List ℕ) → list_any (bytes_eq name) (map (λ w. w.name) (file_writes_of change files)) ≡ is_written change files name
+pub written_any : (change : FileChange) (files : Files) (name : List ℕ) → list_any (bytes_eq name) (map (λ w. w.name) (file_writes_of change files)) ≡ is_listing_written_under_name change files name
 written_any change files name =
-    any_is name (map (λ w. w.name) (file_writes_of change files)) (is_written change files name)
+    any_is name (map (λ w. w.name) (file_writes_of change files)) (is_listing_written_under_name change files name)
     (λ here. (writes_hold change files name).0 (contains_from_in _ name here))
     (λ written. in_from_contains _ name ((writes_hold change files name).1 written))
 

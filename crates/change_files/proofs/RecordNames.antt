@@ -5,13 +5,13 @@ use Rattle.std.specs.Str.{bytes_eq}
 use Rattle.base_core.specs.Files.{Files}
 use Rattle.file_owners.specs.db_core.Members.{Listing}
 use Rattle.change_files.specs.FileChange.{FileChange}
-use Rattle.change_files.specs.FilesAfter.{DatabaseAndWorldAfter, bytes_after_write_or_removal, files_after_change, database_name, is_removed, text_database_name, world_bytes_after, world_name, listing_written_under_name}
+use Rattle.change_files.specs.FilesAfter.{DatabaseAndWorldAfter, bytes_after_write_or_removal, files_after_change, database_name, is_removed, text_database_name, new_world_bytes_unless_empty_and_absent, world_name, listing_written_under_name}
 
 pub database_after : (change : FileChange) (bytes_of : Listing → List ℕ) (records : DatabaseAndWorldAfter) (files : Files) → files_after_change change bytes_of records files database_name ≡ Some records.database
 unfolding files_after_change
 database_after change bytes_of records files = refl
 
-world_written : (world : List ℕ) (old : Option (List ℕ)) → (world ≢ []) ⊎ IsSome old → world_bytes_after world old ≡ Some world
+world_written : (world : List ℕ) (old : Option (List ℕ)) → (world ≢ []) ⊎ IsSome old → new_world_bytes_unless_empty_and_absent world old ≡ Some world
 world_written [] None (inl full) = absurd (full refl)
 world_written [] None (inr there) = absurd (true≢false (sym there))
 world_written [] (Some old) h = refl
@@ -26,7 +26,7 @@ pub no_world_after : (change : FileChange) (bytes_of : Listing → List ℕ) (re
     → files_after_change change bytes_of records files world_name ≡ None
 unfolding files_after_change
 no_world_after change bytes_of records files empty none =
-    ap (λ (world : List ℕ). world_bytes_after world (files world_name)) empty ∙ ap (world_bytes_after []) none
+    ap (λ (world : List ℕ). new_world_bytes_unless_empty_and_absent world (files world_name)) empty ∙ ap (new_world_bytes_unless_empty_and_absent []) none
 
 pub no_text_after : (change : FileChange) (bytes_of : Listing → List ℕ) (records : DatabaseAndWorldAfter) (files : Files) → records.takes_text_over ≡ true
     → files_after_change change bytes_of records files text_database_name ≡ None

@@ -9,26 +9,26 @@ use Rattle.file_owners.specs.db_core.Members.{Listing, is_added}
 use Rattle.file_guard.specs.AsListed.{is_as_listed}
 use Rattle.change_files.specs.Fate.{agrees_with_old_entry, apk_new_name, fate_if_user_modified_file, fate_with_file_found, fate_of, gives_way, goes_aside, goes_in, is_as_old_entry_lists, is_protected_path}
 use Rattle.change_files.specs.FileChange.{FileChange, added_owner_listing, is_listed_after_change, old_entry, owner_listing, was_listed}
-use Rattle.change_files.specs.FilesAfter.{DatabaseAndWorldAfter, bytes_after_write_or_removal, files_after_change, database_name, if_written_in_place, is_modified_from_entry, is_modified_file_kept, is_no_longer_listed, is_removed, is_written, apk_new_listing_at, is_modified_config_to_keep, path_of_apk_new_name, text_database_name, world_bytes_after, world_name, listing_written_under_name, listing_written_in_place}
+use Rattle.change_files.specs.FilesAfter.{DatabaseAndWorldAfter, bytes_after_write_or_removal, files_after_change, database_name, if_written_in_place, is_present_and_modified_from_entry, is_left_over_modified_file_kept, is_left_over_and_not_written, is_removed, is_listing_written_under_name, listing_written_as_apk_new_beside, is_modified_config_to_keep, path_of_apk_new_name, text_database_name, new_world_bytes_unless_empty_and_absent, world_name, listing_written_under_name, listing_written_in_place}
 use Rattle.change_files.specs.NamesAfter.{added_paths}
-use Rattle.change_files.specs.Touched.{IsModifiedConfigFile, is_apk_new_name, is_added_path, is_database_or_world_name}
+use Rattle.change_files.specs.Touched.{IsModifiedConfigFile, is_name_of_written_apk_new_file, is_added_path, is_old_or_new_database_or_world_name}
 use Rattle.change_files.proofs.Lists.{any_name}
 use Rattle.change_files.proofs.OwnedFiles.{beside_is, claimed_by_owner, coming_is, in_coming_paths, nobody_beside, not_written, owner_is, owner_stays}
 
 -- ---- the bytes under a name
 
-pub changed_so : (change : FileChange) (bytes_of : Listing → List ℕ) (records : DatabaseAndWorldAfter) (files : Files) (name : List ℕ) → is_database_or_world_name records name ≡ false
+pub changed_so : (change : FileChange) (bytes_of : Listing → List ℕ) (records : DatabaseAndWorldAfter) (files : Files) (name : List ℕ) → is_old_or_new_database_or_world_name records name ≡ false
     → files_after_change change bytes_of records files name ≡ bytes_after_write_or_removal bytes_of (listing_written_under_name change files name) (is_removed change files name) (files name)
 unfolding files_after_change
 changed_so change bytes_of records files name other =
     let (database, behind) = or_parts (bytes_eq name database_name) (bytes_eq name world_name || (records.takes_text_over && bytes_eq name text_database_name)) other in
     let (world, text) = or_parts (bytes_eq name world_name) (records.takes_text_over && bytes_eq name text_database_name) behind in
     let after : Option (List ℕ) = bytes_after_write_or_removal bytes_of (listing_written_under_name change files name) (is_removed change files name) (files name) in
-    ap (λ (b : Bool). if b then Some records.database else (if bytes_eq name world_name then world_bytes_after records.world (files name) else (if records.takes_text_over && bytes_eq name text_database_name then None else after))) database
-    ∙ (ap (λ (b : Bool). if b then world_bytes_after records.world (files name) else (if records.takes_text_over && bytes_eq name text_database_name then None else after)) world
+    ap (λ (b : Bool). if b then Some records.database else (if bytes_eq name world_name then new_world_bytes_unless_empty_and_absent records.world (files name) else (if records.takes_text_over && bytes_eq name text_database_name then None else after))) database
+    ∙ (ap (λ (b : Bool). if b then new_world_bytes_unless_empty_and_absent records.world (files name) else (if records.takes_text_over && bytes_eq name text_database_name then None else after)) world
     ∙ ap (λ (b : Bool). if b then None else after) text)
 
-untouched : (change : FileChange) (bytes_of : Listing → List ℕ) (records : DatabaseAndWorldAfter) (files : Files) (name : List ℕ) → listing_written_under_name change files name ≡ None → is_removed change files name ≡ false → is_database_or_world_name records name ≡ false
+untouched : (change : FileChange) (bytes_of : Listing → List ℕ) (records : DatabaseAndWorldAfter) (files : Files) (name : List ℕ) → listing_written_under_name change files name ≡ None → is_removed change files name ≡ false → is_old_or_new_database_or_world_name records name ≡ false
     → files_after_change change bytes_of records files name ≡ files name
 untouched change bytes_of records files name none stays other =
     changed_so change bytes_of records files name other
@@ -37,41 +37,41 @@ untouched change bytes_of records files name none stays other =
 
 -- ---- what is left over
 
-claimed_not_left : (change : FileChange) (files : Files) (path : List ℕ) → is_listed_after_change change path ≡ true → is_no_longer_listed change files path ≡ false
+claimed_not_left : (change : FileChange) (files : Files) (path : List ℕ) → is_listed_after_change change path ≡ true → is_left_over_and_not_written change files path ≡ false
 claimed_not_left change files path claimed =
-    and_right (was_listed change path) (not (is_listed_after_change change path) && not (is_written change files path))
-    (and_left (not (is_listed_after_change change path)) (not (is_written change files path)) (not_from_true (is_listed_after_change change path) claimed))
+    and_right (was_listed change path) (not (is_listed_after_change change path) && not (is_listing_written_under_name change files path))
+    (and_left (not (is_listed_after_change change path)) (not (is_listing_written_under_name change files path)) (not_from_true (is_listed_after_change change path) claimed))
 
-removed_left : (change : FileChange) (files : Files) (path : List ℕ) → is_no_longer_listed change files path ≡ false → is_removed change files path ≡ false
+removed_left : (change : FileChange) (files : Files) (path : List ℕ) → is_left_over_and_not_written change files path ≡ false → is_removed change files path ≡ false
 unfolding is_removed
-removed_left change files path e = and_left (is_no_longer_listed change files path) (not (is_modified_config_to_keep change path (files path) (old_entry change path))) e
+removed_left change files path e = and_left (is_left_over_and_not_written change files path) (not (is_modified_config_to_keep change path (files path) (old_entry change path))) e
 
 never_listed : (change : FileChange) (files : Files) (name : List ℕ) → was_listed change name ≡ false → is_removed change files name ≡ false
 never_listed change files name never =
-    removed_left change files name (and_left (was_listed change name) (not (is_listed_after_change change name) && not (is_written change files name)) never)
+    removed_left change files name (and_left (was_listed change name) (not (is_listed_after_change change name) && not (is_listing_written_under_name change files name)) never)
 
 -- it was listed before, no package lists it now, and nothing is written there
 pub record IsLeftOver (change : FileChange) (files : Files) (path : List ℕ) : Type 0 where
   pub listed : was_listed change path ≡ true
   pub unclaimed : is_listed_after_change change path ≡ false
-  pub unwritten : is_written change files path ≡ false
+  pub unwritten : is_listing_written_under_name change files path ≡ false
 
-pub left_over_is : (change : FileChange) (files : Files) (path : List ℕ) → is_no_longer_listed change files path ≡ true → IsLeftOver change files path
+pub left_over_is : (change : FileChange) (files : Files) (path : List ℕ) → is_left_over_and_not_written change files path ≡ true → IsLeftOver change files path
 left_over_is change files path e =
-    let (listed, behind) = and_parts (was_listed change path) (not (is_listed_after_change change path) && not (is_written change files path)) e in
-    let (unclaimed, unwritten) = and_parts (not (is_listed_after_change change path)) (not (is_written change files path)) behind in
-    record { listed = listed; unclaimed = not-true (is_listed_after_change change path) unclaimed; unwritten = not-true (is_written change files path) unwritten }
+    let (listed, behind) = and_parts (was_listed change path) (not (is_listed_after_change change path) && not (is_listing_written_under_name change files path)) e in
+    let (unclaimed, unwritten) = and_parts (not (is_listed_after_change change path)) (not (is_listing_written_under_name change files path)) behind in
+    record { listed = listed; unclaimed = not-true (is_listed_after_change change path) unclaimed; unwritten = not-true (is_listing_written_under_name change files path) unwritten }
 
 pub removed_is : (change : FileChange) (files : Files) (path : List ℕ) → is_removed change files path ≡ true → IsLeftOver change files path × (is_modified_config_to_keep change path (files path) (old_entry change path) ≡ false)
 unfolding is_removed
 removed_is change files path e =
-    let (left, gone) = and_parts (is_no_longer_listed change files path) (not (is_modified_config_to_keep change path (files path) (old_entry change path))) e in
+    let (left, gone) = and_parts (is_left_over_and_not_written change files path) (not (is_modified_config_to_keep change path (files path) (old_entry change path))) e in
     (left_over_is change files path left, not-true (is_modified_config_to_keep change path (files path) (old_entry change path)) gone)
 
-pub kept_is : (change : FileChange) (files : Files) (path : List ℕ) → is_modified_file_kept change files path ≡ true → IsLeftOver change files path × (is_modified_config_to_keep change path (files path) (old_entry change path) ≡ true)
-unfolding is_modified_file_kept
+pub kept_is : (change : FileChange) (files : Files) (path : List ℕ) → is_left_over_modified_file_kept change files path ≡ true → IsLeftOver change files path × (is_modified_config_to_keep change path (files path) (old_entry change path) ≡ true)
+unfolding is_left_over_modified_file_kept
 kept_is change files path e =
-    let (left, stays) = and_parts (is_no_longer_listed change files path) (is_modified_config_to_keep change path (files path) (old_entry change path)) e in
+    let (left, stays) = and_parts (is_left_over_and_not_written change files path) (is_modified_config_to_keep change path (files path) (old_entry change path)) e in
     (left_over_is change files path left, stays)
 
 pub not_some : (o : Option Listing) → is_some o ≡ false → o ≡ None
@@ -80,13 +80,13 @@ not_some (Some l) e = absurd (true≢false e)
 
 -- ---- the file of a package that comes, and one that goes
 
-pub takes_its_path : (change : FileChange) (bytes_of : Listing → List ℕ) (records : DatabaseAndWorldAfter) (files : Files) (name : List ℕ) (l : Listing) → listing_written_under_name change files name ≡ Some l → is_database_or_world_name records name ≡ false
+pub takes_its_path : (change : FileChange) (bytes_of : Listing → List ℕ) (records : DatabaseAndWorldAfter) (files : Files) (name : List ℕ) (l : Listing) → listing_written_under_name change files name ≡ Some l → is_old_or_new_database_or_world_name records name ≡ false
     → files_after_change change bytes_of records files name ≡ Some (bytes_of l)
 takes_its_path change bytes_of records files name l written other =
     changed_so change bytes_of records files name other
     ∙ ap (λ (o : Option Listing). bytes_after_write_or_removal bytes_of o (is_removed change files name) (files name)) written
 
-pub is_gone : (change : FileChange) (bytes_of : Listing → List ℕ) (records : DatabaseAndWorldAfter) (files : Files) (name : List ℕ) → is_removed change files name ≡ true → is_database_or_world_name records name ≡ false
+pub is_gone : (change : FileChange) (bytes_of : Listing → List ℕ) (records : DatabaseAndWorldAfter) (files : Files) (name : List ℕ) → is_removed change files name ≡ true → is_old_or_new_database_or_world_name records name ≡ false
     → files_after_change change bytes_of records files name ≡ None
 is_gone change bytes_of records files name gone other =
     let (left, never) = removed_is change files name gone in
@@ -97,10 +97,10 @@ is_gone change bytes_of records files name gone other =
 may_stay_unremoved : (change : FileChange) (files : Files) (name : List ℕ) → is_modified_config_to_keep change name (files name) (old_entry change name) ≡ true → is_removed change files name ≡ false
 unfolding is_removed
 may_stay_unremoved change files name stays =
-    and_right (is_no_longer_listed change files name) (not (is_modified_config_to_keep change name (files name) (old_entry change name)))
+    and_right (is_left_over_and_not_written change files name) (not (is_modified_config_to_keep change name (files name) (old_entry change name)))
     (not_from_true (is_modified_config_to_keep change name (files name) (old_entry change name)) stays)
 
-pub is_spared : (change : FileChange) (bytes_of : Listing → List ℕ) (records : DatabaseAndWorldAfter) (files : Files) (name : List ℕ) → is_modified_file_kept change files name ≡ true → is_database_or_world_name records name ≡ false
+pub is_spared : (change : FileChange) (bytes_of : Listing → List ℕ) (records : DatabaseAndWorldAfter) (files : Files) (name : List ℕ) → is_left_over_modified_file_kept change files name ≡ true → is_old_or_new_database_or_world_name records name ≡ false
     → files_after_change change bytes_of records files name ≡ files name
 is_spared change bytes_of records files name kept other =
     let (left, stays) = kept_is change files name kept in
@@ -109,14 +109,14 @@ is_spared change bytes_of records files name kept other =
 -- ---- the file of a package that stays
 
 -- nothing is laid beside another file under a name that a package lists
-claimed_not_beside : (change : FileChange) (files : Files) (name : List ℕ) → is_listed_after_change change name ≡ true → is_apk_new_name change files name ≡ false
+claimed_not_beside : (change : FileChange) (files : Files) (name : List ℕ) → is_listed_after_change change name ≡ true → is_name_of_written_apk_new_file change files name ≡ false
 claimed_not_beside change files name claimed = by_path (path_of_apk_new_name name) refl
   where
-    by_path : (o : Option (List ℕ)) → path_of_apk_new_name name ≡ o → is_some (option_and_then (apk_new_listing_at change files) o) ≡ false
+    by_path : (o : Option (List ℕ)) → path_of_apk_new_name name ≡ o → is_some (option_and_then (listing_written_as_apk_new_beside change files) o) ≡ false
     by_path None e = refl
-    by_path (Some path) e = by_listing (apk_new_listing_at change files path) refl
+    by_path (Some path) e = by_listing (listing_written_as_apk_new_beside change files path) refl
       where
-        by_listing : (o : Option Listing) → apk_new_listing_at change files path ≡ o → is_some o ≡ false
+        by_listing : (o : Option Listing) → listing_written_as_apk_new_beside change files path ≡ o → is_some o ≡ false
         by_listing None laid = refl
         by_listing (Some l) laid =
             let free : is_listed_after_change change (apk_new_name path) ≡ false = nobody_beside change files path l laid in
@@ -134,7 +134,7 @@ pub left_where_it_stays : (change : FileChange) (files : Files) (path : List ℕ
 left_where_it_stays change files path l owner =
     removed_left change files path (claimed_not_left change files path (claimed_by_owner change path l (owner_is change path l owner)))
 
-pub stays_as_it_is : (change : FileChange) (bytes_of : Listing → List ℕ) (records : DatabaseAndWorldAfter) (files : Files) (path : List ℕ) (l : Listing) → owner_listing change path ≡ Some l → is_added l.member ≡ false → is_database_or_world_name records path ≡ false
+pub stays_as_it_is : (change : FileChange) (bytes_of : Listing → List ℕ) (records : DatabaseAndWorldAfter) (files : Files) (path : List ℕ) (l : Listing) → owner_listing change path ≡ Some l → is_added l.member ≡ false → is_old_or_new_database_or_world_name records path ≡ false
     → files_after_change change bytes_of records files path ≡ files path
 stays_as_it_is change bytes_of records files path l owner stays other =
     untouched change bytes_of records files path (unwritten_where_it_stays change files path l owner stays) (left_where_it_stays change files path l owner) other
@@ -180,14 +180,14 @@ users_file_stays change files path bytes (inl no_purge) own = by_entry (old_entr
     by_entry : (o : Option Plain) → old_entry change path ≡ o → is_removed change files path ≡ false
     by_entry None e = never_listed change files path (ap is_some e)
     by_entry (Some entry) e =
-        let stays : (is_protected_path path && (not change.purge && is_modified_from_entry entry (Some bytes))) ≡ true =
-        and_from (is_protected_path path) (not change.purge && is_modified_from_entry entry (Some bytes)) own.guarded
-        (and_from (not change.purge) (is_modified_from_entry entry (Some bytes)) (not_from_false change.purge no_purge) (not_from_false (is_as_listed entry bytes) (own.unlike_old entry e))) in
+        let stays : (is_protected_path path && (not change.purge && is_present_and_modified_from_entry entry (Some bytes))) ≡ true =
+        and_from (is_protected_path path) (not change.purge && is_present_and_modified_from_entry entry (Some bytes)) own.guarded
+        (and_from (not change.purge) (is_present_and_modified_from_entry entry (Some bytes)) (not_from_false change.purge no_purge) (not_from_false (is_as_listed entry bytes) (own.unlike_old entry e))) in
         may_stay_unremoved change files path
         (ap (λ (found : Option (List ℕ)). is_modified_config_to_keep change path found (old_entry change path)) own.present
         ∙ (ap (is_modified_config_to_keep change path (Some bytes)) e ∙ stays))
 
-pub users_file_is_spared : (change : FileChange) (bytes_of : Listing → List ℕ) (records : DatabaseAndWorldAfter) (files : Files) (path bytes : List ℕ) → (change.purge ≡ false) ⊎ (is_listed_after_change change path ≡ true) → IsModifiedConfigFile change files path bytes → is_apk_new_name change files path ≡ false → is_database_or_world_name records path ≡ false
+pub users_file_is_spared : (change : FileChange) (bytes_of : Listing → List ℕ) (records : DatabaseAndWorldAfter) (files : Files) (path bytes : List ℕ) → (change.purge ≡ false) ⊎ (is_listed_after_change change path ≡ true) → IsModifiedConfigFile change files path bytes → is_name_of_written_apk_new_file change files path ≡ false → is_old_or_new_database_or_world_name records path ≡ false
     → files_after_change change bytes_of records files path ≡ Some bytes
 users_file_is_spared change bytes_of records files path bytes unpurged own beside other =
     untouched change bytes_of records files path (not_written change files path (users_file_not_taken change files path bytes own) beside) (users_file_stays change files path bytes unpurged own) other
@@ -202,7 +202,7 @@ no_owner change path never = by_owner (added_owner_listing change path) refl
     by_owner None e = refl
     by_owner (Some l) e = absurd (true≢false (sym (any_name path (added_paths change.members) (in_coming_paths change path l e)) ∙ never))
 
-pub others_stay : (change : FileChange) (bytes_of : Listing → List ℕ) (records : DatabaseAndWorldAfter) (files : Files) (name : List ℕ) → was_listed change name ≡ false → is_added_path change name ≡ false → is_apk_new_name change files name ≡ false → is_database_or_world_name records name ≡ false
+pub others_stay : (change : FileChange) (bytes_of : Listing → List ℕ) (records : DatabaseAndWorldAfter) (files : Files) (name : List ℕ) → was_listed change name ≡ false → is_added_path change name ≡ false → is_name_of_written_apk_new_file change files name ≡ false → is_old_or_new_database_or_world_name records name ≡ false
     → files_after_change change bytes_of records files name ≡ files name
 others_stay change bytes_of records files name never_before never_now beside other =
     untouched change bytes_of records files name

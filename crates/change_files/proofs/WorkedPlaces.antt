@@ -2,8 +2,8 @@
 use Rattle.std.proofs.Common.{◌≡◌, ℕ, List, [], ◌∷◌, refl, codes, false}
 use Rattle.adb_view.specs.Plain.{Plain}
 use Rattle.base_core.specs.Files.{no_names}
-use Rattle.file_owners.specs.db_core.Members.{Listing, listings_of_path, member_of_added, member_listing, member_listings}
-use Rattle.file_owners.specs.path_claims.Contest.{winner}
+use Rattle.file_owners.specs.db_core.Members.{Listing, listings_of_path, member_of_added, listing_of_file_entry, listings_of_members}
+use Rattle.file_owners.specs.path_claims.Contest.{member_beating_all_others}
 use Rattle.file_guard.specs.pkg_core.Contents.{Contents}
 use Rattle.file_owners.specs.Owners.{claims_in, owner_of_path}
 use Rattle.change_files.specs.Fate.{fate_of}
@@ -22,7 +22,7 @@ comes = record { old = []; members = member_of_added two [] ∷ []; purge = fals
 -- ---- where a plan finds the files
 
 two_writes : file_writes_of comes no_names ≡ record { name = codes "a/x"; member = 0; folder = 1; file = 1 } ∷ record { name = codes "a/y"; member = 0; folder = 1; file = 2 } ∷ []
-unfolding member_listings listings_of_path owner_of_path claims_in winner old_listings old_entry is_listed_after_change owner_listing fate_of listing_written_under_name sorted_distinct_names file_writes_of
+unfolding listings_of_members listings_of_path owner_of_path claims_in member_beating_all_others old_listings old_entry is_listed_after_change owner_listing fate_of listing_written_under_name sorted_distinct_names file_writes_of
 two_writes = refl
 
 -- ---- what they have
@@ -32,7 +32,7 @@ abbrev has_y : ℕ → List Contents
 has_y place = record { folder = 1; file = 2; bytes = codes "y" } ∷ []
 
 abbrev listing_at : ℕ → Plain → Listing
-listing_at file entry = member_listing (member_of_added two []) 0 1 file (codes "a") entry
+listing_at file entry = listing_of_file_entry (member_of_added two []) 0 1 file (codes "a") entry
 
 with_contents : listing_bytes has_y (listing_at 2 (plain_file (codes "y") 1 [])) ≡ codes "y"
 unfolding listing_bytes

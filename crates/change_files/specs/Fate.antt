@@ -5,7 +5,7 @@ use Rattle.std.specs.List.{starts_with}
 use Rattle.adb_view.specs.Plain.{Plain}
 use Rattle.base_core.specs.Files.{Files}
 use Rattle.file_owners.specs.db_core.Members.{Listing}
-use Rattle.file_guard.specs.AsListed.{do_entries_agree, is_as_listed}
+use Rattle.file_guard.specs.AsListed.{are_sizes_hashes_targets_equal, is_as_listed}
 use Rattle.change_files.specs.FileChange.{FileChange, is_listed_after_change, old_entry}
 
 -- whether a path is a protected configuration file, which the user may change: it is below `etc/`
@@ -23,7 +23,7 @@ apk_new_name path = path ++ apk_new_ending
 -- whether there is an old entry of a path, the option, and it describes the same bytes as the new entry
 abbrev pub agrees_with_old_entry : Option Plain → Plain → Bool
 agrees_with_old_entry None entry = false
-agrees_with_old_entry (Some old) entry = do_entries_agree old entry
+agrees_with_old_entry (Some old) entry = are_sizes_hashes_targets_equal old entry
 
 -- whether there is an old entry of a path, the option, and it describes these bytes of the file at the path
 abbrev pub is_as_old_entry_lists : Option Plain → List ℕ → Bool

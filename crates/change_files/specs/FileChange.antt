@@ -3,7 +3,7 @@
 use Rattle.std.specs.Prelude.{ℕ, ◌==◌, Bool, List, map, Option, Some, None, option_map, option_and_then, is_some, bytes_eq, if◌then◌else◌}
 use Rattle.std.specs.List.{find, list_any}
 use Rattle.adb_view.specs.Plain.{Plain}
-use Rattle.file_owners.specs.db_core.Members.{Listing, Member, listings_of_path, is_added, member_listings, member_of_kept}
+use Rattle.file_owners.specs.db_core.Members.{Listing, Member, listings_of_path, is_added, listings_of_members, member_of_kept}
 use Rattle.file_owners.specs.Owners.{owner_of_path}
 
 -- a change of packages, as far as it determines what is done with files
@@ -19,7 +19,7 @@ pub record FileChange : Type 0 where
 
 -- the files that the packages before the change list, in the order of packages, folders and files
 unfoldable pub old_listings : FileChange → List Listing
-old_listings change = member_listings (map member_of_kept change.old)
+old_listings change = listings_of_members (map member_of_kept change.old)
 
 -- the entry for the path in the packages before the change, of which at most one lists the path
 unfoldable pub old_entry : FileChange → List ℕ → Option Plain
@@ -34,7 +34,8 @@ was_listed change path = is_some (old_entry change path)
 
 -- whether a package after the change lists the path
 unfoldable pub is_listed_after_change : FileChange → List ℕ → Bool
-is_listed_after_change change path = list_any (λ l. bytes_eq l.path path) (member_listings change.members)
+is_listed_after_change change path =
+    list_any (λ l. bytes_eq l.path path) (listings_of_members change.members)
 
 -- the listing of a path by the member that owns it; None if no member owns it
 unfoldable pub owner_listing : FileChange → List ℕ → Option Listing

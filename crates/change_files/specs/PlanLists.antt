@@ -11,23 +11,23 @@ use Rattle.file_owners.specs.db_core.Members.{Listing, Member}
 use Rattle.change_files.specs.NamesAfter.{added_paths}
 use Rattle.change_files.specs.Fate.{apk_new_name}
 use Rattle.change_files.specs.FileChange.{FileChange, old_listings}
-use Rattle.change_files.specs.FilesAfter.{is_modified_file_kept, is_removed, apk_new_listing_at, listing_written_under_name}
+use Rattle.change_files.specs.FilesAfter.{is_left_over_modified_file_kept, is_removed, listing_written_as_apk_new_beside, listing_written_under_name}
 
 -- ---- names in byte order, each once
 
 -- the names, preceded by the name, unless the first of the names is the same
-abbrev pub prepend_unless_repeated : List ℕ → List (List ℕ) → List (List ℕ)
-prepend_unless_repeated name [] = name ∷ []
-prepend_unless_repeated name (x ∷ xs) = cond (bytes_eq name x) (x ∷ xs) (name ∷ x ∷ xs)
+abbrev pub prepend_unless_equal_to_first : List ℕ → List (List ℕ) → List (List ℕ)
+prepend_unless_equal_to_first name [] = name ∷ []
+prepend_unless_equal_to_first name (x ∷ xs) = cond (bytes_eq name x) (x ∷ xs) (name ∷ x ∷ xs)
 
 -- the names, in which adjacent equal ones are replaced by one
-abbrev pub without_repeats : List (List ℕ) → List (List ℕ)
-without_repeats [] = []
-without_repeats (x ∷ xs) = prepend_unless_repeated x (without_repeats xs)
+abbrev pub without_adjacent_repeats : List (List ℕ) → List (List ℕ)
+without_adjacent_repeats [] = []
+without_adjacent_repeats (x ∷ xs) = prepend_unless_equal_to_first x (without_adjacent_repeats xs)
 
 -- the names, sorted in byte order, each once
 unfoldable pub sorted_distinct_names : List (List ℕ) → List (List ℕ)
-sorted_distinct_names names = without_repeats (sorted_by bytes_cmp names)
+sorted_distinct_names names = without_adjacent_repeats (sorted_by bytes_cmp names)
 
 -- the paths of the files that the packages before the change list
 abbrev pub old_paths : FileChange → List (List ℕ)
@@ -62,18 +62,18 @@ unfoldable pub removals_of : FileChange → Files → List (List ℕ)
 removals_of change files = filter (is_removed change files) (sorted_distinct_names (old_paths change))
 
 -- the paths at which the user's modified file is kept although no package lists them after the change, in byte order
-unfoldable pub kept_paths_of : FileChange → Files → List (List ℕ)
-kept_paths_of change files =
-    filter (is_modified_file_kept change files) (sorted_distinct_names (old_paths change))
+unfoldable pub kept_left_over_paths_of : FileChange → Files → List (List ℕ)
+kept_left_over_paths_of change files =
+    filter (is_left_over_modified_file_kept change files) (sorted_distinct_names (old_paths change))
 
 -- the paths beside which an `.apk-new` file is written, in byte order
 unfoldable pub paths_with_apk_new_file : FileChange → Files → List (List ℕ)
 paths_with_apk_new_file change files =
-    filter (λ path. is_some (apk_new_listing_at change files path))
+    filter (λ path. is_some (listing_written_as_apk_new_beside change files path))
     (sorted_distinct_names (added_paths change.members))
 
 -- ---- reserved paths
 
 -- the first reserved path in byte order that an added package lists
-unfoldable pub first_reserved_path : List Member → Option (List ℕ)
-first_reserved_path members = smallest_text (filter is_reserved (added_paths members))
+unfoldable pub first_reserved_added_path : List Member → Option (List ℕ)
+first_reserved_added_path members = smallest_text (filter is_reserved (added_paths members))

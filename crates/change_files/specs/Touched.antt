@@ -6,23 +6,23 @@ use Rattle.std.specs.List.{list_any}
 use Rattle.base_core.specs.Files.{Files}
 use Rattle.file_owners.specs.db_core.Members.{Listing}
 use Rattle.adb_view.specs.Plain.{Plain}
-use Rattle.file_guard.specs.AsListed.{do_entries_agree, is_as_listed}
+use Rattle.file_guard.specs.AsListed.{are_sizes_hashes_targets_equal, is_as_listed}
 use Rattle.change_files.specs.Fate.{is_protected_path}
 use Rattle.change_files.specs.FileChange.{FileChange, added_owner_listing, old_entry}
-use Rattle.change_files.specs.FilesAfter.{DatabaseAndWorldAfter, database_name, apk_new_listing_at, path_of_apk_new_name, text_database_name, world_name, listing_written_under_name}
+use Rattle.change_files.specs.FilesAfter.{DatabaseAndWorldAfter, database_name, listing_written_as_apk_new_beside, path_of_apk_new_name, text_database_name, world_name, listing_written_under_name}
 use Rattle.change_files.specs.NamesAfter.{added_paths}
 use Rattle.change_files.specs.PlanLists.{FileWrite, file_write_under_name}
 
 -- whether the name is that of the database, of world, or, if a text database is converted, of the text database
-abbrev pub is_database_or_world_name : DatabaseAndWorldAfter → List ℕ → Bool
-is_database_or_world_name records name =
+abbrev pub is_old_or_new_database_or_world_name : DatabaseAndWorldAfter → List ℕ → Bool
+is_old_or_new_database_or_world_name records name =
     bytes_eq name database_name
     || (bytes_eq name world_name || (records.takes_text_over && bytes_eq name text_database_name))
 
 -- whether the name is that of an `.apk-new` file that the change writes
-abbrev pub is_apk_new_name : FileChange → Files → List ℕ → Bool
-is_apk_new_name change files name =
-    is_some (option_and_then (apk_new_listing_at change files) (path_of_apk_new_name name))
+abbrev pub is_name_of_written_apk_new_file : FileChange → Files → List ℕ → Bool
+is_name_of_written_apk_new_file change files name =
+    is_some (option_and_then (listing_written_as_apk_new_beside change files) (path_of_apk_new_name name))
 
 -- whether an added package lists the path
 abbrev pub is_added_path : FileChange → List ℕ → Bool
@@ -43,9 +43,9 @@ pub record IsModifiedConfigFile (change : FileChange) (files : Files) (path byte
       → is_as_listed entry bytes ≡ false
 
 -- if a package listed the path before the change, its entry describes other bytes than the given entry
-abbrev pub DiffersFromOldEntry : FileChange → List ℕ → Plain → Type 0
-DiffersFromOldEntry change path entry =
-    (old : Plain) → old_entry change path ≡ Some old → do_entries_agree old entry ≡ false
+abbrev pub DiffersFromOldEntryIfAny : FileChange → List ℕ → Plain → Type 0
+DiffersFromOldEntryIfAny change path entry =
+    (old : Plain) → old_entry change path ≡ Some old → are_sizes_hashes_targets_equal old entry ≡ false
 
 -- the write is one of the change: a listed file is written under its name, and it has the contents of this file
 pub record IsPlannedWrite (change : FileChange) (files : Files) (write : FileWrite) : Type 0 where

@@ -7,18 +7,18 @@ ghost use Rattle.file_guard.specs.adb_schema.Texts.{is_file_with_contents};
 ghost use Rattle.base_core.specs.Files.{Files};
 ghost use Rattle.base_core.specs.Listed.{AreSortedDistinctNames};
 ghost use Rattle.base_core.specs.Name.{IsName};
-ghost use Rattle.file_owners.specs.db_core.Members.{Listing, Member, is_added, member_listings};
+ghost use Rattle.file_owners.specs.db_core.Members.{Listing, Member, is_added, listings_of_members};
 ghost use Rattle.file_guard.specs.AsListed.{has_target, is_as_listed};
 ghost use Rattle.file_owners.specs.Owners.{owner_of_path};
 ghost use Rattle.path_clashes.specs.Clash.{is_present_after_change};
 ghost use Rattle.file_guard.specs.pkg_core.Contents.{Contents, expected_files_of_package};
-ghost use Rattle.file_guard.specs.pkg_core.GoodContents.{AreContentsOf, HaveValidDigestLengths};
+ghost use Rattle.file_guard.specs.pkg_core.GoodContents.{AreContentsOfExpectedFiles, HaveValidDigestLengths};
 ghost use Rattle.change_files.specs.Fate.{apk_new_name};
 ghost use Rattle.change_files.specs.FileChange.{FileChange, added_owner_listing, is_listed_after_change, old_listings, owner_listing, was_listed};
-ghost use Rattle.change_files.specs.FilesAfter.{DatabaseAndWorldAfter, files_after_change, database_name, is_modified_file_kept, is_no_longer_listed, is_removed, is_written, apk_new_listing_at, listing_bytes, text_database_name, world_name, listing_written_under_name};
+ghost use Rattle.change_files.specs.FilesAfter.{DatabaseAndWorldAfter, files_after_change, database_name, is_left_over_modified_file_kept, is_left_over_and_not_written, is_removed, is_listing_written_under_name, listing_written_as_apk_new_beside, listing_bytes, text_database_name, world_name, listing_written_under_name};
 ghost use Rattle.change_files.specs.NamesAfter.{is_released, name_change};
-ghost use Rattle.change_files.specs.PlanLists.{FileWrite, paths_with_apk_new_file, file_writes_of, first_reserved_path, kept_paths_of, removals_of};
-ghost use Rattle.change_files.specs.Touched.{DiffersFromOldEntry, IsModifiedConfigFile, IsPlannedWrite, is_apk_new_name, is_added_path, is_database_or_world_name};
+ghost use Rattle.change_files.specs.PlanLists.{FileWrite, paths_with_apk_new_file, file_writes_of, first_reserved_added_path, kept_left_over_paths_of, removals_of};
+ghost use Rattle.change_files.specs.Touched.{DiffersFromOldEntryIfAny, IsModifiedConfigFile, IsPlannedWrite, is_name_of_written_apk_new_file, is_added_path, is_old_or_new_database_or_world_name};
 
 // ---- what is written
 
@@ -30,7 +30,7 @@ pub fn what_is_written_is_owned_by_an_added_package()
     ensures owner { (change : FileChange) (path : List ℕ) (l : Listing)
         → added_owner_listing change path ≡ Some l
         → (l.path ≡ path) × (is_added l.member ≡ true)
-        × Contains (member_listings change.members) l
+        × Contains (listings_of_members change.members) l
         × (owner_of_path change.members path ≡ Some l.place) }
     // If the listed file `l` is written under a name, its member is added and owns its path. The
     // name is its path, or this path with `.apk-new`.
@@ -59,18 +59,18 @@ pub fn what_differs_is_written_beside_the_users_file()
     // name.
     ensures beside { (change : FileChange) (files : Files) (path bytes : List ℕ) (l : Listing)
         → added_owner_listing change path ≡ Some l → IsModifiedConfigFile change files path bytes
-        → DiffersFromOldEntry change path l.entry
+        → DiffersFromOldEntryIfAny change path l.entry
         → IsName (apk_new_name path) → is_listed_after_change change (apk_new_name path) ≡ false
-        → apk_new_listing_at change files path ≡ Some l }
+        → listing_written_as_apk_new_beside change files path ≡ Some l }
     // The file is written aside only under these conditions.
     ensures only { (change : FileChange) (files : Files) (path : List ℕ) (l : Listing)
-        → apk_new_listing_at change files path ≡ Some l
+        → listing_written_as_apk_new_beside change files path ≡ Some l
         → ((bytes : List ℕ) × IsModifiedConfigFile change files path bytes)
-        × DiffersFromOldEntry change path l.entry
+        × DiffersFromOldEntryIfAny change path l.entry
         × (is_listed_after_change change (apk_new_name path) ≡ false) }
     // A file that is written aside is written under the name `PATH.apk-new`.
     ensures located { (change : FileChange) (files : Files) (path : List ℕ) (l : Listing)
-        → apk_new_listing_at change files path ≡ Some l
+        → listing_written_as_apk_new_beside change files path ≡ Some l
         → listing_written_under_name change files (apk_new_name path) ≡ Some l }
 {}
 
@@ -81,9 +81,9 @@ pub fn the_files_of_an_added_package_are_as_listed()
     // `contents` has the contents of the member's package, which have the listed sizes and digests.
     // If the entry is that of an empty file, its digest must be that of no bytes.
     ensures { (contents : ℕ → List Contents) (members : List Member) (l : Listing)
-        → Contains (member_listings members) l
+        → Contains (listings_of_members members) l
         → HaveValidDigestLengths (expected_files_of_package l.member.pkg)
-        → AreContentsOf (expected_files_of_package l.member.pkg) (contents l.place)
+        → AreContentsOfExpectedFiles (expected_files_of_package l.member.pkg) (contents l.place)
         → (is_file_with_contents l.entry ≡ false → has_target l.entry ≡ false
         → is_as_listed l.entry [] ≡ true)
         → is_as_listed l.entry (listing_bytes contents l) ≡ true }
@@ -94,7 +94,7 @@ pub fn what_is_written_takes_its_name()
     ensures { (change : FileChange) (bytes_of : Listing → List ℕ) (records : DatabaseAndWorldAfter)
         (files : Files) (name : List ℕ) (l : Listing)
         → listing_written_under_name change files name ≡ Some l
-        → is_database_or_world_name records name ≡ false
+        → is_old_or_new_database_or_world_name records name ≡ false
         → files_after_change change bytes_of records files name ≡ Some (bytes_of l) }
 {}
 
@@ -104,12 +104,12 @@ pub fn what_is_written_is_not_reserved()
     // If no added package lists a reserved path, a name under which a listed file is written is not
     // reserved.
     ensures written { (change : FileChange) (files : Files) (name : List ℕ) (l : Listing)
-        → first_reserved_path change.members ≡ None
+        → first_reserved_added_path change.members ≡ None
         → listing_written_under_name change files name ≡ Some l
         → is_reserved name ≡ false }
     // The names of the database, of world and of a text database are reserved.
     ensures records { (records : DatabaseAndWorldAfter) (name : List ℕ) →
-        is_database_or_world_name records name ≡ true
+        is_old_or_new_database_or_world_name records name ≡ true
         → is_reserved name ≡ true }
 {}
 
@@ -126,7 +126,7 @@ pub fn what_is_removed_was_listed_before()
     ensures gone { (change : FileChange) (bytes_of : Listing
         → List ℕ) (records : DatabaseAndWorldAfter)
         (files : Files) (path : List ℕ) → is_removed change files path ≡ true
-        → is_database_or_world_name records path ≡ false
+        → is_old_or_new_database_or_world_name records path ≡ false
         → files_after_change change bytes_of records files path ≡ None }
 {}
 
@@ -144,14 +144,14 @@ pub fn what_is_left_over_is_removed_unless_it_is_the_users()
     // Such a path is removed, if it has no configuration file that the user changed, or if
     // `--purge` is given.
     ensures goes { (change : FileChange) (files : Files) (path : List ℕ)
-        → is_no_longer_listed change files path ≡ true
+        → is_left_over_and_not_written change files path ≡ true
         → ((bytes : List ℕ) → IsModifiedConfigFile change files path bytes → ⊥) ⊎ (change.purge
         ≡ true)
         → is_removed change files path ≡ true }
     // If the file at such a path is kept, it is configuration that the user changed, and `--purge`
     // is not given.
     ensures kept { (change : FileChange) (files : Files) (path : List ℕ)
-        → is_modified_file_kept change files path ≡ true
+        → is_left_over_modified_file_kept change files path ≡ true
         → ((bytes : List ℕ) × IsModifiedConfigFile change files path bytes) × (change.purge
         ≡ false) }
 {}
@@ -170,7 +170,7 @@ pub fn the_file_of_a_kept_package_is_not_touched()
         → List ℕ) (records : DatabaseAndWorldAfter)
         (files : Files) (path : List ℕ) (l : Listing)
         → owner_listing change path ≡ Some l → is_added l.member ≡ false
-        → is_database_or_world_name records path ≡ false
+        → is_old_or_new_database_or_world_name records path ≡ false
         → files_after_change change bytes_of records files path ≡ files path }
 {}
 
@@ -182,7 +182,8 @@ pub fn configuration_that_the_user_changed_is_kept()
         (files : Files) (path bytes : List ℕ)
         → (change.purge ≡ false) ⊎ (is_listed_after_change change path ≡ true)
         → IsModifiedConfigFile change files path bytes
-        → is_apk_new_name change files path ≡ false → is_database_or_world_name records path ≡ false
+        → is_name_of_written_apk_new_file change files path ≡ false
+        → is_old_or_new_database_or_world_name records path ≡ false
         → files_after_change change bytes_of records files path ≡ Some bytes }
 {}
 
@@ -190,8 +191,8 @@ pub fn configuration_that_the_user_changed_is_kept()
 /// unchanged.
 pub fn what_is_kept_is_unchanged()
     ensures { (change : FileChange) (bytes_of : Listing → List ℕ) (records : DatabaseAndWorldAfter)
-        (files : Files) (path : List ℕ) → is_modified_file_kept change files path ≡ true
-        → is_database_or_world_name records path ≡ false
+        (files : Files) (path : List ℕ) → is_left_over_modified_file_kept change files path ≡ true
+        → is_old_or_new_database_or_world_name records path ≡ false
         → files_after_change change bytes_of records files path ≡ files path }
 {}
 
@@ -201,7 +202,8 @@ pub fn a_name_that_nobody_lists_is_not_touched()
     ensures { (change : FileChange) (bytes_of : Listing → List ℕ) (records : DatabaseAndWorldAfter)
         (files : Files) (name : List ℕ) → was_listed change name ≡ false
         → is_added_path change name ≡ false
-        → is_apk_new_name change files name ≡ false → is_database_or_world_name records name ≡ false
+        → is_name_of_written_apk_new_file change files name ≡ false
+        → is_old_or_new_database_or_world_name records name ≡ false
         → files_after_change change bytes_of records files name ≡ files name }
 {}
 
@@ -224,14 +226,15 @@ pub fn the_names_after_a_change_are_those_of_its_files()
         → List ℕ) (records : DatabaseAndWorldAfter)
         (files : Files) (name : List ℕ)
         → is_some (files name) ≡ true → is_released change files name ≡ false
-        → is_database_or_world_name records name ≡ false
+        → is_old_or_new_database_or_world_name records name ≡ false
         → is_some (files_after_change change bytes_of records files name) ≡ true }
     // A released name under which nothing is written has no file after the change.
     ensures gone { (change : FileChange) (bytes_of : Listing
         → List ℕ) (records : DatabaseAndWorldAfter)
         (files : Files) (name : List ℕ)
-        → is_released change files name ≡ true → is_written change files name ≡ false
-        → is_database_or_world_name records name ≡ false
+        → is_released change files name ≡ true → is_listing_written_under_name change files name
+        ≡ false
+        → is_old_or_new_database_or_world_name records name ≡ false
         → files_after_change change bytes_of records files name ≡ None }
 {}
 
@@ -274,20 +277,21 @@ pub fn the_lists_of_a_plan_hold_just_its_names()
     // The list of writes has exactly the names under which a listed file is written.
     ensures written { (change : FileChange) (files : Files) (name : List ℕ)
         → Contains (map (λ write. write.name) (file_writes_of change files)) name
-        ↔ (is_written change files name ≡ true) }
+        ↔ (is_listing_written_under_name change files name ≡ true) }
     // The list of removals has exactly the removed paths.
     ensures removed { (change : FileChange) (files : Files) (path : List ℕ)
         → Contains (removals_of change files) path ↔ (is_removed change files path ≡ true) }
     // The list of kept paths has exactly the paths at which the user's modified file is kept
     // although no package lists them after the change.
     ensures kept { (change : FileChange) (files : Files) (path : List ℕ)
-        → Contains (kept_paths_of change files) path ↔ (is_modified_file_kept change files path
+        → Contains (kept_left_over_paths_of change files) path
+        ↔ (is_left_over_modified_file_kept change files path
         ≡ true) }
     // The list `paths_with_apk_new_file` has exactly the paths beside which an `.apk-new` file is
     // written.
     ensures aside { (change : FileChange) (files : Files) (path : List ℕ)
         → Contains (paths_with_apk_new_file change files) path
-        ↔ (is_some (apk_new_listing_at change files path) ≡ true) }
+        ↔ (is_some (listing_written_as_apk_new_beside change files path) ≡ true) }
 {}
 
 /// A law: each list of a plan is in byte order of names, and no name is repeated.
@@ -300,7 +304,7 @@ pub fn the_lists_of_a_plan_rise()
         → AreSortedDistinctNames (removals_of change files) }
     // The kept paths are in byte order, each once.
     ensures kept { (change : FileChange) (files : Files)
-        → AreSortedDistinctNames (kept_paths_of change files) }
+        → AreSortedDistinctNames (kept_left_over_paths_of change files) }
     // The paths beside which an `.apk-new` file is written are in byte order, each once.
     ensures aside { (change : FileChange) (files : Files)
         → AreSortedDistinctNames (paths_with_apk_new_file change files) }
@@ -310,9 +314,11 @@ pub fn the_lists_of_a_plan_rise()
 pub fn a_name_has_one_place_in_a_plan()
     // A written name is not removed.
     ensures removed { (change : FileChange) (files : Files) (name : List ℕ)
-        → is_written change files name ≡ true → is_removed change files name ≡ false }
+        → is_listing_written_under_name change files name ≡ true → is_removed change files name
+        ≡ false }
     // A path at which the user's file is kept is neither written nor removed.
     ensures kept { (change : FileChange) (files : Files) (name : List ℕ)
-        → is_modified_file_kept change files name ≡ true
-        → (is_written change files name ≡ false) × (is_removed change files name ≡ false) }
+        → is_left_over_modified_file_kept change files name ≡ true
+        → (is_listing_written_under_name change files name ≡ false)
+        × (is_removed change files name ≡ false) }
 {}

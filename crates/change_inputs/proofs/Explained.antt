@@ -7,7 +7,7 @@ use Rattle.command_core.specs.Command.{CommandLine}
 use Rattle.dep_core.specs.Repositories.{Repository}
 use Rattle.package_files.specs.make_info.Reads.{Reads}
 use Rattle.package_files.proofs.ReadLemmas.{explained}
-use Rattle.package_files.specs.Runs.{IsExplainedBySomeReads}
+use Rattle.package_files.specs.Runs.{HoldsOfSomeReadsOfTree}
 use Rattle.report_core.specs.declared.refusal.Refusal as Refusals
 use Rattle.root_names.specs.RootNames.{database_name, repositories_name, text_database_name, world_name}
 use Rattle.adb_view.specs.Plain.{Plain}
@@ -17,7 +17,7 @@ use Rattle.change_inputs.specs.Answers.{Agrees, AgreesUnlessDiskOrMemory, IsDisk
 use Rattle.change_inputs.specs.Chains.{and_then}
 use Rattle.change_inputs.specs.Database.{Database, root_database}
 use Rattle.change_inputs.specs.Indexes.{index_files_from, indexes_in_files, root_indexes}
-use Rattle.change_inputs.specs.Inputs.{Inputs, Root, database_for, index_reads_from, indexes_of, inputs_from_parts, inputs_of, root_for, root_from_files_found}
+use Rattle.change_inputs.specs.Inputs.{Inputs, Root, database_for, index_reads_from, indexes_of, inputs_from_parts, inputs_of, root_for, root_from_databases_world_repositories}
 use Rattle.change_inputs.specs.RootFiles.{AreRootFilesInTree}
 use Rattle.change_inputs.specs.declared.root.Refused.{Refused}
 use Rattle.change_inputs.specs.declared.root.RootFiles.{RootFiles}
@@ -67,7 +67,7 @@ pub record AreReads (read : Reads) (file text world repositories : Option (List 
 
 pub explained_root : (history : List TreeState) (file text world repositories : Option (List ℕ)) (rs : List Repository) (fs : List (Option (List ℕ)))
     → IsFileFoundInTree history database_name file → IsFileFoundInTree history text_database_name text → IsFileFoundInTree history world_name world → IsFileFoundInTree history repositories_name repositories → AreFilesFoundInTree history rs fs
-    → IsExplainedBySomeReads history (λ read. AreReads read file text world repositories rs fs)
+    → HoldsOfSomeReadsOfTree history (λ read. AreReads read file text world repositories rs fs)
 explained_root [] file text world repositories rs fs a b c d stand =
     let all = file ∷ text ∷ world ∷ repositories ∷ fs in
     let found = found_from all in
@@ -112,14 +112,14 @@ unfolding text_or
 same_database may_begin history text None = refl
 same_database may_begin history text (Some file) = refl
 
-same_root : (command : CommandLine) (history : List TreeState) (text file world repositories : Option (List ℕ)) → root_from_files_found command file (text_or history text file) world repositories ≡ root_from_files_found command file text world repositories
+same_root : (command : CommandLine) (history : List TreeState) (text file world repositories : Option (List ℕ)) → root_from_databases_world_repositories command file (text_or history text file) world repositories ≡ root_from_databases_world_repositories command file text world repositories
 unfolding text_or
 same_root command history text None world repositories = refl
 same_root command history text (Some file) world repositories = refl
 
 -- the database alone
 pub explained_database : (history : List TreeState) (command : CommandLine) (file text : Option (List ℕ)) → IsFileFoundInTree history database_name file → (file ≡ None → IsFileFoundInTree history text_database_name text)
-    → IsExplainedBySomeReads history (λ read. database_for command read ≡ root_database command.flags.initdb file text)
+    → HoldsOfSomeReadsOfTree history (λ read. database_for command read ≡ root_database command.flags.initdb file text)
 explained_database history command file text located text_stand =
     let e = explained_root history file (text_or history text file) (unread history world_name) (unread history repositories_name) [] [] located (text_stands history text file text_stand) (unread_stands history world_name) (unread_stands history repositories_name) tt in
     record {
@@ -129,11 +129,11 @@ explained_database history command file text located text_stand =
     }
 
 pub database_failed : {A : Type 0} (view : A → Database) (history : List TreeState) (command : CommandLine) (r : Result A Refused) (fault : Refused) → IsErrAnd r (λ e. e ≡ fault) → IsDiskOrMemoryFailure fault
-    → IsExplainedBySomeReads history (λ read. AgreesUnlessDiskOrMemory view r (database_for command read))
+    → HoldsOfSomeReadsOfTree history (λ read. AgreesUnlessDiskOrMemory view r (database_for command read))
 database_failed view history command r fault is failed = explained history (λ read. AgreesUnlessDiskOrMemory view r (database_for command read)) (λ read. failure_agrees view (database_for command read) r fault is failed)
 
 pub database_refused : {A B : Type 0} (view : A → Database) (seen : B → Database) (history : List TreeState) (command : CommandLine) (file text : Option (List ℕ)) (r : Result A Refused) (fault : Refused) → IsFileFoundInTree history database_name file → (file ≡ None → IsFileFoundInTree history text_database_name text)
-    → IsErrAnd r (λ e. e ≡ fault) → Agrees seen (Err fault) (root_database command.flags.initdb file text) → IsExplainedBySomeReads history (λ read. AgreesUnlessDiskOrMemory view r (database_for command read))
+    → IsErrAnd r (λ e. e ≡ fault) → Agrees seen (Err fault) (root_database command.flags.initdb file text) → HoldsOfSomeReadsOfTree history (λ read. AgreesUnlessDiskOrMemory view r (database_for command read))
 database_refused view seen history command file text r fault located text_stand is h =
     let e = explained_database history command file text located text_stand in
     record {
@@ -143,13 +143,13 @@ database_refused view seen history command file text r fault located text_stand 
     }
 
 pub database_given : (history : List TreeState) (command : CommandLine) (file text : Option (List ℕ)) (database : Database) → IsFileFoundInTree history database_name file → (file ≡ None → IsFileFoundInTree history text_database_name text)
-    → root_database command.flags.initdb file text ≡ Ok database → IsExplainedBySomeReads history (λ read. database_for command read ≡ Ok database)
+    → root_database command.flags.initdb file text ≡ Ok database → HoldsOfSomeReadsOfTree history (λ read. database_for command read ≡ Ok database)
 database_given history command file text database located text_stand is =
     let e = explained_database history command file text located text_stand in
     record { read = e.read; observed = e.observed; is = e.is ∙ is }
 
 pub explained_files : (history : List TreeState) (command : CommandLine) (files : RootFiles) (rs : List Repository) (fs : List (Option (List ℕ))) → AreRootFilesInTree history files → AreFilesFoundInTree history rs fs
-    → IsExplainedBySomeReads history (λ read. (root_for command read ≡ root_from_files_found command (bytes_in files.database) (bytes_in files.text_database) (bytes_in files.world) (bytes_in files.repositories)) × (index_reads_from read 4 rs ≡ fs))
+    → HoldsOfSomeReadsOfTree history (λ read. (root_for command read ≡ root_from_databases_world_repositories command (bytes_in files.database) (bytes_in files.text_database) (bytes_in files.world) (bytes_in files.repositories)) × (index_reads_from read 4 rs ≡ fs))
 explained_files history command files rs fs stand indexes =
     let file = bytes_in files.database in
     let e = explained_root history file (text_or history (bytes_in files.text_database) file) (bytes_in files.world) (bytes_in files.repositories) rs fs stand.database (text_stands history (bytes_in files.text_database) file stand.text_database) stand.world stand.repositories indexes in
@@ -157,7 +157,7 @@ explained_files history command files rs fs stand indexes =
       read = e.read;
       observed = e.observed;
       is = (
-        (λ i. root_from_files_found command (e.is.file_is i) (e.is.text_is i) (e.is.world_is i) (e.is.repositories_is i)) ∙ same_root command history (bytes_in files.text_database) file (bytes_in files.world) (bytes_in files.repositories),
+        (λ i. root_from_databases_world_repositories command (e.is.file_is i) (e.is.text_is i) (e.is.world_is i) (e.is.repositories_is i)) ∙ same_root command history (bytes_in files.text_database) file (bytes_in files.world) (bytes_in files.repositories),
         e.is.indexes_are,
       );
     }
@@ -166,7 +166,7 @@ explained_files history command files rs fs stand indexes =
 
 -- nothing is said if the tree failed or no memory was found
 pub explained_failure : {A : Type 0} (view : A → Inputs) (history : List TreeState) (command : CommandLine) (r : Result A Refused) (fault : Refused) → IsErrAnd r (λ e. e ≡ fault) → IsDiskOrMemoryFailure fault
-    → IsExplainedBySomeReads history (λ read. AgreesUnlessDiskOrMemory view r (inputs_of command read))
+    → HoldsOfSomeReadsOfTree history (λ read. AgreesUnlessDiskOrMemory view r (inputs_of command read))
 explained_failure view history command r fault is failed = explained history (λ read. AgreesUnlessDiskOrMemory view r (inputs_of command read)) (λ read. failure_agrees view (inputs_of command read) r fault is failed)
 
 abbrev then_indexes : Reads → Root → Result Inputs Refusals.Refusal
@@ -174,8 +174,8 @@ then_indexes read root = and_then (indexes_of read root.repositories) (λ indexe
 
 -- a root that is refused
 pub explained_refusal : {A B : Type 0} (view : A → Inputs) (seen : B → Root) (history : List TreeState) (command : CommandLine) (files : RootFiles) (r : Result A Refused) (fault : Refused) → AreRootFilesInTree history files → IsErrAnd r (λ e. e ≡ fault)
-    → Agrees seen (Err fault) (root_from_files_found command (bytes_in files.database) (bytes_in files.text_database) (bytes_in files.world) (bytes_in files.repositories))
-    → IsExplainedBySomeReads history (λ read. AgreesUnlessDiskOrMemory view r (inputs_of command read))
+    → Agrees seen (Err fault) (root_from_databases_world_repositories command (bytes_in files.database) (bytes_in files.text_database) (bytes_in files.world) (bytes_in files.repositories))
+    → HoldsOfSomeReadsOfTree history (λ read. AgreesUnlessDiskOrMemory view r (inputs_of command read))
 unfolding inputs_of
 explained_refusal view seen history command files r fault stand is h =
     let e = explained_files history command files [] [] stand tt in
@@ -189,9 +189,9 @@ explained_refusal view seen history command files r fault stand is h =
 
 -- a root that is good, and what comes of its indexes
 pub explained_indexes : {A : Type 0} (view : A → Inputs) (history : List TreeState) (command : CommandLine) (files : RootFiles) (root : Root) (fs : List (Option (List ℕ))) (r : Result A Refused) → AreRootFilesInTree history files
-    → root_from_files_found command (bytes_in files.database) (bytes_in files.text_database) (bytes_in files.world) (bytes_in files.repositories) ≡ Ok root
+    → root_from_databases_world_repositories command (bytes_in files.database) (bytes_in files.text_database) (bytes_in files.world) (bytes_in files.repositories) ≡ Ok root
     → AreFilesFoundInTree history root.repositories fs → AgreesUnlessDiskOrMemory view r (and_then (root_indexes fs) (λ indexes. Ok (inputs_from_parts root indexes)))
-    → IsExplainedBySomeReads history (λ read. AgreesUnlessDiskOrMemory view r (inputs_of command read))
+    → HoldsOfSomeReadsOfTree history (λ read. AgreesUnlessDiskOrMemory view r (inputs_of command read))
 unfolding inputs_of
 explained_indexes view history command files root fs r stand good indexes h =
     let e = explained_files history command files root.repositories fs stand indexes in
@@ -228,16 +228,16 @@ indexes_good root fs files indexes there good =
     ∙ ap (λ (x : Result (List Plain) Refusals.Refusal). and_then x (λ indexes. Ok (inputs_from_parts root indexes))) good
 
 pub explained_good : (history : List TreeState) (command : CommandLine) (files : RootFiles) (root : Root) (fs : List (Option (List ℕ))) (found : List (List ℕ)) (indexes : List Plain) → AreRootFilesInTree history files
-    → root_from_files_found command (bytes_in files.database) (bytes_in files.text_database) (bytes_in files.world) (bytes_in files.repositories) ≡ Ok root
+    → root_from_databases_world_repositories command (bytes_in files.database) (bytes_in files.text_database) (bytes_in files.world) (bytes_in files.repositories) ≡ Ok root
     → AreFilesFoundInTree history root.repositories fs → index_files_from 1 fs ≡ Ok found → indexes_in_files 1 found ≡ Ok indexes
-    → IsExplainedBySomeReads history (λ read. inputs_of command read ≡ Ok (inputs_from_parts root indexes))
+    → HoldsOfSomeReadsOfTree history (λ read. inputs_of command read ≡ Ok (inputs_from_parts root indexes))
 explained_good history command files root fs found indexes stand good those there are =
     explained_indexes {A = Inputs} (λ inputs. inputs) history command files root fs (Ok (inputs_from_parts root indexes)) stand good those (indexes_good root fs found indexes there are)
 
 -- ---- over a tree as it was before
 
-pub as_before : (old now : List TreeState) (P : Reads → Type 0) → now ≡ old → IsExplainedBySomeReads now P → IsExplainedBySomeReads old P
-as_before old now P same h = subst (λ (t : List TreeState). IsExplainedBySomeReads t P) same h
+pub as_before : (old now : List TreeState) (P : Reads → Type 0) → now ≡ old → HoldsOfSomeReadsOfTree now P → HoldsOfSomeReadsOfTree old P
+as_before old now P same h = subst (λ (t : List TreeState). HoldsOfSomeReadsOfTree t P) same h
 
 pub root_as_now : (old now : List TreeState) (files : RootFiles) → now ≡ old → AreRootFilesInTree old files → AreRootFilesInTree now files
 root_as_now old now files same h = subst (λ (t : List TreeState). AreRootFilesInTree t files) (sym same) h

@@ -8,7 +8,7 @@ use Rattle.report_core.specs.declared.refusal.Refusal as Refusals
 use Rattle.root_names.specs.RootNames.{database_name, repositories_name, text_database_name, world_name}
 use Rattle.change_inputs.specs.Chains.{and_then}
 use Rattle.change_inputs.specs.Indexes.{root_indexes}
-use Rattle.change_inputs.specs.Inputs.{Inputs, Root, index_reads_from, indexes_of, inputs_from_parts, inputs_of, root_for, root_from_files_found}
+use Rattle.change_inputs.specs.Inputs.{Inputs, Root, index_reads_from, indexes_of, inputs_from_parts, inputs_of, root_for, root_from_databases_world_repositories}
 
 same_index_reads : (read other : Reads) (n : ℕ) (rs : List Repository) → ((k : ℕ) (name : List ℕ) → k < n + length rs → read k name ≡ other k name) → index_reads_from read n rs ≡ index_reads_from other n rs
 same_index_reads read other n [] h = refl
@@ -30,7 +30,7 @@ module _ (command : CommandLine) (read other : Reads) where
       let e1 : read 1 text_database_name ≡ other 1 text_database_name = h 1 text_database_name (omega arith) in
       let e2 : read 2 world_name ≡ other 2 world_name = h 2 world_name (omega arith) in
       let e3 : read 3 repositories_name ≡ other 3 repositories_name = h 3 repositories_name (omega arith) in
-      let roots : root_for command other ≡ Ok root = sym (λ i. root_from_files_found command (e0 i) (e1 i) (e2 i) (e3 i)) ∙ good in
+      let roots : root_for command other ≡ Ok root = sym (λ i. root_from_databases_world_repositories command (e0 i) (e1 i) (e2 i) (e3 i)) ∙ good in
       let all : indexes_of other root.repositories ≡ Ok indexes = ap root_indexes (sym (same_index_reads read other 4 root.repositories h)) ∙ those in
       ap (λ r. and_then r (λ root. and_then (indexes_of other root.repositories) (λ indexes. Ok (inputs_from_parts root indexes)))) roots
       ∙ ap (λ r. and_then r (λ indexes. Ok (inputs_from_parts root indexes))) all

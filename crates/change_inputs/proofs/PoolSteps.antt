@@ -14,7 +14,7 @@ use Rattle.command_core.proofs.Entries.{left_at}
 use Rattle.db_core.proofs.Places.{nth_listed}
 use Rattle.dep_core.specs.Repositories.{Repository}
 use Rattle.pool_core.proofs.candidate_core.Installed.{counted_once, stands_last}
-use Rattle.pool_core.specs.candidate_core.Candidates.{Candidate, candidate_of, candidates_of_index, is_same_package, with_installed}
+use Rattle.pool_core.specs.candidate_core.Candidates.{Candidate, candidate_of, candidates_of_index, is_same_package, with_installed_marked_or_added}
 use Rattle.pool_core.specs.candidate_core.Rank.{SealedPool, UpgradedNames, sealed_pool_from_parts}
 use Rattle.pool_core.specs.candidate_core.Values.{IsPoolFault}
 use Rattle.pool_core.specs.candidate_core.declared.candidate_list.PoolFault.{PoolFault}
@@ -31,10 +31,10 @@ fault_handed n (Err e) fault is h = subst (λ f. IsPoolFault f n) (sym is) h
 
 -- ---- the installed packages
 
-one_longer : (cs : List Candidate) (c : Candidate) → length cs ≤ length (with_installed cs c)
+one_longer : (cs : List Candidate) (c : Candidate) → length cs ≤ length (with_installed_marked_or_added cs c)
 one_longer cs c = go (list_any (is_same_package c) cs) refl
   where
-    go : (b : Bool) → list_any (is_same_package c) cs ≡ b → length cs ≤ length (with_installed cs c)
+    go : (b : Bool) → list_any (is_same_package c) cs ≡ b → length cs ≤ length (with_installed_marked_or_added cs c)
     go true is = let same = counted_once cs c is in omega (arith, same)
     go false is = let same = ap length (stands_last cs c is) ∙ length-append cs (c ∷ []) in omega (arith, same)
 
@@ -42,7 +42,7 @@ pub all_longer : (cs : List Candidate) (pkgs : List Plain) → length cs ≤ len
 all_longer cs [] = omega arith
 all_longer cs (pkg ∷ pkgs) =
     let one = one_longer cs (installed_candidate pkg) in
-    let rest = all_longer (with_installed cs (installed_candidate pkg)) pkgs in
+    let rest = all_longer (with_installed_marked_or_added cs (installed_candidate pkg)) pkgs in
     omega (arith, one, rest)
 
 abbrev pub IsInstalledTo : Plains → ℕ → List Candidate → List Candidate → Type 0
@@ -53,17 +53,17 @@ listed vs i pkg lt is =
     let here : i + 1 - 1 ≡ i = omega arith in
     left_at (list_of vs) i pkg (nth_listed vs i lt ∙ ap Some (sym (is ∙ ap (nth vs) here)))
 
-pub installed_more : (vs : Plains) (i : ℕ) (pkg info : Plain) (start now next : List Candidate) → i < count_of vs → pkg ≡ nth vs (i + 1 - 1) → info ≡ entry_in pkg 0 → next ≡ with_installed now (candidate_of info None None true) → IsInstalledTo vs i start now → IsInstalledTo vs (i + 1) start next
+pub installed_more : (vs : Plains) (i : ℕ) (pkg info : Plain) (start now next : List Candidate) → i < count_of vs → pkg ≡ nth vs (i + 1 - 1) → info ≡ entry_in pkg 0 → next ≡ with_installed_marked_or_added now (candidate_of info None None true) → IsInstalledTo vs i start now → IsInstalledTo vs (i + 1) start next
 installed_more vs i pkg info start now next lt is about made so_far =
     so_far
     ∙ (ap (with_all_installed now) (listed vs i pkg lt is)
-    ∙ ap (λ (cs : List Candidate). with_all_installed cs (drop (i + 1) (list_of vs))) (sym (made ∙ ap (λ (v : Plain). with_installed now (candidate_of v None None true)) about)))
+    ∙ ap (λ (cs : List Candidate). with_all_installed cs (drop (i + 1) (list_of vs))) (sym (made ∙ ap (λ (v : Plain). with_installed_marked_or_added now (candidate_of v None None true)) about)))
 
-pub installed_passes : (vs : Plains) (i : ℕ) (pkg info : Plain) (start now : List Candidate) (fault : PoolFault) → i < count_of vs → pkg ≡ nth vs (i + 1 - 1) → info ≡ entry_in pkg 0 → IsPoolFault fault (length (with_installed now (candidate_of info None None true))) → IsInstalledTo vs i start now → IsPoolFault fault (length (with_all_installed start (list_of vs)))
+pub installed_passes : (vs : Plains) (i : ℕ) (pkg info : Plain) (start now : List Candidate) (fault : PoolFault) → i < count_of vs → pkg ≡ nth vs (i + 1 - 1) → info ≡ entry_in pkg 0 → IsPoolFault fault (length (with_installed_marked_or_added now (candidate_of info None None true))) → IsInstalledTo vs i start now → IsPoolFault fault (length (with_all_installed start (list_of vs)))
 installed_passes vs i pkg info start now fault lt is about h so_far =
-    let whole : with_all_installed start (list_of vs) ≡ with_all_installed (with_installed now (candidate_of info None None true)) (drop (i + 1) (list_of vs)) =
-    so_far ∙ (ap (with_all_installed now) (listed vs i pkg lt is) ∙ ap (λ (v : Plain). with_all_installed (with_installed now (candidate_of v None None true)) (drop (i + 1) (list_of vs))) (sym about)) in
-    let longer = all_longer (with_installed now (candidate_of info None None true)) (drop (i + 1) (list_of vs)) in
+    let whole : with_all_installed start (list_of vs) ≡ with_all_installed (with_installed_marked_or_added now (candidate_of info None None true)) (drop (i + 1) (list_of vs)) =
+    so_far ∙ (ap (with_all_installed now) (listed vs i pkg lt is) ∙ ap (λ (v : Plain). with_all_installed (with_installed_marked_or_added now (candidate_of v None None true)) (drop (i + 1) (list_of vs))) (sym about)) in
+    let longer = all_longer (with_installed_marked_or_added now (candidate_of info None None true)) (drop (i + 1) (list_of vs)) in
     subst (λ (cs : List Candidate). IsPoolFault fault (length cs)) (sym whole) (fault_more fault _ _ longer h)
 
 pub installed_all : (vs : Plains) (i : ℕ) (start now : List Candidate) → count_of vs ≤ i → IsInstalledTo vs i start now → now ≡ with_all_installed start (list_of vs)

@@ -5,7 +5,7 @@ use Rattle.adb_view.specs.FieldIndexes.{INDEX_PACKAGES, PACKAGE_INFO}
 use Rattle.adb_view.specs.Values.{entries_in, entry_in}
 use Rattle.adb_view.specs.Plain.{Plain}
 use Rattle.dep_core.specs.Repositories.{Repository}
-use Rattle.pool_core.specs.candidate_core.Candidates.{Candidate, candidate_of, candidates_of_index, with_installed}
+use Rattle.pool_core.specs.candidate_core.Candidates.{Candidate, candidate_of, candidates_of_index, with_installed_marked_or_added}
 use Rattle.pool_core.specs.candidate_core.declared.candidate_list.TheConstants.{MOST_CANDIDATES}
 use Rattle.pool_core.specs.candidate_core.Rank.{SealedPool, UpgradedNames, sealed_pool_from_parts}
 use Rattle.report_core.specs.declared.refusal.Refusal.{Refusal}
@@ -29,7 +29,7 @@ installed_candidate pkg = candidate_of (entry_in pkg PACKAGE_INFO) None None tru
 abbrev pub with_all_installed : List Candidate → List Plain → List Candidate
 with_all_installed candidates [] = candidates
 with_all_installed candidates (pkg ∷ packages) =
-    with_all_installed (with_installed candidates (installed_candidate pkg)) packages
+    with_all_installed (with_installed_marked_or_added candidates (installed_candidate pkg)) packages
 
 -- all candidates that the inputs have, however many they are
 abbrev pub candidates_of : Inputs → List Candidate

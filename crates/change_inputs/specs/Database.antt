@@ -3,7 +3,7 @@
 -- tests in `docs/formats.md`, "Tests of a container".
 use Rattle.std.specs.Prelude.{ℕ, Bool, true, false, List, [], Option, Some, None, Result, Ok, Err}
 use Rattle.db_core.specs.adb_fields.Repeated.{entries_at}
-use Rattle.db_core.specs.adb_schema.Soundness.{container_fault_except_contents, payload_in, root_value}
+use Rattle.db_core.specs.adb_schema.Soundness.{container_fault_except_contents, payload_in, root_value_of_payload}
 use Rattle.adb_view.specs.FieldIndexes.{IDB_PACKAGES}
 use Rattle.adb_view.specs.declared.tables.Which.TheVariants.{Idb}
 use Rattle.adb_view.specs.Plain.{Plain}
@@ -26,20 +26,22 @@ pub record Database : Type 0 where
 
 -- the database with these packages, the bytes of its container, if there is one, and whether the packages are from a
 -- text database
-abbrev pub database_from_parts : List Plain → Option (List ℕ) → Bool → Database
-database_from_parts packages file from_text =
+abbrev pub database_of_packages_file_and_is_text : List Plain → Option (List ℕ) → Bool → Database
+database_of_packages_file_and_is_text packages file from_text =
     record { packages = packages; file = file; from_text = from_text }
 
 -- the database in a container, or the first test that the container fails
 abbrev pub container_database : List ℕ → Result Database Refusal
 container_database file =
     unless_cause DatabaseBad (container_fault_except_contents Idb file)
-    (database_from_parts (entries_at IDB_PACKAGES (root_value Idb (payload_in file))) (Some file) false)
+    (database_of_packages_file_and_is_text
+    (entries_at IDB_PACKAGES (root_value_of_payload Idb (payload_in file))) (Some file) false)
 
 -- the database in the payload to which a text database was converted, or the refusal if it could not be converted
 abbrev pub payload_database : Result (List ℕ) V2Fault → Result Database Refusal
 payload_database (Ok payload) =
-    Ok (database_from_parts (entries_at IDB_PACKAGES (root_value Idb payload)) None true)
+    Ok (database_of_packages_file_and_is_text
+    (entries_at IDB_PACKAGES (root_value_of_payload Idb payload)) None true)
 payload_database (Err (Bad cause)) = Err (DatabaseBad cause)
 payload_database (Err (TooLarge bytes values)) = Err (ResultTooLarge bytes values)
 -- never the case: *payload_of_text* never runs out of memory
@@ -51,7 +53,7 @@ text_database text = payload_database (payload_of_text text)
 
 -- the database of a root that has none: one without packages, if it may be created (`--initdb`)
 abbrev pub empty_database_if_allowed : Bool → Result Database Refusal
-empty_database_if_allowed true = Ok (database_from_parts [] None false)
+empty_database_if_allowed true = Ok (database_of_packages_file_and_is_text [] None false)
 empty_database_if_allowed false = Err NoDatabase
 
 -- the database of a root, given the database's file and the text database, each None if absent; the text database is

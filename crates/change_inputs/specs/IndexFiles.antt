@@ -3,7 +3,7 @@
 use Rattle.std.specs.Prelude.{ℕ, Bool, List, Vec, map, is_none}
 use Rattle.std.specs.List.{list_all}
 use Rattle.std.specs.declared.alloc.Global.{Global}
-use Rattle.db_core.specs.adb_schema.Soundness.{container_fault_except_contents, payload_in, root_value}
+use Rattle.db_core.specs.adb_schema.Soundness.{container_fault_except_contents, payload_in, root_value_of_payload}
 use Rattle.adb_view.specs.declared.tables.Which.TheVariants.{Index}
 use Rattle.adb_view.specs.Plain.{Plain}
 
@@ -21,4 +21,4 @@ are_indexes files = list_all is_index files
 
 -- the value of an index file
 abbrev pub index_of_file : List ℕ → Plain
-index_of_file file = root_value Index (payload_in file)
+index_of_file file = root_value_of_payload Index (payload_in file)

@@ -1,7 +1,7 @@
 -- The indexes of repositories; these are numbered from 1. The rules are in `docs/commands.md`, "`add` and `del`" (parts
 -- "What is read" and "What is refused") and "Error lines"; the tests in `docs/formats.md`, "Tests of a container".
 use Rattle.std.specs.Prelude.{ℕ, ◌+◌, List, [], ◌∷◌, Option, Some, None, Result, Ok, Err}
-use Rattle.db_core.specs.adb_schema.Soundness.{container_fault_except_contents, payload_in, root_value}
+use Rattle.db_core.specs.adb_schema.Soundness.{container_fault_except_contents, payload_in, root_value_of_payload}
 use Rattle.adb_view.specs.declared.tables.Which.TheVariants.{Index}
 use Rattle.adb_view.specs.Plain.{Plain}
 use Rattle.report_core.specs.declared.refusal.Refusal.{Refusal}
@@ -25,7 +25,7 @@ index_files_from n (f ∷ found) =
 abbrev pub index_in_file : ℕ → List ℕ → Result Plain Refusal
 index_in_file n file =
     unless_cause (IndexBad n) (container_fault_except_contents Index file)
-    (root_value Index (payload_in file))
+    (root_value_of_payload Index (payload_in file))
 
 -- the values of all indexes, or the refusal of the first file that is no index; `n` is the number of the first of these
 -- repositories

@@ -41,10 +41,10 @@ root_from_parts command database text world repositories = record {
 
 -- a root, given its four files, each None if absent: the database, the text database, world and the list of
 -- repositories; or the first refusal. With `--initdb`, which only `add` has, a command may begin a database
-abbrev pub root_from_files_found :
+abbrev pub root_from_databases_world_repositories :
     CommandLine → Option (List ℕ) → Option (List ℕ) → Option (List ℕ) → Option (List ℕ)
     → Result Root Refusal
-root_from_files_found command file text world_file repositories_file =
+root_from_databases_world_repositories command file text world_file repositories_file =
     and_then (root_database command.flags.initdb file text) (λ database.
     and_then (root_world (found_text_or_empty world_file)) (λ world.
     and_then
@@ -102,7 +102,7 @@ database_for command read =
 -- a root, given what reads find, with the new world of the command; or the first refusal
 abbrev pub root_for : CommandLine → Reads → Result Root Refusal
 root_for command read =
-    root_from_files_found command (read database_read_number database_name)
+    root_from_databases_world_repositories command (read database_read_number database_name)
     (read text_database_read_number text_database_name) (read world_read_number world_name)
     (read repositories_read_number repositories_name)
 

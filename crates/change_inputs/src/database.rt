@@ -4,7 +4,7 @@
 //! of a container".
 ghost use Rattle.db_core.specs.adb_fields.ListValue.{list_value};
 ghost use Rattle.db_core.specs.adb_fields.Repeated.{list_of};
-ghost use Rattle.db_core.specs.adb_schema.Soundness.{container_fault_except_contents, payload_fault, payload_in, root_value};
+ghost use Rattle.db_core.specs.adb_schema.Soundness.{container_fault_except_contents, payload_fault, payload_in, root_value_of_payload};
 ghost use Rattle.db_core.specs.adb_schema.Views.{idb_value};
 ghost use Rattle.adb_view.specs.Values.{entries_in};
 ghost use Rattle.adb_view.specs.declared.tables.Which.TheVariants as Tables;
@@ -209,7 +209,8 @@ impl DatabaseContainer {
 
     // The database in the file, opened.
     fn idb(&self) -> IdbView<'_>
-        ensures { idb_value result ≡ root_value Tables.Idb (payload_in self.now.file.items) }
+        ensures { idb_value result
+            ≡ root_value_of_payload Tables.Idb (payload_in self.now.file.items) }
     {
         open_idb(self.payload())
     }
@@ -218,7 +219,7 @@ impl DatabaseContainer {
 impl DatabasePayload {
     // The database in the payload, opened.
     fn idb(&self) -> IdbView<'_>
-        ensures { idb_value result ≡ root_value Tables.Idb self.now.payload.items }
+        ensures { idb_value result ≡ root_value_of_payload Tables.Idb self.now.payload.items }
     {
         open_idb(&self.payload)
     }

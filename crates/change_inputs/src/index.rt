@@ -3,7 +3,7 @@
 //! "What is refused"), and in `docs/formats.md`, "Repositories".
 
 ghost use Rattle.db_core.specs.adb_schema.Texts.{text_or_number_fault};
-ghost use Rattle.db_core.specs.adb_schema.Soundness.{root_value};
+ghost use Rattle.db_core.specs.adb_schema.Soundness.{root_value_of_payload};
 ghost use Rattle.db_core.specs.adb_schema.Views.{index_value};
 ghost use Rattle.adb_view.specs.Values.{is_sound};
 ghost use Rattle.adb_view.specs.declared.tables.Kind.TheVariants as Kinds;
@@ -85,9 +85,9 @@ fn open_payload(payload: &[u8]) -> IndexView<'_>
         (root_word_of_payload payload.now) ≡ true }
     // Each text and number of the index passes the test of its field.
     requires texts { is_none (text_or_number_fault Tables.Index
-        (root_value Tables.Index payload.now))
+        (root_value_of_payload Tables.Index payload.now))
         ≡ true }
-    ensures { index_value result ≡ root_value Tables.Index payload.now }
+    ensures { index_value result ≡ root_value_of_payload Tables.Index payload.now }
 {
     // The head passes its test, so the payload can be opened.
     let Ok(adb) = Adb::new(payload) else {

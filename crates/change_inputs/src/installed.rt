@@ -6,7 +6,7 @@ ghost use Rattle.change_inputs.specs.Answers.{AgreesUnlessDiskOrMemory};
 ghost use Rattle.change_inputs.specs.Inputs.{database_for};
 ghost use Rattle.change_inputs.specs.Seen.{installed_seen};
 ghost use Rattle.db_core.specs.Seen.{packages_of};
-ghost use Rattle.package_files.specs.Runs.{IsExplainedBySomeReads};
+ghost use Rattle.package_files.specs.Runs.{HoldsOfSomeReadsOfTree};
 ghost use Rattle.std.specs.Prelude.{◌≡◌, IfOk};
 
 use crate::database::DatabaseFile;
@@ -39,7 +39,7 @@ impl Installed {
     ) -> Result<Installed, Refused>
         // The result is that of the definition for some contents at each read. On an observable
         // tree these are the tree's files.
-        ensures found { IsExplainedBySomeReads (T.history tree.old) (λ read.
+        ensures found { HoldsOfSomeReadsOfTree (T.history tree.old) (λ read.
             AgreesUnlessDiskOrMemory installed_seen result (database_for command.now read)) }
         // The tree is only read, and `Disk` has a counted fault of the tree as its cause.
         ensures tree { OnlyReads Refused.Disk (T.history tree.old) (T.history tree.new)

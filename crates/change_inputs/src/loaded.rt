@@ -7,7 +7,7 @@ ghost use Rattle.change_inputs.specs.Candidates.{candidates_of_repositories_from
 ghost use Rattle.change_inputs.specs.Inputs.{inputs_of};
 ghost use Rattle.change_inputs.specs.RootFiles.{AreRootFilesInTree};
 ghost use Rattle.db_core.specs.Seen.{packages_of};
-ghost use Rattle.package_files.specs.Runs.{IsExplainedBySomeReads};
+ghost use Rattle.package_files.specs.Runs.{HoldsOfSomeReadsOfTree};
 ghost use Rattle.pool_core.specs.candidate_core.declared.candidate_list.TheConstants.{MOST_CANDIDATES};
 ghost use Rattle.pool_core.specs.candidate_core.Values.{IsPoolFault, names_upgraded_by};
 ghost use Rattle.std.specs.Option.{option_copied};
@@ -50,7 +50,7 @@ impl Loaded {
     pub fn read<T: Tree>(alloc: Global, command: &Command, tree: &mut T) -> Result<Loaded, Refused>
         // The inputs are those of the definition for some contents at each read. On an observable
         // tree these are the tree's files.
-        ensures found { IsExplainedBySomeReads (T.history tree.old) (λ read.
+        ensures found { HoldsOfSomeReadsOfTree (T.history tree.old) (λ read.
             AgreesUnlessDiskOrMemory inputs_seen result (inputs_of command.now read)) }
         // The tree is only read, and `Disk` has a counted fault of the tree as its cause.
         ensures tree { OnlyReads Refused.Disk (T.history tree.old) (T.history tree.new)
@@ -74,7 +74,7 @@ impl Loaded {
         requires { AreRootFilesInTree (T.history tree.old) files }
         // The inputs are those of the definition for some contents at each read. On an observable
         // tree these are the tree's files.
-        ensures found { IsExplainedBySomeReads (T.history tree.old) (λ read.
+        ensures found { HoldsOfSomeReadsOfTree (T.history tree.old) (λ read.
             AgreesUnlessDiskOrMemory inputs_seen result (inputs_of command.now read)) }
         // The tree is only read, and `Disk` has a counted fault of the tree as its cause.
         ensures tree { OnlyReads Refused.Disk (T.history tree.old) (T.history tree.new)

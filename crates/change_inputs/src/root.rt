@@ -4,7 +4,7 @@
 
 ghost use Rattle.base_core.specs.Read.{OnlyReads, bytes_in};
 ghost use Rattle.change_inputs.specs.Answers.{Agrees, IsDiskOrMemoryFailure, IsFileFoundInTree};
-ghost use Rattle.change_inputs.specs.Inputs.{root_from_files_found, Inputs, first_index_read_number, inputs_of};
+ghost use Rattle.change_inputs.specs.Inputs.{root_from_databases_world_repositories, Inputs, first_index_read_number, inputs_of};
 ghost use Rattle.change_inputs.specs.RootFiles.{AreRootFilesInTree};
 ghost use Rattle.change_inputs.specs.Seen.{root_seen};
 ghost use Rattle.root_names.specs.RootNames.{database_name, text_database_name};
@@ -117,7 +117,8 @@ pub(crate) fn test_root(
     files: RootFiles,
 ) -> Result<TestedRoot, Refused>
     // The result is that of the definition: the contents, or the first refusal; or out of memory.
-    ensures { Agrees root_seen result (root_from_files_found command.now (bytes_in files.database)
+    ensures { Agrees root_seen result (root_from_databases_world_repositories command.now
+        (bytes_in files.database)
         (bytes_in files.text_database) (bytes_in files.world) (bytes_in files.repositories)) }
 {
     let RootFiles {

@@ -9,7 +9,7 @@ use Rattle.base_core.specs.Files.{Files}
 use Rattle.base_core.proofs.Rising.{IsIn, contains_from_in, in_from_contains}
 use Rattle.base_core.proofs.Listed.{in_both}
 use Rattle.package_changes.specs.change_files.FileChange.{FileChange}
-use Rattle.package_changes.specs.change_files.FilesAfter.{DatabaseAndWorldAfter, database_name, is_removed, is_written, text_database_name, world_name, listing_written_under_name}
+use Rattle.package_changes.specs.change_files.FilesAfter.{DatabaseAndWorldAfter, database_name, is_removed, is_listing_written_under_name, text_database_name, world_name, listing_written_under_name}
 use Rattle.package_changes.specs.change_files.PlanLists.{removals_of, file_writes_of}
 use Rattle.package_changes.proofs.change_files.InOrder.{from_order, in_left, in_order, in_right, order_rises}
 use Rattle.package_changes.proofs.change_files.LeftOver.{removed_unreserved}
@@ -57,16 +57,16 @@ module _ (inputs : Inputs) (change : FileChange) (files : Files) (records : Data
 
   -- ---- what is written
 
-  pub from_writes : (q : List ℕ) → IsOneOf q actions.writes → (is_written change files q ≡ true) ⊎ IsIn q own_writes
+  pub from_writes : (q : List ℕ) → IsOneOf q actions.writes → (is_listing_written_under_name change files q ≡ true) ⊎ IsIn q own_writes
   from_writes q among =
       elim (in_both q plan_writes own_writes (from_order q (plan_writes ++ own_writes) (name_of_any q actions.writes among))) [
         | inl here ↦ inl ((writes_hold change files q).0 (contains_from_in plan_writes q here))
         | inr here ↦ inr here
       ]
 
-  pub none_written : (q : List ℕ) → IsNoneOf q actions.writes → (is_written change files q ≡ false) × (IsIn q own_writes → ⊥)
+  pub none_written : (q : List ℕ) → IsNoneOf q actions.writes → (is_listing_written_under_name change files q ≡ false) × (IsIn q own_writes → ⊥)
   none_written q none = (
-    false_from_ne_true (is_written change files q) (λ written.
+    false_from_ne_true (is_listing_written_under_name change files q) (λ written.
         not_in q actions.writes none (in_order q (plan_writes ++ own_writes) (in_left q plan_writes own_writes (in_from_contains plan_writes q ((writes_hold change files q).1 written))))),
     λ here. not_in q actions.writes none (in_order q (plan_writes ++ own_writes) (in_right q plan_writes own_writes here)),
   )
@@ -97,7 +97,7 @@ module _ (inputs : Inputs) (change : FileChange) (files : Files) (records : Data
       ]
 
   module _ (free : HasNoReservedPath change) where
-    pub written_free : (q : List ℕ) → is_written change files q ≡ true → is_reserved q ≡ false
+    pub written_free : (q : List ℕ) → is_listing_written_under_name change files q ≡ true → is_reserved q ≡ false
     written_free q written = let l = some_listing (listing_written_under_name change files q) written in written_unreserved change files q l.0 free.coming l.1
 
     pub removed_free : (q : List ℕ) → is_removed change files q ≡ true → is_reserved q ≡ false

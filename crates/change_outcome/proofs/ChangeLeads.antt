@@ -11,8 +11,8 @@ use Rattle.base_core.proofs.Rising.{IsIn}
 use Rattle.base_core.proofs.Listed.{in_both}
 use Rattle.base_core.proofs.AtName.{name_cases}
 use Rattle.package_changes.specs.change_files.FileChange.{FileChange}
-use Rattle.package_changes.specs.change_files.FilesAfter.{DatabaseAndWorldAfter, bytes_after_write_or_removal, files_after_change, database_name, is_removed, is_written, text_database_name, world_bytes_after, world_name, listing_written_under_name}
-use Rattle.package_changes.specs.change_files.Touched.{is_database_or_world_name}
+use Rattle.package_changes.specs.change_files.FilesAfter.{DatabaseAndWorldAfter, bytes_after_write_or_removal, files_after_change, database_name, is_removed, is_listing_written_under_name, text_database_name, new_world_bytes_unless_empty_and_absent, world_name, listing_written_under_name}
+use Rattle.package_changes.specs.change_files.Touched.{is_old_or_new_database_or_world_name}
 use Rattle.package_changes.proofs.change_files.InOrder.{in_left, in_right}
 use Rattle.package_changes.proofs.change_files.RecordNames.{database_after, no_text_after, world_after}
 use Rattle.package_changes.proofs.change_files.Reserved.{records_reserved}
@@ -24,7 +24,7 @@ use Rattle.db_write.specs.db_core.Members.{Listing}
 use Rattle.journal_core.specs.Staged.{HasNoStagedNames}
 use Rattle.journal_core.specs.journal_intent.FreeNames.{IsNoneOf, IsOneOf}
 use Rattle.journal_core.specs.journal_intent.Intent.{Intent}
-use Rattle.change_outcome.specs.Leading.{ActionsLeadToFiles}
+use Rattle.change_outcome.specs.Leading.{CanStageActionsLeadingToFiles}
 use Rattle.change_outcome.specs.Premises.{HasNoReservedPath, AreDatabaseAndWorldReadFromFiles}
 use Rattle.change_outcome.proofs.ActionNames.{free_names, from_removals, from_writes, if_needed, needed, none_removed, none_written, removed_free, written_free}
 
@@ -37,7 +37,7 @@ same_file None bytes e = absurd (true≢false e)
 same_file (Some old) bytes e = ap (λ (b : List ℕ). Some b) ((bytes_eq-Decides old bytes).0 (not-false (bytes_eq old bytes) e))
 
 -- so has world
-same_world : (o : Option (List ℕ)) (world : List ℕ) → found_text_or_empty o ≡ world → world_bytes_after world o ≡ o
+same_world : (o : Option (List ℕ)) (world : List ℕ) → found_text_or_empty o ≡ world → new_world_bytes_unless_empty_and_absent world o ≡ o
 same_world None [] e = refl
 same_world None (b ∷ world) e = absurd (cc (e))
 same_world (Some old) [] e = ap (λ (b : List ℕ). Some b) (sym e)
@@ -73,7 +73,7 @@ module _ (inputs : Inputs) (change : FileChange) (bytes_of : Listing → List �
       ∙ (sym (sym root.database ∙ same_file inputs.root.database.file records.database (false_from_ne_true (is_absent_or_different inputs.root.database.file records.database) (λ other. none (in_left q database_write world_write (if_needed (is_absent_or_different inputs.root.database.file records.database) database_name q is other)))))
       ∙ sym (ap files is)))
 
-  world_by : after world_name ≡ world_bytes_after records.world (files world_name)
+  world_by : after world_name ≡ new_world_bytes_unless_empty_and_absent records.world (files world_name)
   unfolding files_after_change
   world_by = refl
 
@@ -87,13 +87,13 @@ module _ (inputs : Inputs) (change : FileChange) (bytes_of : Listing → List �
       same true e = refl
       same false e = absurd (none (in_right q database_write world_write (if_needed (not (bytes_eq inputs.root.world_text records.world)) world_name q is (ap not e))))
 
-  kept_other : (q : List ℕ) → is_database_or_world_name records q ≡ false → is_written change files q ≡ false → is_removed change files q ≡ false → after q ≡ files q
+  kept_other : (q : List ℕ) → is_old_or_new_database_or_world_name records q ≡ false → is_listing_written_under_name change files q ≡ false → is_removed change files q ≡ false → after q ≡ files q
   kept_other q other unwritten stays =
       changed_so change bytes_of records files q other
       ∙ (ap (λ (o : Option Listing). bytes_after_write_or_removal bytes_of o (is_removed change files q) (files q)) (not_some (listing_written_under_name change files q) unwritten)
       ∙ ap (λ (b : Bool). bytes_after_write_or_removal bytes_of None b (files q)) stays)
 
-  kept_by : (q : List ℕ) → (q ≡ text_database_name → records.takes_text_over ≡ true → ⊥) → bytes_eq q database_name ≡ false → bytes_eq q world_name ≡ false → is_database_or_world_name records q ≡ false
+  kept_by : (q : List ℕ) → (q ≡ text_database_name → records.takes_text_over ≡ true → ⊥) → bytes_eq q database_name ≡ false → bytes_eq q world_name ≡ false → is_old_or_new_database_or_world_name records q ≡ false
   kept_by q no_text database world =
       or_from (bytes_eq q database_name) (bytes_eq q world_name || (records.takes_text_over && bytes_eq q text_database_name)) database
       (or_from (bytes_eq q world_name) (records.takes_text_over && bytes_eq q text_database_name) world
@@ -124,12 +124,12 @@ module _ (inputs : Inputs) (change : FileChange) (bytes_of : Listing → List �
       keeps q (ap (λ (names : List (List ℕ)). list_any (bytes_eq q) names) (no_names actions.removals parts.0)) (ap (λ (names : List (List ℕ)). list_any (bytes_eq q) names) (no_names actions.writes parts.1)) i
 
   module _ (free : HasNoReservedPath change) where
-    unreserved_no_record : (q : List ℕ) → is_reserved q ≡ false → is_database_or_world_name records q ≡ false
-    unreserved_no_record q unreserved = false_from_ne_true (is_database_or_world_name records q) (λ is. true≢false (sym (records_reserved records q is) ∙ unreserved))
+    unreserved_no_record : (q : List ℕ) → is_reserved q ≡ false → is_old_or_new_database_or_world_name records q ≡ false
+    unreserved_no_record q unreserved = false_from_ne_true (is_old_or_new_database_or_world_name records q) (λ is. true≢false (sym (records_reserved records q is) ∙ unreserved))
 
     -- ---- what is written is there
 
-    written_there : (q : List ℕ) → is_written change files q ≡ true → IsSome (after q)
+    written_there : (q : List ℕ) → is_listing_written_under_name change files q ≡ true → IsSome (after q)
     written_there q written = by_listing (listing_written_under_name change files q) refl written
       where
         by_listing : (o : Option Listing) → listing_written_under_name change files q ≡ o → is_some o ≡ true → IsSome (after q)
@@ -157,7 +157,7 @@ module _ (inputs : Inputs) (change : FileChange) (bytes_of : Listing → List �
           | inr text ↦ ap after text.0 ∙ no_text_after change bytes_of records files text.1
         ]
 
-    pub leads : HasNoStagedNames files → length actions.writes < 2 ^ 63 → ActionsLeadToFiles actions.removals actions.writes files after
+    pub leads : HasNoStagedNames files → length actions.writes < 2 ^ 63 → CanStageActionsLeadingToFiles actions.removals actions.writes files after
     leads empty few = record {
       free = free_names inputs change files records free;
       few = few;

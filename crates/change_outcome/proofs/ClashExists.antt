@@ -4,11 +4,11 @@ use Rattle.std.specs.Prelude.{not, ◌&&◌, ◌||◌, is_some, option_and_then}
 use Rattle.std.specs.Str.{bytes_eq}
 use Rattle.std.specs.List.{list_any}
 use Rattle.std.proofs.lemmas.Bool.{and_parts, eq-eqb, eqb-true, or_cases}
-use Rattle.base_core.specs.Files.{Files, IsFolderOf, HasNamesAmong}
+use Rattle.base_core.specs.Files.{Files, IsFolderOf, HasOnlyNamesAmong}
 use Rattle.base_core.proofs.Rising.{IsIn}
 use Rattle.package_changes.specs.change_files.Fate.{apk_new_name}
 use Rattle.package_changes.specs.change_files.FileChange.{FileChange}
-use Rattle.package_changes.specs.change_files.FilesAfter.{database_name, apk_new_listing_at, path_of_apk_new_name, world_name}
+use Rattle.package_changes.specs.change_files.FilesAfter.{database_name, listing_written_as_apk_new_beside, path_of_apk_new_name, world_name}
 use Rattle.package_changes.specs.change_files.NamesAfter.{added_paths, counts_as_written, name_change}
 use Rattle.package_changes.proofs.change_files.InOrder.{in_left, in_map, in_right}
 use Rattle.package_changes.proofs.change_files.OwnedFiles.{aside_found, beside_is, in_coming_paths}
@@ -171,7 +171,7 @@ first_of_all change files names all = by_found (first_among change files (all_pa
 
 -- ---- of a change of files
 
-module _ (change : FileChange) (files : Files) (within : List (List ℕ)) (finite : HasNamesAmong within files) where
+module _ (change : FileChange) (files : Files) (within : List (List ℕ)) (finite : HasOnlyNamesAmong within files) where
   abbrev names : List (List ℕ)
   names = within ++ (database_name ∷ world_name ∷ (added_paths change.members ++ map apk_new_name (added_paths change.members)))
 
@@ -183,11 +183,11 @@ module _ (change : FileChange) (files : Files) (within : List (List ℕ)) (finit
   listed_in q (inr (inl is)) = inr (inl is)
   listed_in q (inr (inr path)) = inr (inr (in_left q (added_paths change.members) (map apk_new_name (added_paths change.members)) path))
 
-  beside_in : (q : List ℕ) (path : Option (List ℕ)) → path_of_apk_new_name q ≡ path → is_some (option_and_then (apk_new_listing_at change files) path) ≡ true → IsIn q written
+  beside_in : (q : List ℕ) (path : Option (List ℕ)) → path_of_apk_new_name q ≡ path → is_some (option_and_then (listing_written_as_apk_new_beside change files) path) ≡ true → IsIn q written
   beside_in q None is e = absurd (true≢false (sym e))
-  beside_in q (Some p) is e = by_listing (apk_new_listing_at change files p) refl e
+  beside_in q (Some p) is e = by_listing (listing_written_as_apk_new_beside change files p) refl e
     where
-      by_listing : (o : Option Listing) → apk_new_listing_at change files p ≡ o → is_some o ≡ true → IsIn q written
+      by_listing : (o : Option Listing) → listing_written_as_apk_new_beside change files p ≡ o → is_some o ≡ true → IsIn q written
       by_listing None laid e = absurd (true≢false (sym e))
       by_listing (Some l) laid e =
           inr (inr (in_right q (added_paths change.members) (map apk_new_name (added_paths change.members))
@@ -196,7 +196,7 @@ module _ (change : FileChange) (files : Files) (within : List (List ℕ)) (finit
   counted_in : (q : List ℕ) → counts_as_written change files q ≡ true → IsIn q written
   unfolding counts_as_written
   counted_in q counts =
-      elim (or_cases (list_any (bytes_eq q) (database_name ∷ world_name ∷ added_paths change.members)) (is_some (option_and_then (apk_new_listing_at change files) (path_of_apk_new_name q))) counts) [
+      elim (or_cases (list_any (bytes_eq q) (database_name ∷ world_name ∷ added_paths change.members)) (is_some (option_and_then (listing_written_as_apk_new_beside change files) (path_of_apk_new_name q))) counts) [
         | inl listed ↦ listed_in q (name_of_any q (database_name ∷ world_name ∷ added_paths change.members) listed)
         | inr beside ↦ beside_in q (path_of_apk_new_name q) refl beside
       ]

@@ -13,7 +13,7 @@ use Rattle.journal_core.proofs.journal_intent.StageNames.{stage_name_staged}
 use Rattle.journal_core.specs.journal_intent.FreeNames.{IsNoneOf, IsOneOf}
 use Rattle.journal_core.specs.journal_intent.IntentValue.{intent_of_lists}
 use Rattle.change_outcome.specs.ChangeOutcome.{bytes_or_empty_under}
-use Rattle.change_outcome.specs.Leading.{ActionsLeadToFiles}
+use Rattle.change_outcome.specs.Leading.{CanStageActionsLeadingToFiles}
 use Rattle.change_outcome.proofs.Emptied.{acted_empty}
 
 true_false : true ≡ false → ⊥
@@ -39,7 +39,7 @@ staged_off : (cs : List (List ℕ)) (k : ℕ) (F : Files) (q : List ℕ) → is_
 staged_off [] k F q shown = refl
 staged_off (c ∷ cs) k F q shown = staged_off cs (k + 1) (put_name F (stage_name k) c) q shown ∙ put_name-off F (stage_name k) c q (apart_shown q k shown)
 
-module _ (removals writes : List (List ℕ)) (files after : Files) (leads : ActionsLeadToFiles removals writes files after) where
+module _ (removals writes : List (List ℕ)) (files after : Files) (leads : CanStageActionsLeadingToFiles removals writes files after) where
   abbrev contents : List (List ℕ)
   contents = map (bytes_or_empty_under after) writes
 

@@ -1,19 +1,19 @@
 -- What is known of a change that nothing refuses.
 use Rattle.std.proofs.Common.{◌≡◌, ◌∙◌, ℕ, false, List, Option, Some, None, Result, Ok, Err, refl, sym, ap, subst}
-use Rattle.db_write.specs.adb_write.Canonical.{PayloadCounts, overflow_of}
-use Rattle.base_core.specs.Files.{Files, HasNamesAmong}
+use Rattle.db_write.specs.adb_write.Canonical.{ByteAndValueCounts, overflow_of}
+use Rattle.base_core.specs.Files.{Files, HasOnlyNamesAmong}
 use Rattle.package_changes.specs.change_files.FileChange.{FileChange}
 use Rattle.package_changes.specs.change_files.NamesAfter.{name_change}
-use Rattle.package_changes.specs.change_files.PlanLists.{first_reserved_path}
+use Rattle.package_changes.specs.change_files.PlanLists.{first_reserved_added_path}
 use Rattle.change_inputs.specs.Chains.{and_then}
 use Rattle.change_inputs.specs.Inputs.{Inputs}
-use Rattle.change_outcome.specs.ChangeOutcome.{ChangeDone, ChangeWishes, IsClashFound, IsClashOfChange, intent_of_change, change_done, members_after_change, change_or_refusal, change_with_members, file_change, database_and_world_after_change, touched_paths, unless_clash, unless_contested, or_result_too_large, unless_overflow, unless_reserved_path, change_done_unless_too_large}
+use Rattle.change_outcome.specs.ChangeOutcome.{ChangeDone, ChangeWishes, IsFirstClashIfMembersFound, IsFirstClashOfChange, intent_of_change, change_done, members_after_change, change_or_refusal, change_with_members, file_change, database_and_world_after_change, touched_paths, unless_clash, unless_contested, or_result_too_large, unless_overflow, unless_reserved_path, change_done_unless_too_large}
 use Rattle.change_outcome.specs.MembersAfter.{MemberFound}
 use Rattle.change_outcome.specs.Triggers.{unless_trigger_due}
 use Rattle.db_write.specs.db_core.Members.{Member}
 use Rattle.db_write.specs.NewDatabase.{database_of}
 use Rattle.package_changes.specs.file_owners.Owners.{first_contested_path_of_members, owned_flags_of}
-use Rattle.journal_core.specs.Staged.{AreStagingPathsFree}
+use Rattle.journal_core.specs.Staged.{HasEmptyStageAndFreeJournalPaths}
 use Rattle.journal_core.specs.journal_intent.Intent.{intent_name}
 use Rattle.journal_core.specs.journal_intent.IntentValue.{value_of_intent}
 use Rattle.change_inputs.specs.make_info.Reads.{Reads}
@@ -47,11 +47,11 @@ uncontested_ok : {A : Type 0} (members : List Member) (o : Option ContestedPath)
 uncontested_ok members None next a e = (refl, e)
 uncontested_ok members (Some c) next a e = absurd (cc (e))
 
-large_ok : {A : Type 0} (r : Result A PayloadCounts) (a : A) → or_result_too_large r ≡ Ok a → r ≡ Ok a
+large_ok : {A : Type 0} (r : Result A ByteAndValueCounts) (a : A) → or_result_too_large r ≡ Ok a → r ≡ Ok a
 large_ok (Ok x) a e = let same : x ≡ a = cc in ap (λ y. Ok y) same
 large_ok (Err counts) a e = absurd (cc (e))
 
-overflow_ok : {A : Type 0} (o : Option PayloadCounts) (x a : A) → unless_overflow o x ≡ Ok a → (o ≡ None) × (x ≡ a)
+overflow_ok : {A : Type 0} (o : Option ByteAndValueCounts) (x a : A) → unless_overflow o x ≡ Ok a → (o ≡ None) × (x ≡ a)
 overflow_ok None x a e = (refl, cc (e))
 overflow_ok (Some counts) x a e = absurd (cc (e))
 
@@ -59,7 +59,7 @@ module _ (inputs : Inputs) (r : Replacement) (wishes : ChangeWishes) (read : Rea
   with_found : (found : List MemberFound) → members_after_change inputs r wishes read ≡ Ok found → change_with_members inputs r wishes clash files found ≡ Ok done → IsChangeMade inputs r wishes read clash files done
   with_found found are e =
       let change : FileChange = file_change inputs wishes found in
-      let reserved = unreserved_ok (first_reserved_path change.members) (unless_clash clash (unless_contested change.members (first_contested_path_of_members change.members)
+      let reserved = unreserved_ok (first_reserved_added_path change.members) (unless_clash clash (unless_contested change.members (first_contested_path_of_members change.members)
       (and_then (unless_trigger_due wishes.no_scripts (touched_paths change files) change.members) (λ is_allowed. change_done_unless_too_large inputs r wishes found files)))) done e in
       let clashes = no_clash_ok clash (unless_contested change.members (first_contested_path_of_members change.members)
       (and_then (unless_trigger_due wishes.no_scripts (touched_paths change files) change.members) (λ is_allowed. change_done_unless_too_large inputs r wishes found files))) done reserved.1 in
@@ -94,14 +94,14 @@ module _ (inputs : Inputs) (r : Replacement) (wishes : ChangeWishes) (read : Rea
       ap (λ (d : ChangeDone). d.files) m.is
       ∙ does_nothing inputs (file_change inputs wishes m.found) _ m.database files root (sym (ap (λ (d : ChangeDone). d.commits) m.is) ∙ nothing)
 
-  no_clash_found : (m : IsChangeMade inputs r wishes read clash files done) → IsClashOfChange inputs r wishes read files clash → HasNoClash (name_change (file_change inputs wishes m.found) files) files
+  no_clash_found : (m : IsChangeMade inputs r wishes read clash files done) → IsFirstClashOfChange inputs r wishes read files clash → HasNoClash (name_change (file_change inputs wishes m.found) files) files
   no_clash_found m clashes =
-      let at : IsClashFound inputs wishes files (Ok m.found) clash = subst (λ (x : Result (List MemberFound) Refusal). IsClashFound inputs wishes files x clash) m.members clashes in
+      let at : IsFirstClashIfMembersFound inputs wishes files (Ok m.found) clash = subst (λ (x : Result (List MemberFound) Refusal). IsFirstClashIfMembersFound inputs wishes files x clash) m.members clashes in
       subst (λ (o : Option NamePair). IsFirstClashOrNone (name_change (file_change inputs wishes m.found) files) files o) m.no_clash at
 
-  pub keeps_room : IsChangeMade inputs r wishes read clash files done → IsClashOfChange inputs r wishes read files clash → AreStagingPathsFree files → AreStagingPathsFree done.files
+  pub keeps_room : IsChangeMade inputs r wishes read clash files done → IsFirstClashOfChange inputs r wishes read files clash → HasEmptyStageAndFreeJournalPaths files → HasEmptyStageAndFreeJournalPaths done.files
   keeps_room m clashes stage =
-      subst (λ (d : ChangeDone). AreStagingPathsFree d.files) (sym m.is)
+      subst (λ (d : ChangeDone). HasEmptyStageAndFreeJournalPaths d.files) (sym m.is)
       (room (file_change inputs wishes m.found) _ (database_and_world_after_change inputs m.database) files m.unreserved stage (no_clash_found m clashes))
 
   pub brings_no_intent : IsChangeMade inputs r wishes read clash files done → files intent_name ≡ None → done.files intent_name ≡ None
@@ -111,18 +111,18 @@ module _ (inputs : Inputs) (r : Replacement) (wishes : ChangeWishes) (read : Rea
 
 -- ---- the first clash
 
-found_once : (inputs : Inputs) (wishes : ChangeWishes) (files : Files) (members : Result (List MemberFound) Refusal) (a b : Option NamePair) → IsClashFound inputs wishes files members a → IsClashFound inputs wishes files members b → a ≡ b
+found_once : (inputs : Inputs) (wishes : ChangeWishes) (files : Files) (members : Result (List MemberFound) Refusal) (a b : Option NamePair) → IsFirstClashIfMembersFound inputs wishes files members a → IsFirstClashIfMembersFound inputs wishes files members b → a ≡ b
 found_once inputs wishes files (Ok found) a b one other = one_first (name_change (file_change inputs wishes found) files) files a b one other
 found_once inputs wishes files (Err refusal) a b one other = one ∙ sym other
 
 pub clash_once : (inputs : Inputs) (r : Replacement) (wishes : ChangeWishes) (read : Reads) (files : Files) (a b : Option NamePair)
-    → IsClashOfChange inputs r wishes read files a → IsClashOfChange inputs r wishes read files b → a ≡ b
+    → IsFirstClashOfChange inputs r wishes read files a → IsFirstClashOfChange inputs r wishes read files b → a ≡ b
 clash_once inputs r wishes read files a b one other = found_once inputs wishes files (members_after_change inputs r wishes read) a b one other
 
-clash_of_found : (inputs : Inputs) (wishes : ChangeWishes) (within : List (List ℕ)) (files : Files) → HasNamesAmong within files → (members : Result (List MemberFound) Refusal) → (clash : Option NamePair) × IsClashFound inputs wishes files members clash
+clash_of_found : (inputs : Inputs) (wishes : ChangeWishes) (within : List (List ℕ)) (files : Files) → HasOnlyNamesAmong within files → (members : Result (List MemberFound) Refusal) → (clash : Option NamePair) × IsFirstClashIfMembersFound inputs wishes files members clash
 clash_of_found inputs wishes within files finite (Ok found) = clash_exists (file_change inputs wishes found) files within finite
 clash_of_found inputs wishes within files finite (Err refusal) = (None, refl)
 
-pub a_clash_found : (inputs : Inputs) (r : Replacement) (wishes : ChangeWishes) (read : Reads) (within : List (List ℕ)) (files : Files) → HasNamesAmong within files
-    → (clash : Option NamePair) × IsClashOfChange inputs r wishes read files clash
+pub a_clash_found : (inputs : Inputs) (r : Replacement) (wishes : ChangeWishes) (read : Reads) (within : List (List ℕ)) (files : Files) → HasOnlyNamesAmong within files
+    → (clash : Option NamePair) × IsFirstClashOfChange inputs r wishes read files clash
 a_clash_found inputs r wishes read within files finite = clash_of_found inputs wishes within files finite (members_after_change inputs r wishes read)

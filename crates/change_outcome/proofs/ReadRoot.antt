@@ -6,7 +6,7 @@ use Rattle.base_core.specs.Files.{Files}
 use Rattle.base_core.specs.declared.cause.Cause.{Cause}
 use Rattle.change_inputs.specs.Chains.{and_then, unless_cause}
 use Rattle.change_inputs.specs.Database.{Database, payload_database, root_database}
-use Rattle.change_inputs.specs.Inputs.{Inputs, Root, database_read_number, indexes_of, inputs_from_parts, inputs_of, repositories_read_number, root_from_parts, root_from_files_found, root_for, text_database_read_number, world_read_number}
+use Rattle.change_inputs.specs.Inputs.{Inputs, Root, database_read_number, indexes_of, inputs_from_parts, inputs_of, repositories_read_number, root_from_parts, root_from_databases_world_repositories, root_for, text_database_read_number, world_read_number}
 use Rattle.change_inputs.specs.Repositories.{root_repositories}
 use Rattle.change_inputs.specs.World.{root_world, found_text_or_empty}
 use Rattle.command_core.specs.Command.{CommandLine}
@@ -44,7 +44,7 @@ database_file may_begin None (Some text) database e = payload_file (payload_of_t
 database_file true None None database e = one_file _ database e
 database_file false None None database e = absurd (cc (e))
 
-module _ (command : CommandLine) (file text world_file repositories_file : Option (List ℕ)) (root : Root) (e : root_from_files_found command file text world_file repositories_file ≡ Ok root) where
+module _ (command : CommandLine) (file text world_file repositories_file : Option (List ℕ)) (root : Root) (e : root_from_databases_world_repositories command file text world_file repositories_file ≡ Ok root) where
   pub root_records : (root.database.file ≡ file) × (root.world_text ≡ found_text_or_empty world_file)
   root_records =
       let after_database : Database → Result Root Refusal = λ database.

@@ -10,17 +10,17 @@ use Rattle.db_write.specs.adb_schema.Reserved.{is_at_or_below, is_reserved}
 use Rattle.base_core.specs.Files.{Files, IsFolderOf}
 use Rattle.base_core.proofs.Rising.{IsIn}
 use Rattle.package_changes.specs.change_files.FileChange.{FileChange}
-use Rattle.package_changes.specs.change_files.FilesAfter.{DatabaseAndWorldAfter, bytes_after_write_or_removal, files_after_change, database_name, is_removed, apk_new_listing_at, path_of_apk_new_name, text_database_name, world_name, listing_written_under_name, listing_written_in_place}
+use Rattle.package_changes.specs.change_files.FilesAfter.{DatabaseAndWorldAfter, bytes_after_write_or_removal, files_after_change, database_name, is_removed, listing_written_as_apk_new_beside, path_of_apk_new_name, text_database_name, world_name, listing_written_under_name, listing_written_in_place}
 use Rattle.std.specs.Option.{option_or}
 use Rattle.package_changes.specs.change_files.NamesAfter.{added_paths, counts_as_written, name_change}
-use Rattle.package_changes.specs.change_files.PlanLists.{first_reserved_path}
-use Rattle.package_changes.specs.change_files.Touched.{is_database_or_world_name}
+use Rattle.package_changes.specs.change_files.PlanLists.{first_reserved_added_path}
+use Rattle.package_changes.specs.change_files.Touched.{is_old_or_new_database_or_world_name}
 use Rattle.package_changes.proofs.change_files.AfterNames.{names_after}
 use Rattle.package_changes.proofs.change_files.Reserved.{unreserved_path, written_unreserved}
 use Rattle.package_changes.proofs.change_files.Untouched.{changed_so}
 use Rattle.db_write.specs.db_core.Members.{Listing}
-use Rattle.journal_core.specs.Staged.{AreJournalPathsFree, AreStagingPathsFree, HasNoStagedNames, IsPresentOrOfJournal}
-use Rattle.journal_core.specs.journal_intent.FreeNames.{IsUsedByJournal}
+use Rattle.journal_core.specs.Staged.{AreIntentAndStagedPathsFree, HasEmptyStageAndFreeJournalPaths, HasNoStagedNames, IsPresentOrOfJournal}
+use Rattle.journal_core.specs.journal_intent.FreeNames.{IsIntentNameOrNumberedStageName}
 use Rattle.journal_core.specs.journal_intent.Intent.{intent_name, is_staged, stage_name}
 use Rattle.package_changes.specs.path_clashes.Clash.{HasNoClash, is_present_after_change}
 use Rattle.package_changes.proofs.path_clashes.FolderLike.{folder_like}
@@ -59,7 +59,7 @@ in_stage p q k rest p_is e =
     behind [] q_is f = ap is_reserved (p_is ∙ ap (λ (x : List ℕ). codes "lib/apk/" ++ x) q_is)
     behind (x ∷ t) q_is f = let slash : 47 ≡ x = cc in ap is_reserved (p_is ∙ (ap (λ (y : List ℕ). codes "lib/apk/" ++ y) q_is ∙ ap (λ (y : ℕ). codes "lib/apk/" ++ (codes "stage" ++ y ∷ t)) (sym slash)))
 
-pub above_taken : (p q : List ℕ) → IsUsedByJournal q → IsFolderOf p q → IsFolderOf p database_name ⊎ (is_reserved p ≡ true)
+pub above_taken : (p q : List ℕ) → IsIntentNameOrNumberedStageName q → IsFolderOf p q → IsFolderOf p database_name ⊎ (is_reserved p ≡ true)
 above_taken p q (inl is) (rest, e) =
     elim (cut (codes "lib/apk/") (codes "intent") (codes "db/installed.adb") p rest (sym is ∙ e)) [
       | inl found ↦ inl found
@@ -71,7 +71,7 @@ above_taken p q (inr (k, is)) (rest, e) =
       | inr found ↦ inr (in_stage p found.0 k rest found.1 found.2)
     ]
 
-pub below_taken : (p q : List ℕ) → IsUsedByJournal p → IsFolderOf p q → is_reserved q ≡ true
+pub below_taken : (p q : List ℕ) → IsIntentNameOrNumberedStageName p → IsFolderOf p q → is_reserved q ≡ true
 below_taken p q (inl is) (rest, e) = ap is_reserved (e ∙ ap (λ (x : List ℕ). x ++ 47 ∷ rest) is)
 below_taken p q (inr (k, is)) (rest, e) = ap is_reserved (e ∙ ap (λ (x : List ℕ). x ++ 47 ∷ rest) is) ∙ in_stage_folder k rest
   where
@@ -80,9 +80,9 @@ below_taken p q (inr (k, is)) (rest, e) = ap is_reserved (e ∙ ap (λ (x : List
 
 -- ---- names that count as written
 
-beside_written : (change : FileChange) (files : Files) (name : List ℕ) → is_some (option_and_then (apk_new_listing_at change files) (path_of_apk_new_name name)) ≡ true → (l : Listing) × (listing_written_under_name change files name ≡ Some l)
+beside_written : (change : FileChange) (files : Files) (name : List ℕ) → is_some (option_and_then (listing_written_as_apk_new_beside change files) (path_of_apk_new_name name)) ≡ true → (l : Listing) × (listing_written_under_name change files name ≡ Some l)
 unfolding listing_written_under_name
-beside_written change files name there = by_both (listing_written_in_place change files name) (option_and_then (apk_new_listing_at change files) (path_of_apk_new_name name)) there
+beside_written change files name there = by_both (listing_written_in_place change files name) (option_and_then (listing_written_as_apk_new_beside change files) (path_of_apk_new_name name)) there
   where
     by_both : (a b : Option Listing) → is_some b ≡ true → (l : Listing) × (option_or a b ≡ Some l)
     by_both None None e = absurd (true≢false (sym e))
@@ -90,11 +90,11 @@ beside_written change files name there = by_both (listing_written_in_place chang
     by_both (Some l) b e = (l, refl)
 
 -- the database, world, or a name that is not reserved
-pub counted_is : (change : FileChange) (files : Files) (name : List ℕ) → first_reserved_path change.members ≡ None → counts_as_written change files name ≡ true
+pub counted_is : (change : FileChange) (files : Files) (name : List ℕ) → first_reserved_added_path change.members ≡ None → counts_as_written change files name ≡ true
     → (name ≡ database_name) ⊎ ((name ≡ world_name) ⊎ (is_reserved name ≡ false))
 unfolding counts_as_written
 counted_is change files name none counts =
-    elim (or_cases (list_any (bytes_eq name) (database_name ∷ world_name ∷ added_paths change.members)) (is_some (option_and_then (apk_new_listing_at change files) (path_of_apk_new_name name))) counts) [
+    elim (or_cases (list_any (bytes_eq name) (database_name ∷ world_name ∷ added_paths change.members)) (is_some (option_and_then (listing_written_as_apk_new_beside change files) (path_of_apk_new_name name))) counts) [
       | inl listed ↦ by_place (name_of_any name (database_name ∷ world_name ∷ added_paths change.members) listed)
       | inr beside ↦ inr (inr (let l = beside_written change files name beside in written_unreserved change files name l.0 none l.1))
     ]
@@ -110,19 +110,19 @@ database_counts change files = refl
 
 -- ---- apart by their bytes
 
-database_no_folder : (q : List ℕ) → IsUsedByJournal q → IsFolderOf database_name q → ⊥
+database_no_folder : (q : List ℕ) → IsIntentNameOrNumberedStageName q → IsFolderOf database_name q → ⊥
 database_no_folder q (inl is) (rest, e) = let same : 105 ≡ 100 = ap (λ (x : List ℕ). get_or x 8 0) (sym is ∙ e) in omega (arith, same)
 database_no_folder q (inr (k, is)) (rest, e) = let same : 115 ≡ 100 = ap (λ (x : List ℕ). get_or x 8 0) (sym is ∙ e) in omega (arith, same)
 
-world_no_folder : (q : List ℕ) → IsUsedByJournal q → IsFolderOf world_name q → ⊥
+world_no_folder : (q : List ℕ) → IsIntentNameOrNumberedStageName q → IsFolderOf world_name q → ⊥
 world_no_folder q (inl is) (rest, e) = let same : 108 ≡ 101 = ap (λ (x : List ℕ). get_or x 0 0) (sym is ∙ e) in omega (arith, same)
 world_no_folder q (inr (k, is)) (rest, e) = let same : 108 ≡ 101 = ap (λ (x : List ℕ). get_or x 0 0) (sym is ∙ e) in omega (arith, same)
 
-no_folder_of_database : (p : List ℕ) → IsUsedByJournal p → IsFolderOf p database_name → ⊥
+no_folder_of_database : (p : List ℕ) → IsIntentNameOrNumberedStageName p → IsFolderOf p database_name → ⊥
 no_folder_of_database p (inl is) (rest, e) = let same : 100 ≡ 105 = ap (λ (x : List ℕ). get_or x 8 0) (e ∙ ap (λ (x : List ℕ). x ++ 47 ∷ rest) is) in omega (arith, same)
 no_folder_of_database p (inr (k, is)) (rest, e) = let same : 100 ≡ 115 = ap (λ (x : List ℕ). get_or x 8 0) (e ∙ ap (λ (x : List ℕ). x ++ 47 ∷ rest) is) in omega (arith, same)
 
-no_folder_of_world : (p : List ℕ) → IsUsedByJournal p → IsFolderOf p world_name → ⊥
+no_folder_of_world : (p : List ℕ) → IsIntentNameOrNumberedStageName p → IsFolderOf p world_name → ⊥
 no_folder_of_world p (inl is) (rest, e) = let same : 101 ≡ 108 = ap (λ (x : List ℕ). get_or x 0 0) (e ∙ ap (λ (x : List ℕ). x ++ 47 ∷ rest) is) in omega (arith, same)
 no_folder_of_world p (inr (k, is)) (rest, e) = let same : 101 ≡ 108 = ap (λ (x : List ℕ). get_or x 0 0) (e ∙ ap (λ (x : List ℕ). x ++ 47 ∷ rest) is) in omega (arith, same)
 
@@ -139,8 +139,8 @@ staged_reserved q staged = third (is_at_or_below (codes "etc/apk/world") q) (is_
     third false false false false e t = absurd (true≢false (sym t))
 
 -- a name of which a test is true that is false of the three is none of them
-unlike_records : (test : List ℕ → Bool) (records : DatabaseAndWorldAfter) (q : List ℕ) → test database_name ≡ false → test world_name ≡ false → test text_database_name ≡ false → test q ≡ true → is_database_or_world_name records q ≡ false
-unlike_records test records q database world text passes = false_from_ne_true (is_database_or_world_name records q) (λ is. by_name (or_cases (bytes_eq q database_name) (bytes_eq q world_name || (records.takes_text_over && bytes_eq q text_database_name)) is))
+unlike_records : (test : List ℕ → Bool) (records : DatabaseAndWorldAfter) (q : List ℕ) → test database_name ≡ false → test world_name ≡ false → test text_database_name ≡ false → test q ≡ true → is_old_or_new_database_or_world_name records q ≡ false
+unlike_records test records q database world text passes = false_from_ne_true (is_old_or_new_database_or_world_name records q) (λ is. by_name (or_cases (bytes_eq q database_name) (bytes_eq q world_name || (records.takes_text_over && bytes_eq q text_database_name)) is))
   where
     never : (name : List ℕ) → test name ≡ false → bytes_eq q name ≡ true → ⊥
     never name fails same = true≢false (sym passes ∙ (ap test ((bytes_eq-Decides q name).0 same) ∙ fails))
@@ -153,14 +153,14 @@ unlike_records test records q database world text passes = false_from_ne_true (i
           | inr both ↦ never text_database_name text (and_parts records.takes_text_over (bytes_eq q text_database_name) both).1
         ]
 
-no_record : (records : DatabaseAndWorldAfter) (q : List ℕ) → is_staged q ≡ true → is_database_or_world_name records q ≡ false
+no_record : (records : DatabaseAndWorldAfter) (q : List ℕ) → is_staged q ≡ true → is_old_or_new_database_or_world_name records q ≡ false
 no_record records q staged = unlike_records is_staged records q refl refl refl staged
 
-intent_no_record : (records : DatabaseAndWorldAfter) → is_database_or_world_name records intent_name ≡ false
+intent_no_record : (records : DatabaseAndWorldAfter) → is_old_or_new_database_or_world_name records intent_name ≡ false
 intent_no_record records = unlike_records (λ q. bytes_eq q intent_name) records intent_name refl refl refl refl
 
 -- a reserved name that is absent stays so
-module _ (change : FileChange) (bytes_of : Listing → List ℕ) (records : DatabaseAndWorldAfter) (files : Files) (none : first_reserved_path change.members ≡ None) where
+module _ (change : FileChange) (bytes_of : Listing → List ℕ) (records : DatabaseAndWorldAfter) (files : Files) (none : first_reserved_added_path change.members ≡ None) where
   unwritten : (q : List ℕ) → is_reserved q ≡ true → (o : Option Listing) → listing_written_under_name change files q ≡ o → o ≡ None
   unwritten q reserved None is = refl
   unwritten q reserved (Some l) is = absurd (true≢false (sym reserved ∙ written_unreserved change files q l none is))
@@ -169,7 +169,7 @@ module _ (change : FileChange) (bytes_of : Listing → List ℕ) (records : Data
   stays_absent true o absent = refl
   stays_absent false o absent = absent
 
-  reserved_absent : (q : List ℕ) → is_reserved q ≡ true → is_database_or_world_name records q ≡ false → files q ≡ None → files_after_change change bytes_of records files q ≡ None
+  reserved_absent : (q : List ℕ) → is_reserved q ≡ true → is_old_or_new_database_or_world_name records q ≡ false → files q ≡ None → files_after_change change bytes_of records files q ≡ None
   reserved_absent q reserved other absent =
       changed_so change bytes_of records files q other
       ∙ (ap (λ (o : Option Listing). bytes_after_write_or_removal bytes_of o (is_removed change files q) (files q)) (unwritten q reserved (listing_written_under_name change files q) refl)
@@ -178,7 +178,7 @@ module _ (change : FileChange) (bytes_of : Listing → List ℕ) (records : Data
   pub no_intent : files intent_name ≡ None → files_after_change change bytes_of records files intent_name ≡ None
   no_intent absent = reserved_absent intent_name refl (intent_no_record records) absent
 
-module _ (change : FileChange) (bytes_of : Listing → List ℕ) (records : DatabaseAndWorldAfter) (files : Files) (none : first_reserved_path change.members ≡ None) (stage : AreStagingPathsFree files) (apart : HasNoClash (name_change change files) files) where
+module _ (change : FileChange) (bytes_of : Listing → List ℕ) (records : DatabaseAndWorldAfter) (files : Files) (none : first_reserved_added_path change.members ≡ None) (stage : HasEmptyStageAndFreeJournalPaths files) (apart : HasNoClash (name_change change files) files) where
   abbrev after : Files
   after = files_after_change change bytes_of records files
 
@@ -196,7 +196,7 @@ module _ (change : FileChange) (bytes_of : Listing → List ℕ) (records : Data
   after_there : (q : List ℕ) → IsSome (after q) → is_after q ≡ true
   after_there q there = names_after change bytes_of records files q there
 
-  no_folder : (p q : List ℕ) → IsFolderOf p q → IsSome (after p) → IsUsedByJournal q → ⊥
+  no_folder : (p q : List ℕ) → IsFolderOf p q → IsSome (after p) → IsIntentNameOrNumberedStageName q → ⊥
   no_folder p q above there taken =
       elim (stands_or_counts p (after_there p there)) [
         | inl located ↦ stage.beside.folders p q above (inl located) (inr taken)
@@ -215,7 +215,7 @@ module _ (change : FileChange) (bytes_of : Listing → List ℕ) (records : Data
         ]
       ]
 
-  nothing_below : (p q : List ℕ) → IsFolderOf p q → IsUsedByJournal p → IsSome (after q) → ⊥
+  nothing_below : (p q : List ℕ) → IsFolderOf p q → IsIntentNameOrNumberedStageName p → IsSome (after q) → ⊥
   nothing_below p q above taken there =
       elim (stands_or_counts q (after_there q there)) [
         | inl located ↦ stage.beside.folders p q above (inr taken) (inl located)
@@ -226,7 +226,7 @@ module _ (change : FileChange) (bytes_of : Listing → List ℕ) (records : Data
         ]
       ]
 
-  beside : AreJournalPathsFree after
+  beside : AreIntentAndStagedPathsFree after
   beside = record { folders = apart_names }
     where
       apart_names : (p q : List ℕ) → IsFolderOf p q → IsPresentOrOfJournal after p → IsPresentOrOfJournal after q → ⊥
@@ -239,5 +239,5 @@ module _ (change : FileChange) (bytes_of : Listing → List ℕ) (records : Data
   empty : HasNoStagedNames after
   empty q staged = reserved_absent change bytes_of records files none q (staged_reserved q staged) (no_record records q staged) (stage.empty q staged)
 
-  pub room : AreStagingPathsFree after
+  pub room : HasEmptyStageAndFreeJournalPaths after
   room = record { empty = empty; beside = beside }

@@ -3,7 +3,7 @@ use Rattle.std.proofs.Common.{◌≡◌, refl, true, false, ℕ, List, [], ◌�
 use Rattle.adb_view.specs.Plain.{Plains, arr, blob, blob_or_null, more, none, null, obj}
 use Rattle.package_changes.specs.change_files.PlanLists.{sorted_distinct_names}
 use Rattle.db_write.specs.db_core.Members.{Member, member_of_kept}
-use Rattle.change_outcome.specs.ConfigurationLines.{configuration_lines}
+use Rattle.change_outcome.specs.ConfigurationLines.{lines_of_apk_new_and_kept_paths}
 use Rattle.change_inputs.specs.package_files.Folders.{folder_of}
 use Rattle.change_outcome.specs.Triggers.{is_folder_matched_by_pattern, trigger_lines}
 
@@ -95,9 +95,9 @@ folder_below = refl
 
 -- ---- the lines of configuration that the user changed
 
-by_path : configuration_lines (codes "etc/a" ∷ (codes "etc/c" ∷ [])) (codes "etc/b" ∷ [])
+by_path : lines_of_apk_new_and_kept_paths (codes "etc/a" ∷ (codes "etc/c" ∷ [])) (codes "etc/b" ∷ [])
     ≡ codes "etc/a.apk-new installed; etc/a was changed\netc/b kept; it was changed\netc/c.apk-new installed; etc/c was changed\n"
-unfolding configuration_lines
+unfolding lines_of_apk_new_and_kept_paths
 by_path = refl
 
 -- ---- the lines of due triggers

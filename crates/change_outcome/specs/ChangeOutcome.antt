@@ -4,12 +4,12 @@ use Rattle.std.specs.Prelude.{◌≡◌, ℕ, ◌==◌, Bool, true, false, not, 
 use Rattle.std.specs.Option.{option_map_or}
 use Rattle.adb_view.specs.FieldIndexes.{INFO_INSTALLED_SIZE, PACKAGE_INFO}
 use Rattle.adb_view.specs.Values.{entry_in, int_in}
-use Rattle.db_write.specs.adb_write.Canonical.{PayloadCounts, overflow_of}
+use Rattle.db_write.specs.adb_write.Canonical.{ByteAndValueCounts, overflow_of}
 use Rattle.base_core.specs.Files.{Files}
 use Rattle.package_changes.specs.change_files.FileChange.{FileChange}
 use Rattle.package_changes.specs.change_files.FilesAfter.{DatabaseAndWorldAfter, files_after_change, listing_bytes}
 use Rattle.package_changes.specs.change_files.NamesAfter.{name_change}
-use Rattle.package_changes.specs.change_files.PlanLists.{paths_with_apk_new_file, file_writes_of, first_reserved_path, kept_paths_of, sorted_distinct_names, removals_of}
+use Rattle.package_changes.specs.change_files.PlanLists.{paths_with_apk_new_file, file_writes_of, first_reserved_added_path, kept_left_over_paths_of, sorted_distinct_names, removals_of}
 use Rattle.change_inputs.specs.Chains.{and_then}
 use Rattle.change_inputs.specs.Inputs.{Inputs}
 use Rattle.db_write.specs.db_core.Members.{Member, member_name}
@@ -28,7 +28,7 @@ use Rattle.report_core.specs.Reports.{change_lines, report_line, bytes_and_packa
 use Rattle.report_core.specs.declared.refusal.Refusal.{Refusal}
 use Rattle.report_core.specs.declared.refusal.Refusal.TheVariants.{Owned, PathClash, Reserved, ResultTooLarge}
 use Rattle.root_names.specs.RootNames.{database_name, text_database_name, world_name}
-use Rattle.change_outcome.specs.ConfigurationLines.{configuration_lines}
+use Rattle.change_outcome.specs.ConfigurationLines.{lines_of_apk_new_and_kept_paths}
 use Rattle.change_outcome.specs.MembersAfter.{MemberFound, found_package_contents, members_after, found_members}
 use Rattle.change_outcome.specs.Triggers.{trigger_lines, unless_trigger_due}
 
@@ -77,12 +77,12 @@ unless_contested members (Some c) next =
 -- ---- the database and world
 
 -- the value; or the counts (bytes and values) of a value that does not fit into a payload, as a refusal
-abbrev pub or_result_too_large : {A : Type 0} → Result A PayloadCounts → Result A Refusal
+abbrev pub or_result_too_large : {A : Type 0} → Result A ByteAndValueCounts → Result A Refusal
 or_result_too_large (Ok a) = Ok a
 or_result_too_large (Err counts) = Err (ResultTooLarge counts.0 counts.1)
 
 -- the value, unless there are counts (bytes and values) that exceed a limit of the writer: these are refused
-abbrev pub unless_overflow : {A : Type 0} → Option PayloadCounts → A → Result A Refusal
+abbrev pub unless_overflow : {A : Type 0} → Option ByteAndValueCounts → A → Result A Refusal
 unless_overflow None a = Ok a
 unless_overflow (Some counts) a = Err (ResultTooLarge counts.0 counts.1)
 
@@ -153,7 +153,8 @@ touched_paths change files = map (λ w. w.name) (file_writes_of change files) ++
 abbrev pub change_report : Replacement → ChangeWishes → FileChange → Files → List ℕ
 change_report r wishes change files =
     change_lines (changes_of r) ++ still_needed_lines r.before r.selected wishes.to_remove
-    ++ configuration_lines (paths_with_apk_new_file change files) (kept_paths_of change files)
+    ++ lines_of_apk_new_and_kept_paths (paths_with_apk_new_file change files)
+    (kept_left_over_paths_of change files)
     ++ trigger_lines (touched_paths change files) change.members ++ member_sum_line change.members
 
 -- ---- the change
@@ -198,7 +199,7 @@ abbrev pub change_with_members :
     → Result ChangeDone Refusal
 change_with_members inputs r wishes clash files found =
     let change = file_change inputs wishes found in
-    unless_reserved_path (first_reserved_path change.members)
+    unless_reserved_path (first_reserved_added_path change.members)
     (unless_clash clash
     (unless_contested change.members (first_contested_path_of_members change.members)
     (and_then (unless_trigger_due wishes.no_scripts (touched_paths change files) change.members)
@@ -223,27 +224,28 @@ change_or_refusal inputs r wishes read clash files =
 -- `clash` is the first clash of the names after a change, or None, if the packages after it are found; otherwise None.
 -- `files` decide whether a configuration file is kept or a file is written beside it; names clash among
 -- `present_files`.
-abbrev pub IsClashFoundAmong :
+abbrev pub IsFirstClashIfMembersFoundAmong :
     Inputs → ChangeWishes → Files → Files → Result (List MemberFound) Refusal → Option NamePair
     → Type 0
-IsClashFoundAmong inputs wishes files present_files (Ok found) clash =
+IsFirstClashIfMembersFoundAmong inputs wishes files present_files (Ok found) clash =
     IsFirstClashOrNone (name_change (file_change inputs wishes found) files) present_files clash
-IsClashFoundAmong inputs wishes files present_files (Err refusal) clash = clash ≡ None
+IsFirstClashIfMembersFoundAmong inputs wishes files present_files (Err refusal) clash = clash ≡ None
 
--- *IsClashFoundAmong* for the packages that the reads find
-abbrev pub IsClashOfChangeAmong :
+-- *IsFirstClashIfMembersFoundAmong* for the packages that the reads find
+abbrev pub IsFirstClashOfChangeAmong :
     Inputs → Replacement → ChangeWishes → Reads → Files → Files → Option NamePair → Type 0
-IsClashOfChangeAmong inputs r wishes read files present_files clash =
-    IsClashFoundAmong inputs wishes files present_files (members_after_change inputs r wishes read) clash
+IsFirstClashOfChangeAmong inputs r wishes read files present_files clash =
+    IsFirstClashIfMembersFoundAmong inputs wishes files present_files
+    (members_after_change inputs r wishes read) clash
 
--- *IsClashFoundAmong*, with the same files as `present_files`, as on an observable tree
-abbrev pub IsClashFound :
+-- *IsFirstClashIfMembersFoundAmong*, with the same files as `present_files`, as on an observable tree
+abbrev pub IsFirstClashIfMembersFound :
     Inputs → ChangeWishes → Files → Result (List MemberFound) Refusal → Option NamePair → Type 0
-IsClashFound inputs wishes files members clash =
-    IsClashFoundAmong inputs wishes files files members clash
+IsFirstClashIfMembersFound inputs wishes files members clash =
+    IsFirstClashIfMembersFoundAmong inputs wishes files files members clash
 
--- *IsClashOfChangeAmong*, with the same files as `present_files`, as on an observable tree
-abbrev pub IsClashOfChange :
+-- *IsFirstClashOfChangeAmong*, with the same files as `present_files`, as on an observable tree
+abbrev pub IsFirstClashOfChange :
     Inputs → Replacement → ChangeWishes → Reads → Files → Option NamePair → Type 0
-IsClashOfChange inputs r wishes read files clash =
-    IsClashOfChangeAmong inputs r wishes read files files clash
+IsFirstClashOfChange inputs r wishes read files clash =
+    IsFirstClashOfChangeAmong inputs r wishes read files files clash

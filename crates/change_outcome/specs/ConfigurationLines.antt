@@ -10,8 +10,8 @@ use Rattle.base_core.specs.Sorted.{sorted_by}
 use Rattle.report_core.specs.Reports.{report_line}
 
 -- the line that says that a package's new file is written as `PATH.apk-new`, beside the modified file at this path
-abbrev pub apk_new_line : List ℕ → List ℕ
-apk_new_line path =
+abbrev pub apk_new_file_line : List ℕ → List ℕ
+apk_new_file_line path =
     report_line (apk_new_name path ++ codes " installed; " ++ path ++ codes " was changed")
 
 -- the line that says that the modified file at this path is kept although its package is removed
@@ -19,22 +19,23 @@ abbrev pub kept_config_line : List ℕ → List ℕ
 kept_config_line path = report_line (path ++ codes " kept; it was changed")
 
 -- a path, and the line about it
-pub record PathLine : Type 0 where
+pub record PathWithReportLine : Type 0 where
   -- the path of the file
   pub path : List ℕ
   -- the line of the report about this file
   pub line : List ℕ
 
 -- a path with the line that the function `line_of` makes of it
-abbrev pub path_line : (List ℕ → List ℕ) → List ℕ → PathLine
-path_line line_of path = record { path = path; line = line_of path }
+abbrev pub path_with_line_by : (List ℕ → List ℕ) → List ℕ → PathWithReportLine
+path_with_line_by line_of path = record { path = path; line = line_of path }
 
 -- the order of lines on configuration: the byte order of their paths
-abbrev pub path_line_cmp : PathLine → PathLine → Ordering
-path_line_cmp = on (λ l. l.path) bytes_cmp
+abbrev pub path_with_line_cmp_by_path : PathWithReportLine → PathWithReportLine → Ordering
+path_with_line_cmp_by_path = on (λ l. l.path) bytes_cmp
 
 -- the lines on configuration, in byte order of the paths: one for each path of `aside`, beside which a new file is
 -- written, and one for each path of `kept`, at which the modified file is kept
-unfoldable pub configuration_lines : List (List ℕ) → List (List ℕ) → List ℕ
-configuration_lines aside kept = flat_map (λ l. l.line)
-    (sorted_by path_line_cmp (map (path_line apk_new_line) aside ++ map (path_line kept_config_line) kept))
+unfoldable pub lines_of_apk_new_and_kept_paths : List (List ℕ) → List (List ℕ) → List ℕ
+lines_of_apk_new_and_kept_paths aside kept = flat_map (λ l. l.line)
+    (sorted_by path_with_line_cmp_by_path
+    (map (path_with_line_by apk_new_file_line) aside ++ map (path_with_line_by kept_config_line) kept))

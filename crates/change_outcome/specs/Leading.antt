@@ -12,7 +12,8 @@ write_count_limit = 2 ^ 63
 
 -- The files `after` are `files` with these names removed and written, and all others unchanged. The names may be in an
 -- intent, nothing is staged in `files`, and the writes are fewer than their limit.
-pub record ActionsLeadToFiles (removals writes : List (List ℕ)) (files after : Files) : Type 0 where
+pub record CanStageActionsLeadingToFiles (removals writes : List (List ℕ))
+    (files after : Files) : Type 0 where
   -- the names are not used by the journal; none is written twice, and none is both written and removed
   pub free : HasFreeDistinctNames (intent_of_lists removals writes)
   -- there are fewer writes than the limit

@@ -3,7 +3,7 @@
 use Rattle.std.specs.Prelude.{◌≡◌, ℕ, List, Option, None, Ok}
 use Rattle.db_write.specs.adb_write.Canonical.{overflow_of}
 use Rattle.base_core.specs.Files.{Files}
-use Rattle.package_changes.specs.change_files.PlanLists.{first_reserved_path}
+use Rattle.package_changes.specs.change_files.PlanLists.{first_reserved_added_path}
 use Rattle.change_inputs.specs.Inputs.{Inputs}
 use Rattle.change_outcome.specs.ChangeOutcome.{ChangeDone, ChangeWishes, intent_of_change, change_done, members_after_change, file_change, database_and_world_after_change}
 use Rattle.change_outcome.specs.MembersAfter.{MemberFound, found_members}
@@ -22,7 +22,7 @@ pub record IsChangeMade (inputs : Inputs) (r : Replacement) (wishes : ChangeWish
   -- the packages after the change are found
   pub members : members_after_change inputs r wishes read ≡ Ok found
   -- no added package lists a reserved path
-  pub unreserved : first_reserved_path (found_members found) ≡ None
+  pub unreserved : first_reserved_added_path (found_members found) ≡ None
   -- no name after the change is a folder of another
   pub no_clash : clash ≡ None
   -- each path has an owner

@@ -2,7 +2,7 @@
 -- `docs/commands.md`, "`add` and `del`", parts "What is read" and "What is refused"; of scripts in "`mkpkg`", part
 -- "Scripts", and their numbers in `docs/formats.md`, "Schemas", table 6.
 use Rattle.std.specs.Prelude.{ℕ, ◌==◌, ◌-◌, Bool, true, false, not, if◌then◌else◌, List, [], ◌∷◌, length, Option, Some, None, Result, Ok, Err, bytes_eq, slice_get}
-use Rattle.db_write.specs.adb_schema.Soundness.{payload_in, root_value}
+use Rattle.db_write.specs.adb_schema.Soundness.{payload_in, root_value_of_payload}
 use Rattle.adb_view.specs.FieldIndexes.{PACKAGE_SCRIPTS}
 use Rattle.adb_view.specs.Values.{entry_in, text_in}
 use Rattle.adb_view.specs.declared.tables.Which.TheVariants as Tables
@@ -58,7 +58,7 @@ pub record AddedPackage : Type 0 where
 abbrev pub package_in_file : List ℕ → AddedPackage
 package_in_file file = record {
   file = file;
-  value = root_value Tables.Package (payload_in file);
+  value = root_value_of_payload Tables.Package (payload_in file);
   id = package_id file;
   contents = contents_in (files_read_from_package file);
 }
@@ -77,15 +77,17 @@ package_unless_other_than_candidate c pkg =
     else Ok pkg
 
 -- the package, unless a test of its file failed (the cause), or it is not that of the candidate
-abbrev pub unless_package_bad :
+abbrev pub package_unless_bad_or_different :
     Candidate → Option Cause → AddedPackage → Result AddedPackage Refusal
-unless_package_bad c None pkg = package_unless_other_than_candidate c pkg
-unless_package_bad c (Some cause) pkg = Err (PackageBad c.name (candidate_version_text c) cause)
+package_unless_bad_or_different c None pkg = package_unless_other_than_candidate c pkg
+package_unless_bad_or_different c (Some cause) pkg =
+    Err (PackageBad c.name (candidate_version_text c) cause)
 
 -- the package of a candidate, given the file that is found under its path, or None; or the refusal
 abbrev pub added_package_or_refusal : Candidate → Option (List ℕ) → Result AddedPackage Refusal
 added_package_or_refusal c None = Err (PackageMissing c.name (candidate_version_text c))
-added_package_or_refusal c (Some file) = unless_package_bad c (package_fault file) (package_in_file file)
+added_package_or_refusal c (Some file) =
+    package_unless_bad_or_different c (package_fault file) (package_in_file file)
 
 -- ---- scripts
 
@@ -94,14 +96,14 @@ abbrev pub script_of : Plain → ℕ → List ℕ
 script_of pkg number = text_in (entry_in (entry_in pkg PACKAGE_SCRIPTS) (number - 1))
 
 -- whether the package has a script with this number
-abbrev pub has_script_of : Plain → ℕ → Bool
-has_script_of pkg number = not (length (script_of pkg number) == 0)
+abbrev pub has_script_with_number : Plain → ℕ → Bool
+has_script_with_number pkg number = not (length (script_of pkg number) == 0)
 
 -- of the scripts with these numbers, the first that the package has
-abbrev pub first_script_of : Plain → List ℕ → Option ℕ
-first_script_of pkg [] = None
-first_script_of pkg (number ∷ numbers) =
-    if has_script_of pkg number then Some number else first_script_of pkg numbers
+abbrev pub first_script_number_of_package : Plain → List ℕ → Option ℕ
+first_script_number_of_package pkg [] = None
+first_script_number_of_package pkg (number ∷ numbers) =
+    if has_script_with_number pkg number then Some number else first_script_number_of_package pkg numbers
 
 -- the numbers, in the table of scripts, of the scripts pre-install and post-install
 abbrev pub install_scripts : List ℕ
@@ -134,4 +136,5 @@ unless_script_number name (Some number) a = Err (ScriptNeeded name number)
 abbrev pub unless_script_needed :
     {A : Type 0} → Bool → List ℕ → Plain → List ℕ → A → Result A Refusal
 unless_script_needed true name pkg numbers a = Ok a
-unless_script_needed false name pkg numbers a = unless_script_number name (first_script_of pkg numbers) a
+unless_script_needed false name pkg numbers a =
+    unless_script_number name (first_script_number_of_package pkg numbers) a

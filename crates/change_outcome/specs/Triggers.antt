@@ -15,26 +15,26 @@ use Rattle.report_core.specs.Reports.{report_line, trigger_due_text}
 use Rattle.report_core.specs.declared.refusal.Refusal.{Refusal}
 use Rattle.report_core.specs.declared.refusal.Refusal.TheVariants.{TriggerNeeded}
 use Rattle.star_patterns.specs.Patterns.{is_whole_text_matched}
-use Rattle.change_outcome.specs.PackageFiles.{has_script_of}
+use Rattle.change_outcome.specs.PackageFiles.{has_script_with_number}
 use Rattle.report_core.specs.Numbers.{TRIGGER_SCRIPT}
 
 -- ---- patterns
 
 -- whether the parts of a pattern (`patterns`) match the parts of a folder's path, one by one, and there are equally
 -- many
-abbrev pub do_patterns_match_parts : List (List ℕ) → List (List ℕ) → Bool
-do_patterns_match_parts [] [] = true
-do_patterns_match_parts [] (part ∷ parts) = false
-do_patterns_match_parts (p ∷ patterns) [] = false
-do_patterns_match_parts (p ∷ patterns) (part ∷ parts) =
-    is_whole_text_matched p part && do_patterns_match_parts patterns parts
+abbrev pub do_patterns_match_parts_one_to_one : List (List ℕ) → List (List ℕ) → Bool
+do_patterns_match_parts_one_to_one [] [] = true
+do_patterns_match_parts_one_to_one [] (part ∷ parts) = false
+do_patterns_match_parts_one_to_one (p ∷ patterns) [] = false
+do_patterns_match_parts_one_to_one (p ∷ patterns) (part ∷ parts) =
+    is_whole_text_matched p part && do_patterns_match_parts_one_to_one patterns parts
 
 -- Whether a pattern matches a folder. One leading `/` of a pattern is dropped. Only the pattern `/`
 -- matches the root folder, which has the empty name.
 unfoldable pub is_folder_matched_by_pattern : List ℕ → List ℕ → Bool
 is_folder_matched_by_pattern folder pattern =
     if length folder == 0 then bytes_eq pattern (codes "/")
-    else do_patterns_match_parts (path_parts_of (without_slash pattern)) (path_parts_of folder)
+    else do_patterns_match_parts_one_to_one (path_parts_of (without_slash pattern)) (path_parts_of folder)
 
 -- the patterns of the folders that a package watches
 abbrev pub trigger_patterns_of_package : Plain → List (List ℕ)
@@ -49,7 +49,7 @@ watches_folder pkg folder = list_any (is_folder_matched_by_pattern folder) (trig
 -- whether the trigger of a package is due for a folder: it watches the folder and has a trigger
 -- script
 abbrev pub is_trigger_due : Plain → List ℕ → Bool
-is_trigger_due pkg folder = has_script_of pkg TRIGGER_SCRIPT && watches_folder pkg folder
+is_trigger_due pkg folder = has_script_with_number pkg TRIGGER_SCRIPT && watches_folder pkg folder
 
 -- the folders of the files with these paths, in byte order, each once; folders above these do not count
 abbrev pub folders_of_paths : List (List ℕ) → List (List ℕ)

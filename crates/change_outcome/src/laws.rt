@@ -3,22 +3,22 @@
 //! several files".
 
 ghost use Rattle.std.specs.Prelude.{◌≡◌, ◌<◌, ◌++◌, ℕ, false, List, All, None, Ok, Option, length, map};
-ghost use Rattle.base_core.specs.Files.{Files, HasNamesAmong};
+ghost use Rattle.base_core.specs.Files.{Files, HasOnlyNamesAmong};
 ghost use Rattle.base_core.specs.Name.{IsName};
 ghost use Rattle.package_changes.specs.change_files.FileChange.{FileChange};
 ghost use Rattle.package_changes.specs.change_files.FilesAfter.{DatabaseAndWorldAfter, files_after_change};
 ghost use Rattle.change_inputs.specs.Inputs.{Inputs, inputs_of};
-ghost use Rattle.change_outcome.specs.ChangeOutcome.{ChangeDone, ChangeWishes, IsClashOfChange, intent_of_change, bytes_or_empty_under, change_or_refusal, has_actions, database_and_world_after_change};
+ghost use Rattle.change_outcome.specs.ChangeOutcome.{ChangeDone, ChangeWishes, IsFirstClashOfChange, intent_of_change, bytes_or_empty_under, change_or_refusal, has_actions, database_and_world_after_change};
 ghost use Rattle.command_core.specs.Command.{CommandLine};
 ghost use Rattle.db_write.specs.db_core.Members.{Listing};
 ghost use Rattle.journal_core.specs.Recovery.{files_after_actions};
-ghost use Rattle.journal_core.specs.Staged.{AreStagingPathsFree, HasNoStagedNames, files_with_staged};
+ghost use Rattle.journal_core.specs.Staged.{HasEmptyStageAndFreeJournalPaths, HasNoStagedNames, files_with_staged};
 ghost use Rattle.journal_core.specs.journal_intent.Intent.{AreDistinctNamesAllowedInIntent, intent_name};
 ghost use Rattle.journal_core.specs.journal_intent.IntentValue.{intent_of_lists};
 ghost use Rattle.change_inputs.specs.make_info.Reads.{Reads};
 ghost use Rattle.package_changes.specs.Changes.{Replacement};
 ghost use Rattle.package_changes.specs.path_clashes.Clash.{NamePair};
-ghost use Rattle.change_outcome.specs.Leading.{ActionsLeadToFiles, write_count_limit};
+ghost use Rattle.change_outcome.specs.Leading.{CanStageActionsLeadingToFiles, write_count_limit};
 ghost use Rattle.change_outcome.specs.Made.{IsChangeMade};
 ghost use Rattle.change_outcome.specs.Premises.{HasNoReservedPath, AreDatabaseAndWorldReadFromFiles};
 
@@ -36,10 +36,10 @@ pub fn what_is_read_of_a_root_is_in_the_tree()
 
 /// Suppose that the names `removals` are removed, and that for each name of `writes` the bytes
 /// which `after` has under it are staged, numbered from 1. Then the actions lead from `files` to
-/// exactly the files `after`, under the premises of *ActionsLeadToFiles*.
+/// exactly the files `after`, under the premises of *CanStageActionsLeadingToFiles*.
 pub fn actions_lead_to_given_files()
     ensures { (removals writes : List (List ℕ)) (files after : Files)
-        → ActionsLeadToFiles removals writes files after
+        → CanStageActionsLeadingToFiles removals writes files after
         → files_after_actions (intent_of_lists removals writes)
         (files_with_staged 1 (map (bytes_or_empty_under after) writes) files) ≡ after }
 {}
@@ -105,8 +105,8 @@ pub fn a_change_keeps_paths_free()
     ensures room { (inputs : Inputs) (r : Replacement) (wishes : ChangeWishes) (read : Reads)
         (clash : Option NamePair) (files : Files) (done : ChangeDone)
         → change_or_refusal inputs r wishes read clash files ≡ Ok done
-        → IsClashOfChange inputs r wishes read files clash
-        → AreStagingPathsFree files → AreStagingPathsFree done.files }
+        → IsFirstClashOfChange inputs r wishes read files clash
+        → HasEmptyStageAndFreeJournalPaths files → HasEmptyStageAndFreeJournalPaths done.files }
     // If there was no intent before the change, there is none after it.
     ensures intent { (inputs : Inputs) (r : Replacement) (wishes : ChangeWishes) (read : Reads)
         (clash : Option NamePair) (files : Files) (done : ChangeDone)
@@ -119,10 +119,10 @@ pub fn a_change_has_a_first_clash_or_none()
     // Any two first clashes of a change over the same files are equal.
     ensures one { (inputs : Inputs) (r : Replacement) (wishes : ChangeWishes) (read : Reads)
         (files : Files) (a b : Option NamePair)
-        → IsClashOfChange inputs r wishes read files a
-        → IsClashOfChange inputs r wishes read files b → a ≡ b }
+        → IsFirstClashOfChange inputs r wishes read files a
+        → IsFirstClashOfChange inputs r wishes read files b → a ≡ b }
     // There is a first clash, or it is None, if all names of the files are in the list `within`.
     ensures exists { (inputs : Inputs) (r : Replacement) (wishes : ChangeWishes) (read : Reads)
-        (within : List (List ℕ)) (files : Files) → HasNamesAmong within files
-        → (clash : Option NamePair) × IsClashOfChange inputs r wishes read files clash }
+        (within : List (List ℕ)) (files : Files) → HasOnlyNamesAmong within files
+        → (clash : Option NamePair) × IsFirstClashOfChange inputs r wishes read files clash }
 {}

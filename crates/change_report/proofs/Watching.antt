@@ -12,7 +12,7 @@ use Rattle.change_outcome.proofs.adb_fields.Listed.{next_listed}
 use Rattle.change_outcome.specs.db_core.Members.{Member, member_name}
 use Rattle.report_core.specs.declared.refusal.Refusal.TheVariants.{TriggerNeeded}
 use Rattle.change_outcome.specs.Triggers.{folders_of_paths, has_due_trigger, is_trigger_due, is_folder_matched_by_pattern, watches_folder, unless_trigger_due}
-use Rattle.change_outcome.specs.PackageFiles.{has_script_of}
+use Rattle.change_outcome.specs.PackageFiles.{has_script_with_number}
 use Rattle.report_core.specs.Numbers.{TRIGGER_SCRIPT}
 use Rattle.change_report.specs.Due.{refusal_if_trigger_due}
 use Rattle.change_report.proofs.Loops.{any_here, any_later, any_mapped, any_none, left_at, made_at}
@@ -55,11 +55,11 @@ no_pattern folder pkg patterns i are past inv =
 abbrev pub names_of : List (Bor (List ℕ)) → List (List ℕ)
 names_of folders = map (λ (f : Bor (List ℕ)). f.now) folders
 
-due_at : (pkg : Plain) (script t : Bool) (x : List ℕ) → script ≡ has_script_of pkg TRIGGER_SCRIPT → script ≡ true → t ≡ watches_folder pkg x → t ≡ is_trigger_due pkg x
+due_at : (pkg : Plain) (script t : Bool) (x : List ℕ) → script ≡ has_script_with_number pkg TRIGGER_SCRIPT → script ≡ true → t ≡ watches_folder pkg x → t ≡ is_trigger_due pkg x
 due_at pkg script t x is has watched = watched ∙ ap (λ s. s && watches_folder pkg x) (sym has ∙ is)
 
 pub watched_here : (pkg : Plain) (folders : List (Bor (List ℕ))) (i : ℕ) (d : Bor (List ℕ)) (script t : Bool) → t ≡ watches_folder pkg (get_or folders i d).now
-    → script ≡ has_script_of pkg TRIGGER_SCRIPT → script ≡ true → i < length folders → t ≡ true
+    → script ≡ has_script_with_number pkg TRIGGER_SCRIPT → script ≡ true → i < length folders → t ≡ true
     → list_any (is_trigger_due pkg) (drop i (names_of folders)) ≡ list_any (is_trigger_due pkg) (names_of folders)
     → true ≡ list_any (is_trigger_due pkg) (names_of folders)
 watched_here pkg folders i d script t watched is has within e inv =
@@ -67,7 +67,7 @@ watched_here pkg folders i d script t watched is has within e inv =
     (due_at pkg script t (get_or folders i d).now is has watched) e inv
 
 pub not_watched_here : (pkg : Plain) (folders : List (Bor (List ℕ))) (i : ℕ) (d : Bor (List ℕ)) (script t : Bool) → t ≡ watches_folder pkg (get_or folders i d).now
-    → script ≡ has_script_of pkg TRIGGER_SCRIPT → script ≡ true → i < length folders → t ≡ false
+    → script ≡ has_script_with_number pkg TRIGGER_SCRIPT → script ≡ true → i < length folders → t ≡ false
     → list_any (is_trigger_due pkg) (drop i (names_of folders)) ≡ list_any (is_trigger_due pkg) (names_of folders)
     → list_any (is_trigger_due pkg) (drop (i + 1) (names_of folders)) ≡ list_any (is_trigger_due pkg) (names_of folders)
 not_watched_here pkg folders i d script t watched is has within e inv =

@@ -1,7 +1,7 @@
 //! The lines on modified configuration files. The lines are defined in `docs/commands.md`, "`add`
 //! and `del`", part "What is reported"; which files are kept, or written beside others, in "What a
 //! change does with files", part "Configuration files".
-ghost use Rattle.change_outcome.specs.ConfigurationLines.{apk_new_line, configuration_lines, kept_config_line, path_line, path_line_cmp};
+ghost use Rattle.change_outcome.specs.ConfigurationLines.{apk_new_file_line, lines_of_apk_new_and_kept_paths, kept_config_line, path_with_line_by, path_with_line_cmp_by_path};
 ghost use Rattle.change_report.specs.Notices.{notice_seen};
 ghost use Rattle.base_core.specs.Sorted.{sorted_by};
 ghost use Rattle.std.specs.List.{flat_map};
@@ -24,14 +24,14 @@ pub(crate) struct Notice<'p> {
 
 /// Adds two kinds of lines, in byte order of the paths: one for each path beside which a new file
 /// is written, and one for each path at which a modified file is kept.
-#[tactic(auto, unfolding(change_outcome::specs::ConfigurationLines::configuration_lines))]
+#[tactic(auto, unfolding(change_outcome::specs::ConfigurationLines::lines_of_apk_new_and_kept_paths))]
 pub(crate) fn push_configuration_lines(
     alloc: Global,
     report: &mut Report,
     plan: &FilePlan,
 ) -> Result<(), AllocError>
     ensures { OnOk result (report.new
-        ≡ report.old ++ configuration_lines plan.now.aside plan.now.kept) }
+        ≡ report.old ++ lines_of_apk_new_and_kept_paths plan.now.aside plan.now.kept) }
 {
     let mut notices = Vec::new(alloc);
     push_notices(&mut notices, plan.aside(), false)?;
@@ -51,7 +51,8 @@ fn push_notices<'p>(
     // A line for each of these paths is appended: the file is kept, or a new one is written beside
     // it.
     ensures { OnOk result (map notice_seen notices.new.items ≡ map notice_seen notices.old.items
-        ++ map (path_line (if is_kept then kept_config_line else apk_new_line)) paths.entry.now) }
+        ++ map (path_with_line_by
+        (if is_kept then kept_config_line else apk_new_file_line)) paths.entry.now) }
 {
     for i in 0..paths.len() {
         let path = paths.get(i).as_bytes();
@@ -63,7 +64,7 @@ fn push_notices<'p>(
 /// Sorts notices by their paths, in byte order.
 fn sort_notices(notices: &mut Vec<Notice<'_>>) -> Result<(), AllocError>
     ensures { OnOk result (map notice_seen notices.new.items
-        ≡ sorted_by path_line_cmp (map notice_seen notices.old.items)) }
+        ≡ sorted_by path_with_line_cmp_by_path (map notice_seen notices.old.items)) }
 {
     notices.sort_by(|one, other| one.path.cmp(other.path))?;
     Ok(())
@@ -92,7 +93,7 @@ fn push_line(report: &mut Report, notice: &Notice<'_>) -> Result<(), AllocError>
 
 /// Adds the line that says that a new file is written beside the modified file at this path.
 fn push_aside_line(report: &mut Report, path: &[u8]) -> Result<(), AllocError>
-    ensures { OnOk result (report.new ≡ report.old ++ apk_new_line path.now) }
+    ensures { OnOk result (report.new ≡ report.old ++ apk_new_file_line path.now) }
 {
     report.push(path)?;
     report.push(b".apk-new installed; ")?;

@@ -1,7 +1,7 @@
 //! Whether a pattern of a trigger matches a folder, used by `watched.rt`. The rule is in
 //! `docs/commands.md`, "`add` and `del`", part "Which triggers are due": the sentences on patterns.
 ghost use Rattle.base_core.specs.Name.{path_parts_of};
-ghost use Rattle.change_outcome.specs.Triggers.{do_patterns_match_parts, is_folder_matched_by_pattern};
+ghost use Rattle.change_outcome.specs.Triggers.{do_patterns_match_parts_one_to_one, is_folder_matched_by_pattern};
 ghost use Rattle.make_package.specs.package_files.Folders.{is_slash};
 ghost use Rattle.std.specs.Prelude.{◌≡◌, count_by};
 
@@ -17,13 +17,13 @@ pub(crate) fn is_folder_matched_by_pattern(folder: &[u8], pattern: &[u8]) -> boo
     if folder.is_empty() {
         return pattern == b"/".as_slice();
     }
-    do_patterns_match_parts(without_slash(pattern), folder)
+    do_patterns_match_parts_one_to_one(without_slash(pattern), folder)
 }
 
 /// Whether a pattern and a folder have equally many parts between slashes, and each part of the
 /// pattern matches the part of the folder at the same position.
-fn do_patterns_match_parts(pattern: &[u8], folder: &[u8]) -> bool
-    ensures { result ≡ do_patterns_match_parts (path_parts_of pattern.now)
+fn do_patterns_match_parts_one_to_one(pattern: &[u8], folder: &[u8]) -> bool
+    ensures { result ≡ do_patterns_match_parts_one_to_one (path_parts_of pattern.now)
         (path_parts_of folder.now) }
 {
     if count_slashes(pattern) != count_slashes(folder) {

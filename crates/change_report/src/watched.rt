@@ -8,7 +8,7 @@ ghost use Rattle.change_outcome.specs.adb_fields.ListValue.{list_value};
 ghost use Rattle.change_outcome.specs.adb_fields.Repeated.{package_name};
 ghost use Rattle.change_outcome.specs.adb_schema.Views.{package_value};
 ghost use Rattle.adb_view.specs.Values.{count_of, entries_in, entry_in, text_in};
-ghost use Rattle.change_outcome.specs.PackageFiles.{has_script_of};
+ghost use Rattle.change_outcome.specs.PackageFiles.{has_script_with_number};
 ghost use Rattle.report_core.specs.Numbers.{TRIGGER_SCRIPT};
 ghost use Rattle.change_outcome.specs.Triggers.{is_folder_matched_by_pattern, watches_folder};
 ghost use Rattle.std.specs.Prelude.{◌≡◌, ◌<◌};
@@ -30,7 +30,7 @@ pub(crate) fn has_trigger_script<'a>(
     pkg: &PackageView<'a>,
     _mark: PhantomData<PackageView<'a>>,
 ) -> bool
-    ensures { result ≡ has_script_of (package_value pkg.now) TRIGGER_SCRIPT }
+    ensures { result ≡ has_script_with_number (package_value pkg.now) TRIGGER_SCRIPT }
 {
     let scripts = pkg.scripts();
     !scripts.trigger().is_empty()

@@ -15,7 +15,7 @@ use Rattle.command_core.specs.declared.values.ValueEntry.{ValueEntry}
 use Rattle.command_core.specs.Files.{is_file_argument, without_dot_slash}
 use Rattle.command_core.specs.Named.{file_name, are_files, operand_file, file_in, file_part_of_value}
 use Rattle.command_core.specs.Operands.{first_refused_operand, takes}
-use Rattle.command_core.specs.Values.{script_file, first_value}
+use Rattle.command_core.specs.Values.{script_file, first_value_with_letter}
 use Rattle.command_core.proofs.Entries.{agree_at, agree_found, find-map, found_passes, left_at, option_map-twice}
 
 -- a text that is a file has its name
@@ -66,18 +66,18 @@ script_named entries values i e v a s h =
     }
 
 -- the first value of an option, and the file in it
-pub first_seen : {A : Type 0} (see : A → ValueEntry) (letter : ℕ) (entries : List ValueEntry) (values : List OptionValue) (r : Option A) → map (λ (x : ValueEntry). x.value) entries ≡ values → option_map see r ≡ find (λ (x : ValueEntry). x.value.letter == letter) entries → option_map (λ x. (see x).value) r ≡ first_value letter values
+pub first_seen : {A : Type 0} (see : A → ValueEntry) (letter : ℕ) (entries : List ValueEntry) (values : List OptionValue) (r : Option A) → map (λ (x : ValueEntry). x.value) entries ≡ values → option_map see r ≡ find (λ (x : ValueEntry). x.value.letter == letter) entries → option_map (λ x. (see x).value) r ≡ first_value_with_letter letter values
 first_seen see letter entries values r v f =
     option_map-twice (λ (x : ValueEntry). x.value) see r
     ∙ (ap (option_map (λ (x : ValueEntry). x.value)) f
-    ∙ (sym (find-map (λ (w : OptionValue). w.letter == letter) (λ (x : ValueEntry). x.value) entries) ∙ ap (first_value letter) v))
+    ∙ (sym (find-map (λ (w : OptionValue). w.letter == letter) (λ (x : ValueEntry). x.value) entries) ∙ ap (first_value_with_letter letter) v))
 
 pub first_agrees : {A : Type 0} (see : A → ValueEntry) (letter : ℕ) (entries : List ValueEntry) (r : Option A) → map (λ (x : ValueEntry). x.file) entries ≡ map (λ (x : ValueEntry). file_in x.value) entries → option_map see r ≡ find (λ (x : ValueEntry). x.value.letter == letter) entries → IfSome r (λ x. (see x).file ≡ file_in (see x).value)
 first_agrees see letter entries None a f = tt
 first_agrees see letter entries (Some x) a f =
     agree_found (λ (y : ValueEntry). y.file) (λ (y : ValueEntry). file_in y.value) (λ (y : ValueEntry). y.value.letter == letter) entries (see x) a (sym f)
 
-pub first_named : (letter : ℕ) (values : List OptionValue) (v : OptionValue) (file : Option (List ℕ)) → Some v ≡ first_value letter values → file ≡ file_in v → not (letter == SCRIPT) ≡ true → IfSome (first_value letter values) (λ w. IsTrue (is_file_argument w.text)) → file ≡ option_map (λ (w : OptionValue). without_dot_slash w.text) (first_value letter values)
+pub first_named : (letter : ℕ) (values : List OptionValue) (v : OptionValue) (file : Option (List ℕ)) → Some v ≡ first_value_with_letter letter values → file ≡ file_in v → not (letter == SCRIPT) ≡ true → IfSome (first_value_with_letter letter values) (λ w. IsTrue (is_file_argument w.text)) → file ≡ option_map (λ (w : OptionValue). without_dot_slash w.text) (first_value_with_letter letter values)
 first_named letter values v file f e n h =
     let same : v.letter ≡ letter = eqb-true v.letter letter (found_passes (λ (w : OptionValue). w.letter == letter) values v (sym f)) in
     let other : (v.letter == SCRIPT) ≡ false = ap (λ k. k == SCRIPT) same ∙ not-true (letter == SCRIPT) n in

@@ -86,8 +86,8 @@ value_rules Mkndx = description_rule ∷ (output_rule ∷ (compression_rule ∷ 
 value_rules applet = []
 
 -- the rule of the option with this letter, if it is among some rules
-abbrev pub rule_for : List ValueRule → ℕ → Option ValueRule
-rule_for rules letter = find (λ (rule : ValueRule). rule.letter == letter) rules
+abbrev pub value_rule_of_letter : List ValueRule → ℕ → Option ValueRule
+value_rule_of_letter rules letter = find (λ (rule : ValueRule). rule.letter == letter) rules
 
 -- whether a text may be a value of an option with this rule; None: there is no such option
 abbrev pub is_allowed_value : Option ValueRule → List ℕ → Bool
@@ -104,14 +104,14 @@ are_exclusive_values (Some rule) a b = rule.single || excludes rule.kind a b
 -- other
 abbrev pub may_both_be_given : List ValueRule → OptionValue → OptionValue → Bool
 may_both_be_given rules a b =
-    not ((a.letter == b.letter) && are_exclusive_values (rule_for rules a.letter) a.text b.text)
+    not ((a.letter == b.letter) && are_exclusive_values (value_rule_of_letter rules a.letter) a.text b.text)
 
 -- whether each value is allowed by the rule of its option, which is among these rules, and no two values exclude each
 -- other
 abbrev pub are_allowed_values : List ValueRule → List OptionValue → Bool
 are_allowed_values rules [] = true
 are_allowed_values rules (v ∷ vs) =
-    is_allowed_value (rule_for rules v.letter) v.text && list_all (may_both_be_given rules v) vs
+    is_allowed_value (value_rule_of_letter rules v.letter) v.text && list_all (may_both_be_given rules v) vs
     && are_allowed_values rules vs
 
 -- ---- the command

@@ -16,8 +16,8 @@ option_value_from_place_and_letter place letter text =
     record { place = place; letter = letter; text = text }
 
 -- the first value that the option with a letter was given
-abbrev pub first_value : ℕ → List OptionValue → Option OptionValue
-first_value letter values = find (λ (v : OptionValue). v.letter == letter) values
+abbrev pub first_value_with_letter : ℕ → List OptionValue → Option OptionValue
+first_value_with_letter letter values = find (λ (v : OptionValue). v.letter == letter) values
 
 -- whether the option with a letter was given a value
 abbrev pub is_given : ℕ → List OptionValue → Bool

@@ -8,9 +8,9 @@ ghost use Rattle.command_core.specs.Files.{without_dot_slash, is_file_argument, 
 ghost use Rattle.command_core.specs.Named.{file_name, are_files, operand_file};
 ghost use Rattle.command_core.specs.Operands.{at_least, at_most, exactly, first_refused_operand, allows_one_more_operand, is_operand_of_kind, operand_at, takes};
 ghost use Rattle.command_core.specs.Applets.{required_option_letter, operand_rule};
-ghost use Rattle.command_core.specs.Sound.{value_rules, IsValidCommand, are_allowed_operands, are_allowed_values, is_allowed_value, rule_for};
+ghost use Rattle.command_core.specs.Sound.{value_rules, IsValidCommand, are_allowed_operands, are_allowed_values, is_allowed_value, value_rule_of_letter};
 ghost use Rattle.command_core.specs.Command.{CommandLine};
-ghost use Rattle.command_core.specs.Values.{first_value, is_given, is_script_argument};
+ghost use Rattle.command_core.specs.Values.{first_value_with_letter, is_given, is_script_argument};
 ghost use Rattle.command_core.specs.declared.operands.OperandRule.{OperandRule};
 ghost use Rattle.command_core.specs.declared.values.OptionValue.{OptionValue};
 
@@ -276,13 +276,13 @@ pub fn values_are_of_their_kind()
     // Each value is one that its option may have.
     ensures each { (c : CommandLine) (i : ℕ) (v : OptionValue) → IsValidCommand c →
         slice_get c.values i ≡ Some v →
-        IsTrue (is_allowed_value (rule_for (value_rules c.applet) v.letter) v.text) }
+        IsTrue (is_allowed_value (value_rule_of_letter (value_rules c.applet) v.letter) v.text) }
     // The first value of `--output` can name a file that is to be written.
     ensures output { (c : CommandLine) (v : OptionValue) → IsValidCommand c →
-        first_value OUTPUT c.values ≡ Some v → IsTrue (is_output_argument v.text) }
+        first_value_with_letter OUTPUT c.values ≡ Some v → IsTrue (is_output_argument v.text) }
     // The first value of `--files` can name a folder.
     ensures folder { (c : CommandLine) (v : OptionValue) → IsValidCommand c →
-        first_value FILES c.values ≡ Some v → IsTrue (is_file_argument v.text) }
+        first_value_with_letter FILES c.values ≡ Some v → IsTrue (is_file_argument v.text) }
     // Each value of `--script` is TYPE:FILE.
     ensures script { (c : CommandLine) (i : ℕ) (v : OptionValue) → IsValidCommand c →
         slice_get c.values i ≡ Some v → v.letter ≡ SCRIPT → IsTrue (is_script_argument v.text) }

@@ -4,7 +4,7 @@ ghost use Rattle.std.specs.Prelude.{◌≡◌, ◌<◌, ◌==◌, ◌++◌, ◌�
 ghost use Rattle.std.specs.Option.{option_map};
 ghost use Rattle.command_core.specs.Files.{is_file_argument, without_dot_slash};
 ghost use Rattle.command_core.specs.Named.{file_name, file_in, file_part_of_value};
-ghost use Rattle.command_core.specs.Values.{excludes, is_excluded_by_earlier_value, is_given, is_single_and_given, is_value_of_kind, script_file, script_type, option_value_from_place_and_letter, first_value};
+ghost use Rattle.command_core.specs.Values.{excludes, is_excluded_by_earlier_value, is_given, is_single_and_given, is_value_of_kind, script_file, script_type, option_value_from_place_and_letter, first_value_with_letter};
 ghost use Rattle.command_core.specs.declared.values.OptionValue.{OptionValue};
 
 use crate::texts::{
@@ -224,7 +224,8 @@ impl Values {
 
     /// The first value that the option with a letter was given, if there is one.
     pub fn first(&self, letter: u8) -> Option<&OptionValue>
-        ensures { option_map (λ value. value.now) result ≡ first_value letter self.entry.now }
+        ensures { option_map (λ value. value.now) result
+            ≡ first_value_with_letter letter self.entry.now }
     {
         match self.first_entry(letter) {
             Some(entry) => Some(&entry.value),
@@ -238,12 +239,12 @@ impl Values {
         // The option is not `--script`.
         requires letter { IsTrue (not (letter == SCRIPT)) }
         // If the option has a value, its first value is a file.
-        requires file { IfSome (first_value letter self.now)
+        requires file { IfSome (first_value_with_letter letter self.now)
             (λ value. IsTrue (is_file_argument value.text)) }
         // The name in the first value, without one leading `./`; None if there is no value.
         ensures { option_map (λ name. name.now) result
             ≡ option_map (λ value. without_dot_slash value.text)
-            (first_value letter self.entry.now) }
+            (first_value_with_letter letter self.entry.now) }
     {
         match self.first_entry(letter) {
             Some(entry) => entry.file.as_ref(),
@@ -272,7 +273,7 @@ impl Values {
     // The first value that the option with a letter was given, and the file in it.
     fn first_entry(&self, letter: u8) -> Option<&ValueEntry>
         ensures value { option_map (λ entry. entry.now.value) result
-            ≡ first_value letter self.entry.now }
+            ≡ first_value_with_letter letter self.entry.now }
         // The stored name is that of the file in this value.
         ensures file { IfSome result (λ entry. entry.now.file ≡ file_in entry.now.value) }
     {

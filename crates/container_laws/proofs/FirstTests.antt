@@ -4,8 +4,8 @@ use Rattle.std.specs.Prelude.{slice_get}
 use Rattle.std.specs.Option.{option_or}
 use Rattle.adb_block.specs.Header.{schema_of_header}
 use Rattle.adb_block.specs.Reading.{Reading, done, fault, more, block_stream_from}
-use Rattle.adb_block.specs.ReaderPosition.{first_block_position}
-use Rattle.pkg_core.specs.adb_schema.Soundness.{blocks_fault, file_fault_after_header, is_schema_wanted, root_value, schema_word}
+use Rattle.adb_block.specs.ReaderPosition.{first_block_position_of_schema_and_file}
+use Rattle.pkg_core.specs.adb_schema.Soundness.{blocks_fault, file_fault_after_header, is_schema_wanted, root_value_of_payload, schema_word}
 use Rattle.adb_view.specs.declared.tables.Which.{Which}
 use Rattle.base_core.specs.declared.cause.Cause.{Cause}
 use Rattle.base_core.specs.declared.cause.Cause.TheVariants.{WrongSchema}
@@ -48,11 +48,11 @@ blocks_told : (which : Which) (r : Reading) (c : Cause) → blocks_fault (fault_
 blocks_told which done c e = absurd (cc (e))
 blocks_told which (fault d) c e = let same : d ≡ c = cc (e) in inl (ap fault same)
 blocks_told which (more b at r) c e =
-    inr (b, at, r, refl, first_of (tests_of_values which b.payload r) c (sym (five _ _ _ _ (fault_of_further_blocks which (root_value which b.payload) r)) ∙ e))
+    inr (b, at, r, refl, first_of (tests_of_values which b.payload r) c (sym (five _ _ _ _ (fault_of_further_blocks which (root_value_of_payload which b.payload) r)) ∙ e))
 
 table_by : (which : Which) (file : List ℕ) (c : Cause) (schema : ℕ) (b : Bool) → schema_of_header file ≡ Ok schema → is_schema_wanted (schema_word which) schema ≡ b
-    → option_or (if b then None else Some (WrongSchema schema)) (blocks_fault (fault_of_further_blocks which) which (block_stream_from (first_block_position schema file))) ≡ Some c → IsContainerFaultForTable which file c
-table_by which file c schema true header wanted e = inr (schema, header, inr (wanted, blocks_told which (block_stream_from (first_block_position schema file)) c e))
+    → option_or (if b then None else Some (WrongSchema schema)) (blocks_fault (fault_of_further_blocks which) which (block_stream_from (first_block_position_of_schema_and_file schema file))) ≡ Some c → IsContainerFaultForTable which file c
+table_by which file c schema true header wanted e = inr (schema, header, inr (wanted, blocks_told which (block_stream_from (first_block_position_of_schema_and_file schema file)) c e))
 table_by which file c schema false header wanted e =
     let same : WrongSchema schema ≡ c = cc (e) in
     inr (schema, header, inl (wanted, sym same))

@@ -6,10 +6,10 @@ use Rattle.base_core.specs.declared.cause.Cause.TheVariants.{WrongSchema}
 use Rattle.adb_block.specs.Header.{schema_of_header}
 use Rattle.adb_block.specs.Piece.{Piece}
 use Rattle.adb_block.specs.Reading.{Reading, fault, more, block_stream_from}
-use Rattle.adb_block.specs.ReaderPosition.{first_block_position}
+use Rattle.adb_block.specs.ReaderPosition.{first_block_position_of_schema_and_file}
 use Rattle.pkg_core.specs.adb_fields.Repeated.{repeated_fault}
 use Rattle.pkg_core.specs.adb_schema.Texts.{text_or_number_fault}
-use Rattle.pkg_core.specs.adb_schema.Soundness.{is_schema_wanted, root_value, schema_word}
+use Rattle.pkg_core.specs.adb_schema.Soundness.{is_schema_wanted, root_value_of_payload, schema_word}
 use Rattle.adb_view.specs.Schema.{shape_of}
 use Rattle.adb_view.specs.Walk.{shape_fault}
 use Rattle.adb_view.specs.declared.tables.Kind.TheVariants.{Obj}
@@ -33,9 +33,9 @@ abbrev pub tests_of_values : Which → List ℕ → Reading → List (Option Cau
 tests_of_values which payload behind =
     payload_head_fault payload
     ∷ (shape_fault payload (shape_of (Obj which)) (root_word_of_payload payload)
-    ∷ (text_or_number_fault which (root_value which payload)
-    ∷ (repeated_fault which (root_value which payload)
-    ∷ (fault_of_further_blocks which (root_value which payload) behind ∷ []))))
+    ∷ (text_or_number_fault which (root_value_of_payload which payload)
+    ∷ (repeated_fault which (root_value_of_payload which payload)
+    ∷ (fault_of_further_blocks which (root_value_of_payload which payload) behind ∷ []))))
 
 -- c is the fault of a file's blocks r: the first block is bad; or it is good, and c is the cause of the first failed
 -- test of its payload or of the further blocks
@@ -53,7 +53,7 @@ IsContainerFaultForTable which file c =
     ⊎ ((schema : ℕ) × (schema_of_header file ≡ Ok schema)
     × (((is_schema_wanted (schema_word which) schema ≡ false) × (c ≡ WrongSchema schema))
     ⊎ ((is_schema_wanted (schema_word which) schema ≡ true)
-    × IsBlocksFault which (block_stream_from (first_block_position schema file)) c)))
+    × IsBlocksFault which (block_stream_from (first_block_position_of_schema_and_file schema file)) c)))
 
 -- c is the fault of a file that must be a container with any of the four schemas: that of the header; else that the
 -- schema is none of the four; else that of a file that must have the table of its schema at the root
@@ -82,7 +82,8 @@ pub record PassesEveryContainerTest (file : List ℕ) : Type 0 where
   -- the blocks after it
   pub behind : Reading
   -- these are the blocks of the file
-  pub blocks : block_stream_from (first_block_position schema file) ≡ more first at behind
+  pub blocks : block_stream_from (first_block_position_of_schema_and_file schema file)
+      ≡ more first at behind
   -- no test of the values and of the further blocks fails
   pub each : (i : ℕ) (test : Option Cause)
       → slice_get (tests_of_values which first.payload behind) i ≡ Some test → test ≡ None

@@ -21,7 +21,7 @@ use Rattle.pkg_core.specs.adb_schema.Reserved.{is_reserved}
 use Rattle.pkg_core.specs.adb_schema.Rules.{is_valid_file_name_in_folder, is_folder_name, is_one_part}
 use Rattle.pkg_core.specs.adb_schema.SoundValues.{IsSoundFileInFolder, IsSoundFolder, IsSoundPackage}
 use Rattle.db_core.specs.EntrySeen.{member_of_entry}
-use Rattle.db_core.specs.Members.{Member, is_added, listings_of_member, listings_of_members_from, listings_in_folder, listings_in_folders, member_listings, member_of_kept}
+use Rattle.db_core.specs.Members.{Member, is_added, listings_of_member, listings_of_members_from, listings_in_folder_from_file, listings_in_folders_from, listings_of_members, member_of_kept}
 use Rattle.db_core.specs.Packages.{is_added_or_lists_no_reserved, lists_only_valid_names, lists_no_reserved_path}
 
 -- ---- a name behind another one and a slash
@@ -117,14 +117,14 @@ passes_at p (x ∷ xs) all (suc k) d l = passes_at p xs (and_parts (p x) (list_a
 
 module _ (q : Member → List ℕ → Bool) where
   in_folder : (m : Member) (place folder i : ℕ) (above : List ℕ) (entries : List Plain)
-      → list_all (λ l. q l.member l.path) (listings_in_folder m place folder i above entries) ≡ list_all (q m) (map (λ file. path_of above (name_of file)) entries)
+      → list_all (λ l. q l.member l.path) (listings_in_folder_from_file m place folder i above entries) ≡ list_all (q m) (map (λ file. path_of above (name_of file)) entries)
   in_folder m place folder i above [] = refl
   in_folder m place folder i above (e ∷ es) = ap (λ b. q m (path_of above (name_of e)) && b) (in_folder m place folder (i + 1) above es)
 
-  in_folders : (m : Member) (place i : ℕ) (folders : List Plain) → list_all (λ l. q l.member l.path) (listings_in_folders m place i folders) ≡ list_all (q m) (flat_map paths_of_folder_files folders)
+  in_folders : (m : Member) (place i : ℕ) (folders : List Plain) → list_all (λ l. q l.member l.path) (listings_in_folders_from m place i folders) ≡ list_all (q m) (flat_map paths_of_folder_files folders)
   in_folders m place i [] = refl
   in_folders m place i (f ∷ fs) =
-      list_all-append (λ l. q l.member l.path) (listings_in_folder m place i 1 (name_of f) (files_in f)) (listings_in_folders m place (i + 1) fs)
+      list_all-append (λ l. q l.member l.path) (listings_in_folder_from_file m place i 1 (name_of f) (files_in f)) (listings_in_folders_from m place (i + 1) fs)
       ∙ ((λ j. in_folder m place i 1 (name_of f) (files_in f) j && in_folders m place (i + 1) fs j)
       ∙ sym (list_all-append (q m) (paths_of_folder_files f) (flat_map paths_of_folder_files fs)))
 
@@ -134,23 +134,23 @@ module _ (q : Member → List ℕ → Bool) where
       list_all-append (λ l. q l.member l.path) (listings_of_member place m) (listings_of_members_from (place + 1) ms)
       ∙ (λ j. in_folders m place 1 (folders_in m.pkg) j && in_members (place + 1) ms j)
 
-  all_pass : (ms : List Member) → list_all (λ m. list_all (q m) (paths_of_package_files m.pkg)) ms ≡ true → All (λ l. q l.member l.path ≡ true) (member_listings ms)
-  unfolding member_listings
+  all_pass : (ms : List Member) → list_all (λ m. list_all (q m) (paths_of_package_files m.pkg)) ms ≡ true → All (λ l. q l.member l.path ≡ true) (listings_of_members ms)
+  unfolding listings_of_members
   all_pass ms h k d l = passes_at (λ l. q l.member l.path) (listings_of_members_from 0 ms) (in_members 0 ms ∙ h) k d l
 
-packages_all_pass : (p : List ℕ → Bool) (pkgs : List Plain) → list_all (λ v. list_all p (paths_of_package_files v)) pkgs ≡ true → All (λ l. p l.path ≡ true) (member_listings (map member_of_kept pkgs))
+packages_all_pass : (p : List ℕ → Bool) (pkgs : List Plain) → list_all (λ v. list_all p (paths_of_package_files v)) pkgs ≡ true → All (λ l. p l.path ≡ true) (listings_of_members (map member_of_kept pkgs))
 packages_all_pass p pkgs h = all_pass (λ m. p) (map member_of_kept pkgs) (list_all-map (λ (m : Member). list_all p (paths_of_package_files m.pkg)) member_of_kept pkgs ∙ h)
 
-pub packages_named : (pkgs : List Plain) → list_all lists_only_valid_names pkgs ≡ true → All (λ l. IsName l.path) (member_listings (map member_of_kept pkgs))
+pub packages_named : (pkgs : List Plain) → list_all lists_only_valid_names pkgs ≡ true → All (λ l. IsName l.path) (listings_of_members (map member_of_kept pkgs))
 packages_named pkgs h = packages_all_pass is_name pkgs h
 
-pub packages_unreserved : (pkgs : List Plain) → list_all lists_no_reserved_path pkgs ≡ true → All (λ l. is_reserved l.path ≡ false) (member_listings (map member_of_kept pkgs))
-packages_unreserved pkgs h k d l = not-true (is_reserved (get_or (member_listings (map member_of_kept pkgs)) k d).path) (packages_all_pass (λ path. not (is_reserved path)) pkgs h k d l)
+pub packages_unreserved : (pkgs : List Plain) → list_all lists_no_reserved_path pkgs ≡ true → All (λ l. is_reserved l.path ≡ false) (listings_of_members (map member_of_kept pkgs))
+packages_unreserved pkgs h k d l = not-true (is_reserved (get_or (listings_of_members (map member_of_kept pkgs)) k d).path) (packages_all_pass (λ path. not (is_reserved path)) pkgs h k d l)
 
 abbrev pub Kept : Type 0
 Kept = List ℕ × ℕ × Option (List ℕ)
 
-pub members_named : (es : List Kept) → list_all (λ e. lists_only_valid_names (member_of_entry e).pkg) es ≡ true → All (λ l. IsName l.path) (member_listings (map member_of_entry es))
+pub members_named : (es : List Kept) → list_all (λ e. lists_only_valid_names (member_of_entry e).pkg) es ≡ true → All (λ l. IsName l.path) (listings_of_members (map member_of_entry es))
 members_named es h = all_pass (λ m. is_name) (map member_of_entry es) (list_all-map (λ (m : Member). lists_only_valid_names m.pkg) member_of_entry es ∙ h)
 
 pub passed_more : (p : Kept → Bool) {A B : Type 0} (r : Result A B) (es new : List Kept) (e : Kept) → new ≡ (if is_ok r then es ++ e ∷ [] else es) → list_all p es ≡ true → p e ≡ true → list_all p new ≡ true
@@ -179,7 +179,7 @@ members_free (m ∷ ms) h =
     let parts = and_parts (is_added_or_lists_no_reserved m) (list_all is_added_or_lists_no_reserved ms) h in
     and_from _ _ (paths_free (is_added m) (paths_of_package_files m.pkg) parts.0) (members_free ms parts.1)
 
-pub stays_unreserved : (es : List Kept) → list_all (λ e. is_added_or_lists_no_reserved (member_of_entry e)) es ≡ true → All (λ l. is_added l.member ≡ false → is_reserved l.path ≡ false) (member_listings (map member_of_entry es))
+pub stays_unreserved : (es : List Kept) → list_all (λ e. is_added_or_lists_no_reserved (member_of_entry e)) es ≡ true → All (λ l. is_added l.member ≡ false → is_reserved l.path ≡ false) (listings_of_members (map member_of_entry es))
 unfolding comes_or_free
 stays_unreserved es h k d l stays =
     not-true _ (either _ _ (all_pass comes_or_free (map member_of_entry es) (members_free (map member_of_entry es) (list_all-map is_added_or_lists_no_reserved member_of_entry es ∙ h)) k d l) stays)

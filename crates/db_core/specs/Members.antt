@@ -74,8 +74,8 @@ pub record Listing : Type 0 where
 
 -- the listing of the file `entry` of the member `m`: the member is at the place `place`, and `folder` and `file`
 -- are the positions of the folder and the file. `above` is the folder's path
-abbrev pub member_listing : Member → ℕ → ℕ → ℕ → List ℕ → Plain → Listing
-member_listing m place folder file above entry = record {
+abbrev pub listing_of_file_entry : Member → ℕ → ℕ → ℕ → List ℕ → Plain → Listing
+listing_of_file_entry m place folder file above entry = record {
   path = path_of above (name_of entry);
   entry = entry;
   member = m;
@@ -86,23 +86,23 @@ member_listing m place folder file above entry = record {
 
 -- the listings of the files (`entries`) of a folder, the first of which has the position `i` in its folder. The
 -- member `m` is at the place `place`, `folder` is the position of the folder, and `above` its path
-abbrev pub listings_in_folder : Member → ℕ → ℕ → ℕ → List ℕ → List Plain → List Listing
-listings_in_folder m place folder i above [] = []
-listings_in_folder m place folder i above (entry ∷ entries) =
-    member_listing m place folder i above entry
-    ∷ listings_in_folder m place folder (i + 1) above entries
+abbrev pub listings_in_folder_from_file : Member → ℕ → ℕ → ℕ → List ℕ → List Plain → List Listing
+listings_in_folder_from_file m place folder i above [] = []
+listings_in_folder_from_file m place folder i above (entry ∷ entries) =
+    listing_of_file_entry m place folder i above entry
+    ∷ listings_in_folder_from_file m place folder (i + 1) above entries
 
 -- the listings of the files of some folders of the member `m`, which is at the place `place`. The first of these
 -- folders has the position `i` in the member's package
-abbrev pub listings_in_folders : Member → ℕ → ℕ → List Plain → List Listing
-listings_in_folders m place i [] = []
-listings_in_folders m place i (folder ∷ folders) =
-    listings_in_folder m place i 1 (name_of folder) (files_in folder)
-    ++ listings_in_folders m place (i + 1) folders
+abbrev pub listings_in_folders_from : Member → ℕ → ℕ → List Plain → List Listing
+listings_in_folders_from m place i [] = []
+listings_in_folders_from m place i (folder ∷ folders) =
+    listings_in_folder_from_file m place i 1 (name_of folder) (files_in folder)
+    ++ listings_in_folders_from m place (i + 1) folders
 
 -- the listings of the member at a place, in the order of its folders and files
 abbrev pub listings_of_member : ℕ → Member → List Listing
-listings_of_member place m = listings_in_folders m place 1 (folders_in m.pkg)
+listings_of_member place m = listings_in_folders_from m place 1 (folders_in m.pkg)
 
 -- the listings of members, the first of which has this place
 abbrev pub listings_of_members_from : ℕ → List Member → List Listing
@@ -111,9 +111,9 @@ listings_of_members_from place (m ∷ members) =
     listings_of_member place m ++ listings_of_members_from (place + 1) members
 
 -- all files that members list: member by member, folder by folder
-unfoldable pub member_listings : List Member → List Listing
-member_listings members = listings_of_members_from 0 members
+unfoldable pub listings_of_members : List Member → List Listing
+listings_of_members members = listings_of_members_from 0 members
 
 -- the listings of a path, one for each member that lists it: its claims
 unfoldable pub listings_of_path : List Member → List ℕ → List Listing
-listings_of_path members path = filter (λ l. bytes_eq l.path path) (member_listings members)
+listings_of_path members path = filter (λ l. bytes_eq l.path path) (listings_of_members members)

@@ -12,7 +12,7 @@ use Rattle.pkg_core.specs.adb_fields.FirstPair.{IsIn}
 use Rattle.pkg_core.specs.adb_fields.Repeated.{entries_at}
 use Rattle.pkg_core.specs.adb_schema.SoundContainers.{IsSoundValue}
 use Rattle.db_core.specs.Members.{Listing, Member}
-use Rattle.db_core.specs.OwnedListings.{HaveAtMostOneOwner}
+use Rattle.db_core.specs.OwnedListings.{HaveAtMostOneOwnerForEachPath}
 
 -- a package is one of the value of a sound database
 pub record IsOfSoundDatabase (pkg : Plain) : Type 0 where
@@ -57,8 +57,8 @@ NoneReserved [] = Unit {0}
 NoneReserved (path ∷ paths) = (is_reserved path ≡ false) × NoneReserved paths
 
 -- a database may have these listings: no path has two owners, and no path is reserved
-pub record HaveOneOwnerAndNoReservedPath (listings : List Listing) : Type 0 where
+pub record HaveOneOwnerPerPathAndNoneReserved (listings : List Listing) : Type 0 where
   -- no path has more than one owner
-  pub one_owner : HaveAtMostOneOwner listings
+  pub one_owner : HaveAtMostOneOwnerForEachPath listings
   -- no path is reserved
   pub free : NoneReserved (map (λ l. l.path) listings)

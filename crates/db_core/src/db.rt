@@ -5,7 +5,7 @@
 ghost use Rattle.pkg_core.specs.adb_fields.ListValue.{list_value};
 ghost use Rattle.pkg_core.specs.adb_fields.Repeated.{entries_at, list_of};
 ghost use Rattle.pkg_core.specs.adb_schema.ReadFaults.{IsReadFault};
-ghost use Rattle.pkg_core.specs.adb_schema.Soundness.{container_fault_except_contents, payload_fault, payload_in, root_value};
+ghost use Rattle.pkg_core.specs.adb_schema.Soundness.{container_fault_except_contents, payload_fault, payload_in, root_value_of_payload};
 ghost use Rattle.pkg_core.specs.adb_schema.Views.{idb_value, package_value};
 ghost use Rattle.adb_view.specs.FieldIndexes.{IDB_PACKAGES};
 ghost use Rattle.adb_view.specs.Values.{count_of, entries_in, entry_in, is_sound};
@@ -57,7 +57,7 @@ pub struct Db<'a> {
 impl<'a> Db<'a> {
     ghost use Rattle.pkg_core.specs.adb_schema.Reserved.{is_reserved};
     ghost use Rattle.base_core.specs.Name.{IsName};
-    ghost use Rattle.db_core.specs.Members.{member_listings, members_of_kept};
+    ghost use Rattle.db_core.specs.Members.{listings_of_members, members_of_kept};
     ghost use Rattle.db_core.specs.Seen.{packages_of};
 
     /// A database without packages.
@@ -85,7 +85,8 @@ impl<'a> Db<'a> {
             (λ _. container_fault_except_contents Tables.Idb bytes.entry.now ≡ None) }
         // On Ok, the packages are those of the database in the file.
         ensures packages { IfOk result (λ db. packages_of db
-            ≡ entries_at IDB_PACKAGES (root_value Tables.Idb (payload_in bytes.entry.now))) }
+            ≡ entries_at IDB_PACKAGES (root_value_of_payload Tables.Idb
+            (payload_in bytes.entry.now))) }
     {
         read_adb(alloc, bytes, Which::Idb)?;
         let db = Db::open(alloc, payload_in(bytes))?;
@@ -103,7 +104,7 @@ impl<'a> Db<'a> {
         requires { payload_fault Tables.Idb payload.now ≡ None }
         // On Ok, the packages are those of the value at the root of the payload.
         ensures { IfOk result (λ db. packages_of db
-            ≡ entries_at IDB_PACKAGES (root_value Tables.Idb payload.entry.now)) }
+            ≡ entries_at IDB_PACKAGES (root_value_of_payload Tables.Idb payload.entry.now)) }
     {
         // Laws that the proof needs; they compute nothing.
         no_text_is_bad_where_each_keeps_its_rule();
@@ -177,7 +178,7 @@ impl<'a> Db<'a> {
     pub fn listed_paths_are_names(&self)
         // The path of each file that a package lists is a name.
         ensures { All (λ l. IsName l.path)
-            (member_listings (members_of_kept (packages_of self.now))) }
+            (listings_of_members (members_of_kept (packages_of self.now))) }
     {}
 
     /// No path that a package of the database lists is reserved: so a change never removes one of
@@ -185,7 +186,7 @@ impl<'a> Db<'a> {
     pub fn no_listed_path_is_reserved(&self)
         // The path of no file that a package lists is reserved.
         ensures { All (λ l. is_reserved l.path ≡ false)
-            (member_listings (members_of_kept (packages_of self.now))) }
+            (listings_of_members (members_of_kept (packages_of self.now))) }
     {}
 }
 
@@ -227,7 +228,7 @@ pub fn payload_in(file: &[u8]) -> &[u8]
 pub fn open_idb(payload: &[u8]) -> IdbView<'_>
     // The payload passes all tests of a database.
     requires { payload_fault Tables.Idb payload.now ≡ None }
-    ensures { idb_value result ≡ root_value Tables.Idb payload.now }
+    ensures { idb_value result ≡ root_value_of_payload Tables.Idb payload.now }
 {
     // A law that the proof needs; it computes nothing.
     values_of_few_visits_have_no_fault();
@@ -241,7 +242,7 @@ fn open_root(payload: &[u8]) -> IdbView<'_>
     // The root of the payload has the plain value of a database.
     requires sound { is_sound payload.now (Kinds.Obj Tables.Idb)
         (root_word_of_payload payload.now) ≡ true }
-    ensures { idb_value result ≡ root_value Tables.Idb payload.now }
+    ensures { idb_value result ≡ root_value_of_payload Tables.Idb payload.now }
 {
     // The head passes its test, by the contract.
     let Ok(adb) = Adb::new(payload) else {

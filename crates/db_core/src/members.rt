@@ -9,7 +9,7 @@ ghost use Rattle.adb_view.specs.Adb.{payload_of};
 ghost use Rattle.adb_view.specs.Plain.{Plain};
 ghost use Rattle.base_core.specs.Listed.{AreSortedDistinctNames};
 ghost use Rattle.db_core.specs.EntrySeen.{is_added_or_has_payload, member_of_entry, payload_of_database};
-ghost use Rattle.db_core.specs.Members.{Member, is_after_members, member_of_added, is_added, is_found_place, member_name, member_of_kept, Listing, member_listings};
+ghost use Rattle.db_core.specs.Members.{Member, is_after_members, member_of_added, is_added, is_found_place, member_name, member_of_kept, Listing, listings_of_members};
 ghost use Rattle.base_core.specs.ByteOrder.{precedes};
 ghost use Rattle.std.specs.List.Sorted.{IsPartitionPoint};
 ghost use Rattle.db_core.specs.Packages.{is_added_or_lists_no_reserved, lists_only_valid_names};
@@ -94,7 +94,7 @@ fn is_before(entry: &PackageWithId<'_>, name: &[u8]) -> bool
 impl<'a> Members<'a> {
     ghost use Rattle.pkg_core.specs.adb_schema.Reserved.{is_reserved};
     ghost use Rattle.base_core.specs.Name.{IsName};
-    ghost use Rattle.db_core.specs.Members.{AreMembersInNameOrder, member_listings};
+    ghost use Rattle.db_core.specs.Members.{AreMembersInNameOrder, listings_of_members};
     ghost use Rattle.db_core.specs.Seen.{members_of, packages_of_old_database, packages_of, payload_of_old_database};
 
     /// A list without packages, for kept packages of a database and added ones.
@@ -268,7 +268,7 @@ impl<'a> Members<'a> {
 
     /// Each path that a member lists is a name, so that a file may be written under it.
     pub fn listed_paths_are_names(&self)
-        ensures { All (λ l. IsName l.path) (member_listings (members_of self.now)) }
+        ensures { All (λ l. IsName l.path) (listings_of_members (members_of self.now)) }
     {}
 
     /// A kept member lists no reserved path, since its database passed the tests; an added package
@@ -276,7 +276,7 @@ impl<'a> Members<'a> {
     pub fn no_kept_member_lists_a_reserved_path(&self)
         // No path is reserved that a kept member lists.
         ensures { All (λ l. is_added l.member ≡ false → is_reserved l.path ≡ false)
-            (member_listings (members_of self.now)) }
+            (listings_of_members (members_of self.now)) }
     {}
 
     /// The packages are from sound containers: what is read of them need not be tested again, and a
@@ -291,5 +291,5 @@ impl<'a> Members<'a> {
 /// and the file. So a claim leads back to the entry of its file.
 pub fn listings_are_at_their_places()
     ensures { (members : List Member) (i : ℕ) (l : Listing)
-        → slice_get (member_listings members) i ≡ Some l → IsListedAt members l }
+        → slice_get (listings_of_members members) i ≡ Some l → IsListedAt members l }
 {}

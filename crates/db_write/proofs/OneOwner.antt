@@ -5,10 +5,10 @@ use Rattle.adb_view.specs.Plain.{Plain}
 use Rattle.adb_copy.specs.adb_fields.FirstPair.{IsIn}
 use Rattle.adb_copy.specs.adb_fields.Once.{ShareNoName, IsInOneOf}
 use Rattle.adb_copy.specs.adb_fields.Repeated.{files_in, folders_in, list_of, name_of, paths_of_package_files}
-use Rattle.db_core.specs.Members.{Listing, Member, listings_of_member, listings_of_members_from, listings_in_folder, listings_in_folders, member_listings}
+use Rattle.db_core.specs.Members.{Listing, Member, listings_of_member, listings_of_members_from, listings_in_folder_from_file, listings_in_folders_from, listings_of_members}
 use Rattle.db_write.specs.NewDatabase.{member_file_count, packages_in_new_database}
 use Rattle.db_core.specs.OwnedListings.{owned_listings}
-use Rattle.db_core.specs.OwnedListings.{HaveAtMostOneOwner}
+use Rattle.db_core.specs.OwnedListings.{HaveAtMostOneOwnerForEachPath}
 use Rattle.db_write.proofs.Listed.{in_folders}
 use Rattle.db_write.proofs.OwnedPaths.{members_owned, owned_joined, package_owned}
 
@@ -39,7 +39,7 @@ in_one f name (v ∷ vs) (inr h) = in_back name (f v) (flat_map f vs) (in_one f 
 
 -- ---- the places of listings
 
-at_folder : (m : Member) (place folder i : ℕ) (above : List ℕ) (entries : List Plain) (l : Listing) → IsIn l (listings_in_folder m place folder i above entries) → l.place ≡ place
+at_folder : (m : Member) (place folder i : ℕ) (above : List ℕ) (entries : List Plain) (l : Listing) → IsIn l (listings_in_folder_from_file m place folder i above entries) → l.place ≡ place
 at_folder m place folder i above [] l h = absurd h
 at_folder m place folder i above (e ∷ entries) l (inl is) = ap (λ (k : Listing). k.place) is
 at_folder m place folder i above (e ∷ entries) l (inr h) = at_folder m place folder (i + 1) above entries l h
@@ -48,11 +48,11 @@ by_part : {A B C : Type 0} → (A → C) → (B → C) → A ⊎ B → C
 by_part f g (inl a) = f a
 by_part f g (inr b) = g b
 
-at_folders : (m : Member) (place i : ℕ) (folders : List Plain) (l : Listing) → IsIn l (listings_in_folders m place i folders) → l.place ≡ place
+at_folders : (m : Member) (place i : ℕ) (folders : List Plain) (l : Listing) → IsIn l (listings_in_folders_from m place i folders) → l.place ≡ place
 at_folders m place i [] l h = absurd h
 at_folders m place i (d ∷ folders) l h =
     by_part (at_folder m place i 1 (name_of d) (files_in d) l) (at_folders m place (i + 1) folders l)
-    (in_either l (listings_in_folder m place i 1 (name_of d) (files_in d)) (listings_in_folders m place (i + 1) folders) h)
+    (in_either l (listings_in_folder_from_file m place i 1 (name_of d) (files_in d)) (listings_in_folders_from m place (i + 1) folders) h)
 
 at_first : (place : ℕ) (l : Listing) → l.place ≡ place → place ≤ l.place
 at_first place l is = omega (arith, is)
@@ -80,7 +80,7 @@ with_path path (l ∷ ls) (inr h) = let (k, here, is) = with_path path ls h in (
 
 -- ---- the packages
 
-apart_from : (place : ℕ) (members : List Member) (flags : List Bool) → HaveAtMostOneOwner (owned_listings (listings_of_members_from place members) flags) → ShareNoName (map paths_of_package_files (list_of (packages_in_new_database members flags)))
+apart_from : (place : ℕ) (members : List Member) (flags : List Bool) → HaveAtMostOneOwnerForEachPath (owned_listings (listings_of_members_from place members) flags) → ShareNoName (map paths_of_package_files (list_of (packages_in_new_database members flags)))
 apart_from place [] flags one = tt
 apart_from place (m ∷ members) flags one =
     let own : List Listing = owned_listings (listings_of_member place m) flags in
@@ -89,7 +89,7 @@ apart_from place (m ∷ members) flags one =
     let joined : owned_listings (listings_of_member place m ++ listings_of_members_from (place + 1) members) flags ≡ own ++ others =
     owned_joined (listings_of_member place m) (listings_of_members_from (place + 1) members) flags
     ∙ ap (λ n. own ++ owned_listings (listings_of_members_from (place + 1) members) (drop n flags)) (in_folders m place 1 (folders_in m.pkg)) in
-    let both : HaveAtMostOneOwner (own ++ others) = subst HaveAtMostOneOwner joined one in (
+    let both : HaveAtMostOneOwnerForEachPath (own ++ others) = subst HaveAtMostOneOwnerForEachPath joined one in (
       λ path here there.
           (let (l, l_in, l_is) = with_path path own (subst (IsIn path) (package_owned m place flags) here) in
           let (k, k_in, k_is) = with_path path others (subst (IsIn path) (members_owned (place + 1) members left) (in_one paths_of_package_files path (list_of (packages_in_new_database members left)) there)) in
@@ -100,6 +100,6 @@ apart_from place (m ∷ members) flags one =
       apart_from (place + 1) members left (λ l k a b e. both l k (in_back l own others a) (in_back k own others b) e),
     )
 
-pub owned_apart : (members : List Member) (flags : List Bool) → HaveAtMostOneOwner (owned_listings (member_listings members) flags) → ShareNoName (map paths_of_package_files (list_of (packages_in_new_database members flags)))
-unfolding member_listings
+pub owned_apart : (members : List Member) (flags : List Bool) → HaveAtMostOneOwnerForEachPath (owned_listings (listings_of_members members) flags) → ShareNoName (map paths_of_package_files (list_of (packages_in_new_database members flags)))
+unfolding listings_of_members
 owned_apart members flags one = apart_from 0 members flags one

@@ -10,8 +10,8 @@ use Rattle.adb_copy.specs.Zeros.{int_or_null, without_zeros}
 use Rattle.adb_view.proofs.ValueEntries.{entries_arr, nth_obj, text_blob}
 use Rattle.adb_copy.proofs.WithoutZeros.{text_zeros}
 use Rattle.adb_copy.proofs.Entries.{entry_zeros}
-use Rattle.db_core.specs.Members.{Listing, Member, listings_of_member, listings_of_members_from, listings_in_folder, listings_in_folders, member_listings}
-use Rattle.db_write.specs.NewDatabase.{file_count, folder_in_new_database, folders_in_new_database, info_in_new_database, member_file_count, owned_entries, package_in_new_database, packages_in_new_database}
+use Rattle.db_core.specs.Members.{Listing, Member, listings_of_member, listings_of_members_from, listings_in_folder_from_file, listings_in_folders_from, listings_of_members}
+use Rattle.db_write.specs.NewDatabase.{folder_file_count, folder_in_new_database, folders_in_new_database, info_in_new_database, member_file_count, owned_entries_without_zeros, package_in_new_database, packages_in_new_database}
 use Rattle.db_core.specs.OwnedListings.{owned_listings, owned_paths}
 use Rattle.db_write.proofs.Listed.{in_folder, in_folders}
 
@@ -44,24 +44,24 @@ paths_joined ls others n flags e =
 -- ---- folders
 
 files_owned : (m : Member) (place folder i : ℕ) (above : List ℕ) (files : List Plain) (flags : List Bool)
-    → map (λ file. path_of above (name_of file)) (list_of (owned_entries files flags)) ≡ paths_of (listings_in_folder m place folder i above files) flags
+    → map (λ file. path_of above (name_of file)) (list_of (owned_entries_without_zeros files flags)) ≡ paths_of (listings_in_folder_from_file m place folder i above files) flags
 files_owned m place folder i above [] flags = refl
 files_owned m place folder i above (f ∷ files) [] = refl
 files_owned m place folder i above (f ∷ files) (true ∷ flags) = λ j. path_of above (name_zeros f j) ∷ files_owned m place folder (i + 1) above files flags j
 files_owned m place folder i above (f ∷ files) (false ∷ flags) = files_owned m place folder (i + 1) above files flags
 
-folder_owned : (m : Member) (place i : ℕ) (d : Plain) (flags : List Bool) → paths_of_folder_files (folder_in_new_database d flags) ≡ paths_of (listings_in_folder m place i 1 (name_of d) (files_in d)) flags
+folder_owned : (m : Member) (place i : ℕ) (d : Plain) (flags : List Bool) → paths_of_folder_files (folder_in_new_database d flags) ≡ paths_of (listings_in_folder_from_file m place i 1 (name_of d) (files_in d)) flags
 folder_owned m place i d flags =
-    let fields : Plains = more (blob_or_null (name_of d)) (more (without_zeros (entry_in d 1)) (more (array_or_null (owned_entries (files_in d) flags)) none)) in
+    let fields : Plains = more (blob_or_null (name_of d)) (more (without_zeros (entry_in d 1)) (more (array_or_null (owned_entries_without_zeros (files_in d) flags)) none)) in
     let name : name_of (folder_in_new_database d flags) ≡ name_of d = ap text_in (nth_obj fields 0) ∙ text_blob (name_of d) in
-    let files : files_in (folder_in_new_database d flags) ≡ list_of (owned_entries (files_in d) flags) = ap (λ v. list_of (entries_in v)) (nth_obj fields 2) ∙ ap list_of (entries_arr (owned_entries (files_in d) flags)) in
+    let files : files_in (folder_in_new_database d flags) ≡ list_of (owned_entries_without_zeros (files_in d) flags) = ap (λ v. list_of (entries_in v)) (nth_obj fields 2) ∙ ap list_of (entries_arr (owned_entries_without_zeros (files_in d) flags)) in
     (λ j. map (λ file. path_of (name j) (name_of file)) (files j)) ∙ files_owned m place i 1 (name_of d) (files_in d) flags
 
-folders_owned : (m : Member) (place i : ℕ) (ds : List Plain) (flags : List Bool) → flat_map paths_of_folder_files (list_of (folders_in_new_database ds flags)) ≡ paths_of (listings_in_folders m place i ds) flags
+folders_owned : (m : Member) (place i : ℕ) (ds : List Plain) (flags : List Bool) → flat_map paths_of_folder_files (list_of (folders_in_new_database ds flags)) ≡ paths_of (listings_in_folders_from m place i ds) flags
 folders_owned m place i [] flags = refl
 folders_owned m place i (d ∷ ds) flags =
-    (λ j. folder_owned m place i d flags j ++ folders_owned m place (i + 1) ds (drop (file_count d) flags) j)
-    ∙ sym (paths_joined (listings_in_folder m place i 1 (name_of d) (files_in d)) (listings_in_folders m place (i + 1) ds) (file_count d) flags (in_folder m place i 1 (name_of d) (files_in d)))
+    (λ j. folder_owned m place i d flags j ++ folders_owned m place (i + 1) ds (drop (folder_file_count d) flags) j)
+    ∙ sym (paths_joined (listings_in_folder_from_file m place i 1 (name_of d) (files_in d)) (listings_in_folders_from m place (i + 1) ds) (folder_file_count d) flags (in_folder m place i 1 (name_of d) (files_in d)))
 
 -- ---- packages
 
@@ -80,5 +80,5 @@ members_owned place (m ∷ members) flags =
     ∙ sym (paths_joined (listings_of_member place m) (listings_of_members_from (place + 1) members) (member_file_count m) flags (in_folders m place 1 (folders_in m.pkg)))
 
 pub all_owned_listed : (members : List Member) (flags : List Bool) → flat_map paths_of_package_files (list_of (packages_in_new_database members flags)) ≡ owned_paths members flags
-unfolding member_listings
+unfolding listings_of_members
 all_owned_listed members flags = members_owned 0 members flags

@@ -12,19 +12,19 @@ use Rattle.adb_view.specs.declared.tables.Which.{Which}
 use Rattle.adb_view.specs.declared.tables.Which.TheVariants.{Idb, Package}
 use Rattle.adb_copy.specs.adb_fields.Repeated.{entries_at, list_of}
 use Rattle.adb_sound.specs.adb_schema.SoundContainers.{IsSoundContainer}
-use Rattle.adb_sound.specs.adb_schema.Soundness.{container_fault_except_contents, payload_in, root_value, schema_word}
+use Rattle.adb_sound.specs.adb_schema.Soundness.{container_fault_except_contents, payload_in, root_value_of_payload, schema_word}
 use Rattle.adb_sound.specs.adb_schema.declared.read.TheConstants.{IDB_WORD}
 use Rattle.adb_sound.specs.adb_write.Size.{payload_size_of}
-use Rattle.adb_sound.specs.adb_write.Canonical.{MOST_BYTES, PayloadCounts, canonical, empty_layout, write, or_overflow, overflow_of, payload_or_overflow}
+use Rattle.adb_sound.specs.adb_write.Canonical.{MOST_BYTES, ByteAndValueCounts, canonical, empty_layout, write, payload_unless_overflow, overflow_of, payload_or_overflow}
 use Rattle.adb_sound.specs.adb_write.File.{adb_block_of_payload, file_of}
 use Rattle.adb_sound.specs.Root.{IsValidRootValueOfTable}
 use Rattle.adb_sound.proofs.Payloads.{payload_long}
 use Rattle.adb_sound.specs.pkg_core.Whole.{container_fault, container_fault_after_header, container_fault_of_table}
 use Rattle.adb_view.proofs.ValueEntries.{entries_arr, nth_obj}
 use Rattle.db_core.specs.Members.{Member}
-use Rattle.db_write.specs.NewDatabase.{database_container, database_of, database_value, packages_in_new_database}
+use Rattle.db_write.specs.NewDatabase.{database_file_unless_too_large, database_of, database_value, packages_in_new_database}
 
-written_by : (v : Plain) (o : Option PayloadCounts) (bytes : List ℕ) → database_container (or_overflow (canonical v) o) ≡ Ok bytes → file_of IDB_WORD (canonical v) ≡ bytes
+written_by : (v : Plain) (o : Option ByteAndValueCounts) (bytes : List ℕ) → database_file_unless_too_large (payload_unless_overflow (canonical v) o) ≡ Ok bytes → file_of IDB_WORD (canonical v) ≡ bytes
 written_by v None bytes h = cc (h)
 written_by v (Some c) bytes h = absurd (cc (h))
 
@@ -40,7 +40,7 @@ abbrev pub Sound : Type 0
 Sound = (which : Which) (schema : ℕ) (v : Plain) → schema_word which ≡ Some schema → which ≢ Package → IsValidRootValueOfTable which v → container_fault (file_of schema (canonical v)) ≡ None
 
 abbrev pub Back : Type 0
-Back = (which : Which) (schema : ℕ) (v : Plain) → schema_word which ≡ Some schema → IsValidRootValueOfTable which v → root_value which (payload_in (file_of schema (canonical v))) ≡ v
+Back = (which : Which) (schema : ℕ) (v : Plain) → schema_word which ≡ Some schema → IsValidRootValueOfTable which v → root_value_of_payload which (payload_in (file_of schema (canonical v))) ≡ v
 
 pub is_sound : Sound → (members : List Member) (flags : List Bool) (bytes : List ℕ) → IsValidRootValueOfTable Idb (database_value members flags) → database_of members flags ≡ Ok bytes → container_fault bytes ≡ None
 is_sound law members flags bytes root h =
@@ -52,10 +52,10 @@ packages_in members flags =
     ap (λ v. list_of (entries_in v)) (nth_obj (more (array_or_null (packages_in_new_database members flags)) none) 0) ∙ ap list_of (entries_arr (packages_in_new_database members flags))
 
 pub is_read_back : Back → (members : List Member) (flags : List Bool) (bytes : List ℕ) → IsValidRootValueOfTable Idb (database_value members flags) → database_of members flags ≡ Ok bytes
-    → entries_at 0 (root_value Idb (payload_in bytes)) ≡ list_of (packages_in_new_database members flags)
+    → entries_at 0 (root_value_of_payload Idb (payload_in bytes)) ≡ list_of (packages_in_new_database members flags)
 is_read_back law members flags bytes root h =
-    let back : root_value Idb (payload_in (file_of IDB_WORD (canonical (database_value members flags)))) ≡ database_value members flags = law Idb IDB_WORD (database_value members flags) refl root in
-    ap (λ (file : List ℕ). entries_at 0 (root_value Idb (payload_in file))) (sym (is_file members flags bytes h)) ∙ (ap (entries_at 0) back ∙ packages_in members flags)
+    let back : root_value_of_payload Idb (payload_in (file_of IDB_WORD (canonical (database_value members flags)))) ≡ database_value members flags = law Idb IDB_WORD (database_value members flags) refl root in
+    ap (λ (file : List ℕ). entries_at 0 (root_value_of_payload Idb (payload_in file))) (sym (is_file members flags bytes h)) ∙ (ap (entries_at 0) back ∙ packages_in members flags)
 
 -- ---- it passes the tests of a database
 

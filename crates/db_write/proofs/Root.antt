@@ -9,13 +9,13 @@ use Rattle.adb_copy.specs.adb_fields.Once.{HasNoRepeatedName}
 use Rattle.adb_copy.specs.adb_fields.Repeated.{repeated_fault}
 use Rattle.adb_sound.specs.adb_schema.SoundValues.{ObeysFieldRulesOfTable}
 use Rattle.adb_sound.specs.adb_schema.Texts.{text_or_number_fault}
-use Rattle.adb_sound.specs.adb_write.Canonical.{PayloadCounts, canonical, or_overflow, overflow_of, exceeds_a_limit, payload_or_overflow, MOST_BYTES, MOST_VALUES}
+use Rattle.adb_sound.specs.adb_write.Canonical.{ByteAndValueCounts, canonical, payload_unless_overflow, overflow_of, exceeds_a_limit, payload_or_overflow, MOST_BYTES, MOST_VALUES}
 use Rattle.adb_sound.specs.adb_write.Size.{payload_size_of, value_count}
 use Rattle.adb_sound.specs.Root.{IsValidRootValueOfTable}
-use Rattle.db_core.specs.Members.{AreMembersInNameOrder, Member, member_listings}
-use Rattle.db_write.specs.NewDatabase.{database_container, database_of, database_value}
+use Rattle.db_core.specs.Members.{AreMembersInNameOrder, Member, listings_of_members}
+use Rattle.db_write.specs.NewDatabase.{database_file_unless_too_large, database_of, database_value}
 use Rattle.db_core.specs.OwnedListings.{owned_listings}
-use Rattle.db_core.specs.SoundMembers.{AreMembersOfSoundContainers, HaveOneOwnerAndNoReservedPath}
+use Rattle.db_core.specs.SoundMembers.{AreMembersOfSoundContainers, HaveOneOwnerPerPathAndNoneReserved}
 use Rattle.db_write.proofs.RootNames.{names_once}
 use Rattle.db_write.proofs.RootParts.{EachIn, database_normal, database_shape, members_enter}
 use Rattle.db_write.proofs.RootRules.{rules_kept}
@@ -23,7 +23,7 @@ use Rattle.db_write.proofs.SoundPackages.{MayEnter}
 
 -- ---- what is written is within the limits
 
-within_by : (v : Plain) (o : Option PayloadCounts) (bytes : List ℕ) → database_container (or_overflow (canonical v) o) ≡ Ok bytes → is_some o ≡ false
+within_by : (v : Plain) (o : Option ByteAndValueCounts) (bytes : List ℕ) → database_file_unless_too_large (payload_unless_overflow (canonical v) o) ≡ Ok bytes → is_some o ≡ false
 within_by v None bytes h = refl
 within_by v (Some c) bytes h = absurd (cc (h))
 
@@ -42,7 +42,7 @@ Kept = (which : Which) (v : Plain) → (text_or_number_fault which v ≡ None) �
 abbrev pub Once : Type 0
 Once = (which : Which) (v : Plain) → (repeated_fault which v ≡ None) ↔ HasNoRepeatedName which v
 
-pub database_root : Exact → Kept → Once → (members : List Member) (flags : List Bool) (bytes : List ℕ) → AreMembersOfSoundContainers members → AreMembersInNameOrder members → HaveOneOwnerAndNoReservedPath (owned_listings (member_listings members) flags)
+pub database_root : Exact → Kept → Once → (members : List Member) (flags : List Bool) (bytes : List ℕ) → AreMembersOfSoundContainers members → AreMembersInNameOrder members → HaveOneOwnerPerPathAndNoneReserved (owned_listings (listings_of_members members) flags)
     → database_of members flags ≡ Ok bytes → IsValidRootValueOfTable Idb (database_value members flags)
 database_root exact kept once members flags bytes sound order listed written =
     let v : Plain = database_value members flags in

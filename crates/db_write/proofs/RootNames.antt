@@ -12,14 +12,14 @@ use Rattle.adb_view.specs.declared.tables.Which.TheVariants.{Idb}
 use Rattle.adb_copy.specs.adb_fields.FirstPair.{IsIn}
 use Rattle.adb_copy.specs.adb_fields.Once.{EachHasDistinctNames, AreDistinctNames, HasNoRepeatedName, HaveNoRepeatBetween, HaveNoRepeatInside}
 use Rattle.adb_copy.specs.adb_fields.Repeated.{files_in, folders_in, list_of, name_of, package_name}
-use Rattle.adb_copy.specs.Zeros.{info_with_id_and_size, with_value_at_index, without_zeros}
+use Rattle.adb_copy.specs.Zeros.{info_without_zeros_with_id_and_file_size, with_value_set_at_index, without_zeros}
 use Rattle.adb_view.proofs.ValueEntries.{entries_arr, nth_obj, text_blob}
 use Rattle.adb_copy.proofs.WithoutZeros.{text_zeros}
 use Rattle.adb_copy.proofs.Zeros.{at_other, nth_zeros}
-use Rattle.db_core.specs.Members.{AreMembersInNameOrder, Member, member_listings, member_name}
-use Rattle.db_write.specs.NewDatabase.{database_value, file_count, folder_in_new_database, folders_in_new_database, info_in_new_database, member_file_count, owned_entries, package_in_new_database, packages_in_new_database}
+use Rattle.db_core.specs.Members.{AreMembersInNameOrder, Member, listings_of_members, member_name}
+use Rattle.db_write.specs.NewDatabase.{database_value, folder_file_count, folder_in_new_database, folders_in_new_database, info_in_new_database, member_file_count, owned_entries_without_zeros, package_in_new_database, packages_in_new_database}
 use Rattle.db_core.specs.OwnedListings.{owned_listings}
-use Rattle.db_core.specs.OwnedListings.{HaveAtMostOneOwner}
+use Rattle.db_core.specs.OwnedListings.{HaveAtMostOneOwnerForEachPath}
 use Rattle.db_write.proofs.OneOwner.{owned_apart}
 use Rattle.db_write.proofs.OwnedPaths.{name_zeros}
 use Rattle.db_write.proofs.ReadBack.{packages_in}
@@ -31,10 +31,10 @@ use Rattle.db_write.proofs.SoundPackages.{MayEnter}
 pub folder_name : (d : Plain) (flags : List Bool) → name_of (folder_in_new_database d flags) ≡ name_of d
 folder_name d flags = ap text_in (nth_obj (fields_of_folder d flags) 0) ∙ text_blob (name_of d)
 
-pub folder_files : (d : Plain) (flags : List Bool) → entries_in (entry_in (folder_in_new_database d flags) 2) ≡ owned_entries (files_in d) flags
+pub folder_files : (d : Plain) (flags : List Bool) → entries_in (entry_in (folder_in_new_database d flags) 2) ≡ owned_entries_without_zeros (files_in d) flags
 folder_files d flags =
     ap entries_in (nth_obj (fields_of_folder d flags) 2)
-    ∙ entries_arr (owned_entries (files_in d) flags)
+    ∙ entries_arr (owned_entries_without_zeros (files_in d) flags)
 
 pub package_info : (m : Member) (flags : List Bool) → entry_in (package_in_new_database m flags) 0 ≡ info_in_new_database m.id (entry_in m.pkg 0)
 package_info m flags = nth_obj (fields_of_package m flags) 0
@@ -44,12 +44,12 @@ package_folders m flags = ap entries_in (nth_obj (fields_of_package m flags) 1) 
 
 -- a field of an information but its hash and its size
 pub info_entry : (id : Option (List ℕ)) (info : Plain) (i : ℕ) → (2 ≡ i → ⊥) → (12 ≡ i → ⊥) → entry_in (info_in_new_database id info) i ≡ without_zeros (entry_in info i)
-unfolding info_with_id_and_size without_zeros
+unfolding info_without_zeros_with_id_and_file_size without_zeros
 info_entry id info i a b =
     let hash : Plain = blob (unwrap_or id (text_in (entry_in info 2))) in
     let size : Plain = int (int_in (entry_in info 12)) in
-    let vs : Plains = with_value_at_index 12 size (with_value_at_index 2 hash (entries_in info)) in
-    nth_obj _ i ∙ (nth_zeros vs i ∙ ap without_zeros (at_other 12 i size (with_value_at_index 2 hash (entries_in info)) b ∙ at_other 2 i hash (entries_in info) a))
+    let vs : Plains = with_value_set_at_index 12 size (with_value_set_at_index 2 hash (entries_in info)) in
+    nth_obj _ i ∙ (nth_zeros vs i ∙ ap without_zeros (at_other 12 i size (with_value_set_at_index 2 hash (entries_in info)) b ∙ at_other 2 i hash (entries_in info) a))
 
 pub package_named : (m : Member) (flags : List Bool) → package_name (package_in_new_database m flags) ≡ member_name m
 package_named m flags =
@@ -58,14 +58,14 @@ package_named m flags =
 
 -- ---- names in a folder
 
-still_in : (name : List ℕ) (files : List Plain) (flags : List Bool) → IsIn name (map name_of (list_of (owned_entries files flags))) → IsIn name (map name_of files)
+still_in : (name : List ℕ) (files : List Plain) (flags : List Bool) → IsIn name (map name_of (list_of (owned_entries_without_zeros files flags))) → IsIn name (map name_of files)
 still_in name [] flags h = absurd h
 still_in name (f ∷ files) [] h = absurd h
 still_in name (f ∷ files) (true ∷ flags) (inl is) = inl (is ∙ name_zeros f)
 still_in name (f ∷ files) (true ∷ flags) (inr h) = inr (still_in name files flags h)
 still_in name (f ∷ files) (false ∷ flags) h = inr (still_in name files flags h)
 
-owned_distinct : (files : List Plain) (flags : List Bool) → AreDistinctNames (map name_of files) → AreDistinctNames (map name_of (list_of (owned_entries files flags)))
+owned_distinct : (files : List Plain) (flags : List Bool) → AreDistinctNames (map name_of files) → AreDistinctNames (map name_of (list_of (owned_entries_without_zeros files flags)))
 owned_distinct [] flags h = tt
 owned_distinct (f ∷ files) [] h = tt
 owned_distinct (f ∷ files) (true ∷ flags) h =
@@ -76,7 +76,7 @@ owned_distinct (f ∷ files) (false ∷ flags) h = owned_distinct files flags h.
 
 names_kept : (ds : List Plain) (flags : List Bool) → map name_of (list_of (folders_in_new_database ds flags)) ≡ map name_of ds
 names_kept [] flags = refl
-names_kept (d ∷ ds) flags = λ j. folder_name d flags j ∷ names_kept ds (drop (file_count d) flags) j
+names_kept (d ∷ ds) flags = λ j. folder_name d flags j ∷ names_kept ds (drop (folder_file_count d) flags) j
 
 abbrev file_names : Plain → List (List ℕ)
 file_names folder = map name_of (files_in folder)
@@ -85,7 +85,7 @@ files_distinct : (ds : List Plain) (flags : List Bool) → EachHasDistinctNames 
 files_distinct [] flags h = tt
 files_distinct (d ∷ ds) flags h = (
   subst (λ (vs : Plains). AreDistinctNames (map name_of (list_of vs))) (sym (folder_files d flags)) (owned_distinct (files_in d) flags h.0),
-  files_distinct ds (drop (file_count d) flags) h.1,
+  files_distinct ds (drop (folder_file_count d) flags) h.1,
 )
 
 -- ---- names in all packages
@@ -124,7 +124,7 @@ rising_distinct (x ∷ xs) pairs = (
 
 -- ---- the database
 
-pub names_once : (members : List Member) (flags : List Bool) → EachIn (λ (m : Member). MayEnter m.pkg) members → AreMembersInNameOrder members → HaveAtMostOneOwner (owned_listings (member_listings members) flags)
+pub names_once : (members : List Member) (flags : List Bool) → EachIn (λ (m : Member). MayEnter m.pkg) members → AreMembersInNameOrder members → HaveAtMostOneOwnerForEachPath (owned_listings (listings_of_members members) flags)
     → HasNoRepeatedName Idb (database_value members flags)
 names_once members flags enter order owned =
     let packages : List Plain = list_of (packages_in_new_database members flags) in

@@ -8,14 +8,14 @@ use Rattle.adb_view.specs.Values.{entries_in, entry_in, int_in, text_in}
 use Rattle.adb_view.specs.declared.tables.Kind.TheVariants.{Obj, TextArr}
 use Rattle.adb_view.specs.declared.tables.Which.TheVariants as Tables
 use Rattle.adb_copy.specs.adb_fields.Repeated.{files_in, folders_in, list_of, name_of}
-use Rattle.adb_copy.specs.Zeros.{info_with_id_and_size, int_or_null, without_zeros}
+use Rattle.adb_copy.specs.Zeros.{info_without_zeros_with_id_and_file_size, int_or_null, without_zeros}
 use Rattle.adb_copy.proofs.Fields.{INFO}
 use Rattle.adb_view.proofs.FoundShapes.{arr_value_shape, blob_value_text, obj_value_shape}
 use Rattle.adb_view.proofs.Normal.{arr_normal, blob_value_normal, obj_normal}
 use Rattle.adb_copy.proofs.Shapes.{entries_shape, nth_shape}
 use Rattle.adb_copy.proofs.WithoutZeros.{HasInts, HaveInts, each_ints, entries_ints, int_normal, int_shape, nth_ints, placed_normal, placed_shape, read_small, zeros_normal, zeros_shape}
 use Rattle.db_core.specs.Members.{Member}
-use Rattle.db_write.specs.NewDatabase.{database_value, values_by_successive_flags, file_count, folder_in_new_database, folders_in_new_database, info_in_new_database, member_file_count, owned_entries, package_in_new_database, packages_in_new_database}
+use Rattle.db_write.specs.NewDatabase.{database_value, values_by_successive_flags, folder_file_count, folder_in_new_database, folders_in_new_database, info_in_new_database, member_file_count, owned_entries_without_zeros, package_in_new_database, packages_in_new_database}
 use Rattle.db_core.specs.SoundMembers.{AreMembersOfSoundContainers}
 use Rattle.db_write.proofs.SoundPackages.{MayEnter, member_enters}
 use Rattle.db_write.proofs.Unchanged.{array_entries}
@@ -35,7 +35,7 @@ pub each_made : {X : Type 0} (count : X → ℕ) (value : X → List Bool → Pl
 each_made count value P Q f [] flags h = tt
 each_made count value P Q f (x ∷ xs) flags h = (f x flags h.0, each_made count value P Q f xs (drop (count x) flags) h.1)
 
-each_owned : (P Q : Plain → Type 0) → ((v : Plain) → P v → Q (without_zeros v)) → (vs : Plains) (flags : List Bool) → Each P vs → Each Q (owned_entries (list_of vs) flags)
+each_owned : (P Q : Plain → Type 0) → ((v : Plain) → P v → Q (without_zeros v)) → (vs : Plains) (flags : List Bool) → Each P vs → Each Q (owned_entries_without_zeros (list_of vs) flags)
 each_owned P Q f none flags h = tt
 each_owned P Q f (more v vs) [] h = tt
 each_owned P Q f (more v vs) (true ∷ flags) h = (f v h.0, each_owned P Q f vs flags h.1)
@@ -53,7 +53,7 @@ members_enter (m ∷ members) h = (member_enters m.pkg m.id h.0, members_enter m
 -- ---- what is written of a folder, of a package and of a database
 
 abbrev pub fields_of_folder : Plain → List Bool → Plains
-fields_of_folder d flags = more (blob_or_null (name_of d)) (more (without_zeros (entry_in d 1)) (more (array_or_null (owned_entries (files_in d) flags)) none))
+fields_of_folder d flags = more (blob_or_null (name_of d)) (more (without_zeros (entry_in d 1)) (more (array_or_null (owned_entries_without_zeros (files_in d) flags)) none))
 
 abbrev pub fields_of_package : Member → List Bool → Plains
 fields_of_package m flags = more (info_in_new_database m.id (entry_in m.pkg 0)) (more (array_or_null (folders_in_new_database (folders_in m.pkg) flags))
@@ -65,7 +65,7 @@ fields_of_database members flags = more (array_or_null (packages_in_new_database
 -- ---- normal
 
 info_normal : (id : Option (List ℕ)) (info : Plain) → HasInts info → IsNormal (info_in_new_database id info)
-unfolding info_with_id_and_size HasInts
+unfolding info_without_zeros_with_id_and_file_size HasInts
 info_normal id info h = placed_normal 12 2 (int (int_in (entry_in info 12))) (blob (unwrap_or id (text_in (entry_in info 2)))) (entries_in info)
     (read_small (entry_in info 12) (nth_ints (entries_in info) 12 (entries_ints info h))) tt (entries_ints info h)
 
@@ -74,7 +74,7 @@ unfolding AreNormal
 folder_normal d flags h =
     let vs : Plains = entries_in (entry_in d 2) in
     let fields : HaveInts (entries_in d) = entries_ints d h in
-    let files = all_normal (owned_entries (list_of vs) flags) (each_owned HasInts IsNormal zeros_normal vs flags (each_ints vs (entries_ints (entry_in d 2) (nth_ints (entries_in d) 2 fields)))) in
+    let files = all_normal (owned_entries_without_zeros (list_of vs) flags) (each_owned HasInts IsNormal zeros_normal vs flags (each_ints vs (entries_ints (entry_in d 2) (nth_ints (entries_in d) 2 fields)))) in
     obj_normal (fields_of_folder d flags) (blob_value_normal (name_of d), (zeros_normal (entry_in d 1) (nth_ints (entries_in d) 1 fields), (arr_normal _ files, tt)))
 
 package_normal : (m : Member) (flags : List Bool) → HasInts m.pkg → IsNormal (package_in_new_database m flags)
@@ -84,7 +84,7 @@ package_normal m flags h =
     let fields : HaveInts vs = entries_ints m.pkg h in
     let listed : Plains = entries_in (entry_in m.pkg 1) in
     let folders = all_normal (folders_in_new_database (folders_in m.pkg) flags)
-    (each_made file_count folder_in_new_database HasInts IsNormal folder_normal (folders_in m.pkg) flags (each_listed HasInts listed (each_ints listed (entries_ints (entry_in m.pkg 1) (nth_ints vs 1 fields))))) in
+    (each_made folder_file_count folder_in_new_database HasInts IsNormal folder_normal (folders_in m.pkg) flags (each_listed HasInts listed (each_ints listed (entries_ints (entry_in m.pkg 1) (nth_ints vs 1 fields))))) in
     obj_normal (fields_of_package m flags) (
       info_normal m.id (entry_in m.pkg 0) (nth_ints vs 0 fields),
       (
@@ -111,7 +111,7 @@ database_normal members flags h =
 -- ---- of its shape
 
 info_shape : (id : Option (List ℕ)) (info : Plain) → HasShape (shape_of (Obj Tables.PkgInfo)) info → HasShape (shape_of (Obj Tables.PkgInfo)) (info_in_new_database id info)
-unfolding info_with_id_and_size HasShape shape_of
+unfolding info_without_zeros_with_id_and_file_size HasShape shape_of
 info_shape id info h = placed_shape 3 INFO 12 2 (int (int_in (entry_in info 12))) (blob (unwrap_or id (text_in (entry_in info 2)))) (entries_in info) tt tt tt tt (entries_shape 3 INFO info h)
 
 folder_shape : (d : Plain) (flags : List Bool) → HasShape (shape_of (Obj Tables.Dir)) d → HasShape (shape_of (Obj Tables.Dir)) (folder_in_new_database d flags)
@@ -133,7 +133,7 @@ package_shape m flags h =
     let listed : IsArrayOrNullOf (HasShape (shape_of (Obj Tables.Dir))) (entry_in v 1) = nth_shape (shapes_of (table Tables.Package)) (entries_in v) 1 fields in
     let scripts : HasShape (shape_of (Obj Tables.Scripts)) (entry_in v 2) = nth_shape (shapes_of (table Tables.Package)) (entries_in v) 2 fields in
     let triggers : HasShape (shape_of TextArr) (entry_in v 3) = nth_shape (shapes_of (table Tables.Package)) (entries_in v) 3 fields in
-    let folders = each_made file_count folder_in_new_database (HasShape (shape_of (Obj Tables.Dir))) (HasShape (shape_of (Obj Tables.Dir))) folder_shape (folders_in v) flags
+    let folders = each_made folder_file_count folder_in_new_database (HasShape (shape_of (Obj Tables.Dir))) (HasShape (shape_of (Obj Tables.Dir))) folder_shape (folders_in v) flags
     (each_listed (HasShape (shape_of (Obj Tables.Dir))) (entries_in (entry_in v 1)) (array_entries (HasShape (shape_of (Obj Tables.Dir))) (entry_in v 1) listed)) in
     obj_value_shape 7 (shapes_of (table Tables.Package)) (fields_of_package m flags) (
       info_shape m.id (entry_in v 0) info,

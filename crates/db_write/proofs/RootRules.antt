@@ -16,14 +16,14 @@ use Rattle.adb_copy.specs.adb_fields.Repeated.{files_in, folders_in, list_of, na
 use Rattle.adb_sound.specs.adb_schema.Reserved.{is_reserved}
 use Rattle.adb_sound.specs.adb_schema.Rules.{is_digest_length_or_none, is_valid_file_name_in_folder, is_folder_name, is_link_target_or_none}
 use Rattle.adb_sound.specs.adb_schema.SoundValues.{IsSoundFileInFolder, IsSoundFolder, IsSoundInformation, IsSoundPackage, IsSoundDependency, ObeysFieldRulesOfTable}
-use Rattle.adb_copy.specs.Zeros.{all_without_zeros, info_with_id_and_size, with_value_at_index, without_zeros}
+use Rattle.adb_copy.specs.Zeros.{all_without_zeros, info_without_zeros_with_id_and_file_size, with_value_set_at_index, without_zeros}
 use Rattle.adb_copy.proofs.Shapes.{entries_shape, nth_shape}
 use Rattle.adb_view.proofs.ValueEntries.{entries_arr, nth_obj}
 use Rattle.adb_copy.proofs.WithoutZeros.{int_zeros, text_zeros}
 use Rattle.adb_copy.proofs.Zeros.{at_other, at_same, nth_zeros, zeros_array}
 use Rattle.adb_copy.proofs.Entries.{entry_zeros}
 use Rattle.db_core.specs.Members.{Member}
-use Rattle.db_write.specs.NewDatabase.{database_value, file_count, folder_in_new_database, folders_in_new_database, info_in_new_database, member_file_count, owned_entries, package_in_new_database, packages_in_new_database}
+use Rattle.db_write.specs.NewDatabase.{database_value, folder_file_count, folder_in_new_database, folders_in_new_database, info_in_new_database, member_file_count, owned_entries_without_zeros, package_in_new_database, packages_in_new_database}
 use Rattle.db_core.specs.OwnedListings.{owned_paths}
 use Rattle.db_core.specs.SoundMembers.{AreMembersOfSoundContainers, IsPackageOfSoundContainer, NoneReserved}
 use Rattle.db_write.proofs.OwnedPaths.{all_owned_listed, name_zeros}
@@ -48,12 +48,12 @@ array_zeros : (P : Plain → Type 0) (v : Plain) → IsArrayOrNullOf P v → ent
 array_zeros P v h = ap entries_in (zeros_array P v h) ∙ entries_arr (all_without_zeros (entries_in v))
 
 hash_after : (id : Option (List ℕ)) (info : Plain) → text_in (entry_in (info_in_new_database id info) 2) ≡ unwrap_or id (text_in (entry_in info 2))
-unfolding info_with_id_and_size without_zeros
+unfolding info_without_zeros_with_id_and_file_size without_zeros
 hash_after id info =
     let hash : Plain = blob (unwrap_or id (text_in (entry_in info 2))) in
     let size : Plain = int (int_in (entry_in info 12)) in
-    let vs : Plains = with_value_at_index 12 size (with_value_at_index 2 hash (entries_in info)) in
-    ap text_in (nth_obj (all_without_zeros vs) 2 ∙ (nth_zeros vs 2 ∙ ap without_zeros (at_other 12 2 size (with_value_at_index 2 hash (entries_in info)) (λ e. omega (arith, e)) ∙ at_same 2 hash (entries_in info))))
+    let vs : Plains = with_value_set_at_index 12 size (with_value_set_at_index 2 hash (entries_in info)) in
+    ap text_in (nth_obj (all_without_zeros vs) 2 ∙ (nth_zeros vs 2 ∙ ap without_zeros (at_other 12 2 size (with_value_set_at_index 2 hash (entries_in info)) (λ e. omega (arith, e)) ∙ at_same 2 hash (entries_in info))))
     ∙ text_zeros hash
 
 hash_kept : (pkg info : Plain) (id : Option (List ℕ)) → IsPackageOfSoundContainer pkg id → is_digest_length_or_none (length (text_in (entry_in info 2))) ≡ true
@@ -109,8 +109,8 @@ file_kept above v h free = record {
   target = ap is_link_target_or_none (ap text_in (entry_zeros v 5) ∙ text_zeros (entry_in v 5)) ∙ h.target;
 }
 
-files_kept : (above : List ℕ) (vs : Plains) (flags : List Bool) → Each (IsFileUnder above) vs → NoneReserved (map (λ file. path_of above (name_of file)) (list_of (owned_entries (list_of vs) flags)))
-    → Each (IsSoundFileInFolder Tables.Idb above) (owned_entries (list_of vs) flags)
+files_kept : (above : List ℕ) (vs : Plains) (flags : List Bool) → Each (IsFileUnder above) vs → NoneReserved (map (λ file. path_of above (name_of file)) (list_of (owned_entries_without_zeros (list_of vs) flags)))
+    → Each (IsSoundFileInFolder Tables.Idb above) (owned_entries_without_zeros (list_of vs) flags)
 files_kept above none flags h free = tt
 files_kept above (more v vs) [] h free = tt
 files_kept above (more v vs) (true ∷ flags) h free = (file_kept above v h.0 free.0, files_kept above vs flags h.1 free.1)
@@ -118,7 +118,7 @@ files_kept above (more v vs) (false ∷ flags) h free = files_kept above vs flag
 
 folder_kept : (d : Plain) (flags : List Bool) → IsFolderAnywhere d → NoneReserved (paths_of_folder_files (folder_in_new_database d flags)) → IsSoundFolder Tables.Idb (folder_in_new_database d flags)
 folder_kept d flags h free =
-    let owned : Plains = owned_entries (files_in d) flags in
+    let owned : Plains = owned_entries_without_zeros (files_in d) flags in
     let paths : NoneReserved (map (λ file. path_of (name_of d) (name_of file)) (list_of owned)) =
     subst (λ (above : List ℕ). NoneReserved (map (λ file. path_of above (name_of file)) (list_of owned))) (folder_name d flags)
     (subst (λ (vs : Plains). NoneReserved (map (λ file. path_of (name_of (folder_in_new_database d flags)) (name_of file)) (list_of vs))) (folder_files d flags) free) in
@@ -132,9 +132,9 @@ folder_kept d flags h free =
 folders_kept : (vs : Plains) (flags : List Bool) → Each IsFolderAnywhere vs → NoneReserved (flat_map paths_of_folder_files (list_of (folders_in_new_database (list_of vs) flags))) → Each (IsSoundFolder Tables.Idb) (folders_in_new_database (list_of vs) flags)
 folders_kept none flags h free = tt
 folders_kept (more d ds) flags h free =
-    let others : List (List ℕ) = flat_map paths_of_folder_files (list_of (folders_in_new_database (list_of ds) (drop (file_count d) flags))) in (
+    let others : List (List ℕ) = flat_map paths_of_folder_files (list_of (folders_in_new_database (list_of ds) (drop (folder_file_count d) flags))) in (
       folder_kept d flags h.0 (free_front (paths_of_folder_files (folder_in_new_database d flags)) others free),
-      folders_kept ds (drop (file_count d) flags) h.1 (free_back (paths_of_folder_files (folder_in_new_database d flags)) others free),
+      folders_kept ds (drop (folder_file_count d) flags) h.1 (free_back (paths_of_folder_files (folder_in_new_database d flags)) others free),
     )
 
 -- ---- packages

@@ -18,7 +18,7 @@ use Rattle.adb_sound.specs.adb_schema.Rules.{is_digest_length, is_digest_length_
 use Rattle.adb_sound.specs.adb_schema.SoundValues.{IsSoundFileInFolder, IsSoundFolder, IsSoundInformation, IsSoundPackage}
 use Rattle.adb_sound.specs.adb_schema.Texts.{is_file_with_contents, needs_file_hash}
 use Rattle.adb_sound.specs.adb_schema.SoundContainers.{IsSoundContainer, IsSoundValue}
-use Rattle.adb_sound.specs.adb_schema.Soundness.{payload_in, root_value}
+use Rattle.adb_sound.specs.adb_schema.Soundness.{payload_in, root_value_of_payload}
 use Rattle.adb_copy.proofs.Shapes.{entries_shape, nth_shape}
 use Rattle.db_core.specs.SoundMembers.{IsPackageOfSoundContainer, IsOfSoundDatabase, IsSoundPackageAndDigest}
 use Rattle.db_write.proofs.Unchanged.{array_entries}
@@ -138,14 +138,14 @@ member_enters pkg (Some id) h = package_enters pkg id h
 -- ---- what sound containers hold
 
 abbrev pub Holds : Type 0
-Holds = (which : Which) (file : List ℕ) → IsSoundContainer which file → IsSoundValue which (root_value which (payload_in file))
+Holds = (which : Which) (file : List ℕ) → IsSoundContainer which file → IsSoundValue which (root_value_of_payload which (payload_in file))
 
 abbrev pub HoldsNormal : Type 0
-HoldsNormal = (which : Which) (file : List ℕ) → IsSoundContainer which file → All (λ b. b < 256) (payload_in file) → IsNormal (root_value which (payload_in file))
+HoldsNormal = (which : Which) (file : List ℕ) → IsSoundContainer which file → All (λ b. b < 256) (payload_in file) → IsNormal (root_value_of_payload which (payload_in file))
 
-pub may_be_kept : Holds → HoldsNormal → (file : List ℕ) (pkg : Plain) → IsSoundContainer Tables.Idb file → All (λ b. b < 256) (payload_in file) → IsIn pkg (entries_at 0 (root_value Tables.Idb (payload_in file))) → IsPackageOfSoundContainer pkg None
-may_be_kept holds normal file pkg sound bytes listed = record { database = root_value Tables.Idb (payload_in file); sound = holds Tables.Idb file sound; normal = normal Tables.Idb file sound bytes; listed = listed }
+pub may_be_kept : Holds → HoldsNormal → (file : List ℕ) (pkg : Plain) → IsSoundContainer Tables.Idb file → All (λ b. b < 256) (payload_in file) → IsIn pkg (entries_at 0 (root_value_of_payload Tables.Idb (payload_in file))) → IsPackageOfSoundContainer pkg None
+may_be_kept holds normal file pkg sound bytes listed = record { database = root_value_of_payload Tables.Idb (payload_in file); sound = holds Tables.Idb file sound; normal = normal Tables.Idb file sound bytes; listed = listed }
 
 pub may_come : Holds → HoldsNormal → (file id : List ℕ) → IsSoundContainer Tables.Package file → All (λ b. b < 256) (payload_in file) → is_digest_length (length id) ≡ true
-    → IsPackageOfSoundContainer (root_value Tables.Package (payload_in file)) (Some id)
+    → IsPackageOfSoundContainer (root_value_of_payload Tables.Package (payload_in file)) (Some id)
 may_come holds normal file id sound bytes digest = record { sound = holds Tables.Package file sound; normal = normal Tables.Package file sound bytes; digest = digest }

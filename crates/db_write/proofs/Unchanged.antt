@@ -16,8 +16,8 @@ use Rattle.adb_copy.proofs.Fields.{INFO, info_written, object_written}
 use Rattle.adb_copy.proofs.Shapes.{entries_shape, nth_shape}
 use Rattle.adb_copy.proofs.Zeros.{zeros_array}
 use Rattle.db_core.specs.Members.{Member, member_of_kept, members_of_kept}
-use Rattle.db_write.specs.NewDatabase.{database_container, database_of, database_value, values_by_successive_flags, file_count, folder_in_new_database, folders_in_new_database, info_in_new_database, member_file_count, owned_entries, package_in_new_database, packages_in_new_database, total_of}
-use Rattle.db_write.specs.Unchanged.{all_owned_flags}
+use Rattle.db_write.specs.NewDatabase.{database_file_unless_too_large, database_of, database_value, values_by_successive_flags, folder_file_count, folder_in_new_database, folders_in_new_database, info_in_new_database, member_file_count, owned_entries_without_zeros, package_in_new_database, packages_in_new_database, total_of}
+use Rattle.db_write.specs.Unchanged.{set_flags_of_all_listed_files}
 
 -- ---- flags that are all set
 
@@ -28,7 +28,7 @@ drop_set (suc k) (suc m) h =
     let e : m - k ≡ suc m - suc k = omega arith in
     drop_set k m (omega arith) ∙ ap (λ n. replicate n true) e
 
-owned_all : (vs : Plains) (m : ℕ) → count_of vs ≤ m → owned_entries (list_of vs) (replicate m true) ≡ all_without_zeros vs
+owned_all : (vs : Plains) (m : ℕ) → count_of vs ≤ m → owned_entries_without_zeros (list_of vs) (replicate m true) ≡ all_without_zeros vs
 unfolding without_zeros
 owned_all none m h = refl
 owned_all (more v vs) zero h = absurd (omega arith)
@@ -59,11 +59,11 @@ array_entries P (blob b) h = absurd h
 array_entries P (arr vs) h = h
 array_entries P (obj vs) h = absurd h
 
-folder_same : (v : Plain) (m : ℕ) → HasShape (shape_of (Kinds.Obj Tables.Dir)) v → file_count v ≤ m → folder_in_new_database v (replicate m true) ≡ without_zeros v
+folder_same : (v : Plain) (m : ℕ) → HasShape (shape_of (Kinds.Obj Tables.Dir)) v → folder_file_count v ≤ m → folder_in_new_database v (replicate m true) ≡ without_zeros v
 unfolding shape_of HasShape
 folder_same v m h enough =
     let files : IsArrayOrNullOf (HasShape (shape_of (Kinds.Obj Tables.File))) (entry_in v 2) = nth_shape (shapes_of (table Tables.Dir)) (entries_in v) 2 (entries_shape 5 (shapes_of (table Tables.Dir)) v h) in
-    let owned : owned_entries (files_in v) (replicate m true) ≡ all_without_zeros (entries_in (entry_in v 2)) =
+    let owned : owned_entries_without_zeros (files_in v) (replicate m true) ≡ all_without_zeros (entries_in (entry_in v 2)) =
     owned_all (entries_in (entry_in v 2)) m (omega (arith, enough, count-listed (entries_in (entry_in v 2)))) in
     ap (λ fs. trimmed_object_or_null (more (blob_or_null (name_of v)) (more (without_zeros (entry_in v 1)) (more fs none))))
     (ap array_or_null owned ∙ sym (zeros_array (HasShape (shape_of (Kinds.Obj Tables.File))) (entry_in v 2) files))
@@ -87,8 +87,8 @@ package_same v m h enough =
     let listed : List Plain = folders_in v in
     let all : folders_in_new_database listed (replicate m true) ≡ all_without_zeros (entries_in (entry_in v 1)) =
     ap (λ ds. folders_in_new_database ds (replicate m true)) (sym (map_same listed))
-    ∙ each_all file_count folder_in_new_database (λ d. d) (HasShape (shape_of (Kinds.Obj Tables.Dir))) folder_same (entries_in (entry_in v 1)) m (array_entries (HasShape (shape_of (Kinds.Obj Tables.Dir))) (entry_in v 1) folders)
-    (subst (λ ds. total_of file_count ds ≤ m) (sym (map_same listed)) enough) in
+    ∙ each_all folder_file_count folder_in_new_database (λ d. d) (HasShape (shape_of (Kinds.Obj Tables.Dir))) folder_same (entries_in (entry_in v 1)) m (array_entries (HasShape (shape_of (Kinds.Obj Tables.Dir))) (entry_in v 1) folders)
+    (subst (λ ds. total_of folder_file_count ds ≤ m) (sym (map_same listed)) enough) in
     (λ j. trimmed_object_or_null (more (info_same (entry_in v 0) info j)
     (more ((ap array_or_null all ∙ sym (zeros_array (HasShape (shape_of (Kinds.Obj Tables.Dir))) (entry_in v 1) folders)) j)
     (more (without_zeros (entry_in v 2)) (more (without_zeros (entry_in v 3)) (more (int_or_null (int_in (entry_in v 4))) none))))))
@@ -96,18 +96,18 @@ package_same v m h enough =
 
 -- ---- the database
 
-pub database_same : (v : Plain) → HasShape (shape_of (Kinds.Obj Tables.Idb)) v → database_value (members_of_kept (entries_at 0 v)) (all_owned_flags (members_of_kept (entries_at 0 v))) ≡ without_zeros v
+pub database_same : (v : Plain) → HasShape (shape_of (Kinds.Obj Tables.Idb)) v → database_value (members_of_kept (entries_at 0 v)) (set_flags_of_all_listed_files (members_of_kept (entries_at 0 v))) ≡ without_zeros v
 unfolding shape_of HasShape database_value
 database_same v h =
     let packages : IsArrayOrNullOf (HasShape (shape_of (Kinds.Obj Tables.Package))) (entry_in v 0) = nth_shape (shapes_of (table Tables.Idb)) (entries_in v) 0 (entries_shape 9 (shapes_of (table Tables.Idb)) v h) in
     let members : List Member = members_of_kept (entries_at 0 v) in
-    let all : packages_in_new_database members (all_owned_flags members) ≡ all_without_zeros (entries_in (entry_in v 0)) =
+    let all : packages_in_new_database members (set_flags_of_all_listed_files members) ≡ all_without_zeros (entries_in (entry_in v 0)) =
     each_all member_file_count package_in_new_database member_of_kept (HasShape (shape_of (Kinds.Obj Tables.Package))) package_same (entries_in (entry_in v 0)) (total_of member_file_count members)
     (array_entries (HasShape (shape_of (Kinds.Obj Tables.Package))) (entry_in v 0) packages) (omega arith) in
     ap (λ ps. trimmed_object_or_null (more ps none)) (ap array_or_null all ∙ sym (zeros_array (HasShape (shape_of (Kinds.Obj Tables.Package))) (entry_in v 0) packages))
     ∙ object_written 9 (shapes_of (table Tables.Idb)) v h
 
 pub bytes_same : (v : Plain) (payload : List ℕ) → HasShape (shape_of (Kinds.Obj Tables.Idb)) v → without_zeros v ≡ v → payload_or_overflow v ≡ Ok payload
-    → database_of (members_of_kept (entries_at 0 v)) (all_owned_flags (members_of_kept (entries_at 0 v))) ≡ Ok (file_of IDB_WORD payload)
+    → database_of (members_of_kept (entries_at 0 v)) (set_flags_of_all_listed_files (members_of_kept (entries_at 0 v))) ≡ Ok (file_of IDB_WORD payload)
 unfolding database_of
-bytes_same v payload h free canonical = ap (λ u. database_container (payload_or_overflow u)) (database_same v h ∙ free) ∙ ap database_container canonical
+bytes_same v payload h free canonical = ap (λ u. database_file_unless_too_large (payload_or_overflow u)) (database_same v h ∙ free) ∙ ap database_file_unless_too_large canonical

@@ -8,21 +8,21 @@ use Rattle.adb_view.specs.FieldIndexes.{DIR_ACL, INFO_FILE_SIZE, INFO_HASHES, PA
 use Rattle.adb_view.specs.Values.{entry_in, int_in, text_in}
 use Rattle.adb_copy.specs.adb_fields.Repeated.{name_of, folders_in, files_in}
 use Rattle.adb_sound.specs.adb_schema.declared.read.TheConstants.{IDB_WORD}
-use Rattle.adb_sound.specs.adb_write.Canonical.{PayloadCounts, payload_or_overflow}
+use Rattle.adb_sound.specs.adb_write.Canonical.{ByteAndValueCounts, payload_or_overflow}
 use Rattle.adb_sound.specs.adb_write.File.{file_of}
-use Rattle.adb_copy.specs.Zeros.{info_with_id_and_size, int_or_null, without_zeros}
+use Rattle.adb_copy.specs.Zeros.{info_without_zeros_with_id_and_file_size, int_or_null, without_zeros}
 use Rattle.db_core.specs.Members.{Member}
 
 -- ---- by flags, one for each file in its order
 
 -- the entries, without zeros, of those files whose flag is set, by one flag for each file; a file without a flag
 -- is left out
-abbrev pub owned_entries : List Plain → List Bool → Plains
-owned_entries [] flags = none
-owned_entries (file ∷ files) [] = none
-owned_entries (file ∷ files) (true ∷ flags) =
-    more (without_zeros file) (owned_entries files flags)
-owned_entries (file ∷ files) (false ∷ flags) = owned_entries files flags
+abbrev pub owned_entries_without_zeros : List Plain → List Bool → Plains
+owned_entries_without_zeros [] flags = none
+owned_entries_without_zeros (file ∷ files) [] = none
+owned_entries_without_zeros (file ∷ files) (true ∷ flags) =
+    more (without_zeros file) (owned_entries_without_zeros files flags)
+owned_entries_without_zeros (file ∷ files) (false ∷ flags) = owned_entries_without_zeros files flags
 
 -- the values that the function `value` computes of each element of a list and the flags from the element's first
 -- flag on; `count` says how many flags each element has
@@ -40,32 +40,32 @@ total_of count (x ∷ xs) = count x + total_of count xs
 -- ---- folders
 
 -- how many files a folder has, and so how many flags
-abbrev pub file_count : Plain → ℕ
-file_count folder = length (files_in folder)
+abbrev pub folder_file_count : Plain → ℕ
+folder_file_count folder = length (files_in folder)
 
 -- a folder in the new database: its name, its access list, and those of its files whose flag is set
 abbrev pub folder_in_new_database : Plain → List Bool → Plain
 folder_in_new_database folder flags =
     trimmed_object_or_null (more (blob_or_null (name_of folder))
     (more (without_zeros (entry_in folder DIR_ACL))
-    (more (array_or_null (owned_entries (files_in folder) flags)) none)))
+    (more (array_or_null (owned_entries_without_zeros (files_in folder) flags)) none)))
 
 -- the folders of a package in the new database; each takes as many flags as it has files
 abbrev pub folders_in_new_database : List Plain → List Bool → Plains
 folders_in_new_database folders flags =
-    values_by_successive_flags file_count folder_in_new_database folders flags
+    values_by_successive_flags folder_file_count folder_in_new_database folders flags
 
 -- ---- packages
 
 -- how many files a member lists, and so how many flags it has
 abbrev pub member_file_count : Member → ℕ
-member_file_count m = total_of file_count (folders_in m.pkg)
+member_file_count m = total_of folder_file_count (folders_in m.pkg)
 
 -- the information of a package in the new database: `info` without zeros. The hash of an added package is its id;
 -- a kept package has no id, and keeps its hash
 abbrev pub info_in_new_database : Option (List ℕ) → Plain → Plain
 info_in_new_database id info =
-    info_with_id_and_size info (unwrap_or id (text_in (entry_in info INFO_HASHES)))
+    info_without_zeros_with_id_and_file_size info (unwrap_or id (text_in (entry_in info INFO_HASHES)))
     (int_in (entry_in info INFO_FILE_SIZE))
 
 -- a package in the new database, with the fields of table 7 in order: its information, its folders, its scripts, its
@@ -91,10 +91,12 @@ database_value members flags =
     trimmed_object_or_null (more (array_or_null (packages_in_new_database members flags)) none)
 
 -- the file of a database with this payload; or the counts, if the payload exceeds a limit of the writer
-abbrev pub database_container : Result (List ℕ) PayloadCounts → Result (List ℕ) PayloadCounts
-database_container (Ok payload) = Ok (file_of IDB_WORD payload)
-database_container (Err counts) = Err counts
+abbrev pub database_file_unless_too_large : Result (List ℕ) ByteAndValueCounts
+    → Result (List ℕ) ByteAndValueCounts
+database_file_unless_too_large (Ok payload) = Ok (file_of IDB_WORD payload)
+database_file_unless_too_large (Err counts) = Err counts
 
 -- the file of the new database, or the counts of the writer at the first value that exceeds a limit
-unfoldable pub database_of : List Member → List Bool → Result (List ℕ) PayloadCounts
-database_of members flags = database_container (payload_or_overflow (database_value members flags))
+unfoldable pub database_of : List Member → List Bool → Result (List ℕ) ByteAndValueCounts
+database_of members flags =
+    database_file_unless_too_large (payload_or_overflow (database_value members flags))

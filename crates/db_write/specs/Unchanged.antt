@@ -6,5 +6,5 @@ use Rattle.db_core.specs.Members.{Member}
 use Rattle.db_write.specs.NewDatabase.{member_file_count, total_of}
 
 -- a flag for each file that members list, all set
-abbrev pub all_owned_flags : List Member → List Bool
-all_owned_flags members = replicate (total_of member_file_count members) true
+abbrev pub set_flags_of_all_listed_files : List Member → List Bool
+set_flags_of_all_listed_files members = replicate (total_of member_file_count members) true

@@ -7,10 +7,10 @@ ghost use Rattle.adb_copy.specs.adb_values.Written.{IsWrittenAs};
 ghost use Rattle.adb_sound.specs.adb_write.Canonical.{payload_or_overflow, MOST_BYTES};
 ghost use Rattle.adb_sound.specs.adb_schema.SoundContainers.{IsSoundContainer};
 ghost use Rattle.adb_view.specs.declared.tables.Which.TheVariants as Tables;
-ghost use Rattle.db_core.specs.Members.{member_listings};
+ghost use Rattle.db_core.specs.Members.{listings_of_members};
 ghost use Rattle.db_core.specs.OwnedListings.{owned_listings};
 ghost use Rattle.db_core.specs.Seen.{members_of};
-ghost use Rattle.db_core.specs.SoundMembers.{HaveOneOwnerAndNoReservedPath};
+ghost use Rattle.db_core.specs.SoundMembers.{HaveOneOwnerPerPathAndNoneReserved};
 ghost use Rattle.db_write.specs.NewDatabase.{database_of, database_value};
 ghost use Rattle.std.specs.Prelude.{◌≡◌, ◌≤◌, IfOk, OnOk, length};
 
@@ -36,7 +36,7 @@ pub fn write_db(alloc: Global, members: &Members<'_>, owned: &Owned) -> Result<V
         (database_of (members_of members.now) owned.now) }
     // The file passes all tests of a database if no path has two owners, and none is reserved.
     ensures sound { IfOk result (λ file.
-        HaveOneOwnerAndNoReservedPath (owned_listings (member_listings
+        HaveOneOwnerPerPathAndNoneReserved (owned_listings (listings_of_members
         (members_of members.now)) owned.now)
         → IsSoundContainer Tables.Idb file.items) }
 {

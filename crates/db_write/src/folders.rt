@@ -13,7 +13,7 @@ ghost use Rattle.adb_copy.specs.adb_values.Drafts.{draft_with};
 ghost use Rattle.adb_view.specs.Adb.{payload_of};
 ghost use Rattle.adb_view.specs.Entries.{array_entries};
 ghost use Rattle.adb_view.specs.Plain.{array_or_null};
-ghost use Rattle.db_write.specs.NewDatabase.{file_count, folder_in_new_database, folders_in_new_database, owned_entries, total_of};
+ghost use Rattle.db_write.specs.NewDatabase.{folder_file_count, folder_in_new_database, folders_in_new_database, owned_entries_without_zeros, total_of};
 ghost use Rattle.std.specs.Prelude.{◌≡◌, ◌<◌, true, false, OnOk, Some, drop, length, slice_get, unwrap_or};
 
 use adb_copy::{Draft, KnownTexts, field_word, objects_field, write_acl, write_file};
@@ -52,7 +52,7 @@ pub(crate) fn flags_behind<'f>(adb: Adb<'_>, pkg: Val, flags: &'f [bool]) -> &'f
     // The word `pkg` refers to a package.
     requires { is_sound (payload_of adb) (Kinds.Obj Tables.Package) pkg ≡ true }
     // As many flags are dropped as the folders of the package have files.
-    ensures { result.now ≡ drop (total_of file_count (folders_in
+    ensures { result.now ≡ drop (total_of folder_file_count (folders_in
         (value_at (payload_of adb.entry) (Kinds.Obj Tables.Package) pkg))) flags.entry.now }
 {
     let folders = objects_field(adb, Which::Package, pkg, PACKAGE_PATHS, Which::Dir);
@@ -100,7 +100,7 @@ fn flags_after_folders<'a, 'f>(adb: Adb<'a>, folders: Arr<'a>, flags: &'f [bool]
     requires { are_all_sound (payload_of adb) (Kinds.Obj Tables.Dir) (array_entries folders)
         ≡ true }
     // As many flags are dropped as these folders have files.
-    ensures { result.now ≡ drop (total_of file_count (list_of (entries_in
+    ensures { result.now ≡ drop (total_of folder_file_count (list_of (entries_in
         (array_at (payload_of adb.entry) (Kinds.Obj Tables.Dir) (array_entries folders.entry)))))
         flags.entry.now }
 {
@@ -118,7 +118,7 @@ fn flags_after_folder<'f>(adb: Adb<'_>, folder: Val, flags: &'f [bool]) -> &'f [
     requires { is_sound (payload_of adb) (Kinds.Obj Tables.Dir) folder ≡ true }
     // As many flags are dropped as the folder has files.
     ensures { result.now ≡ drop
-        (file_count (value_at (payload_of adb.entry) (Kinds.Obj Tables.Dir) folder))
+        (folder_file_count (value_at (payload_of adb.entry) (Kinds.Obj Tables.Dir) folder))
         flags.entry.now }
 {
     let files = objects_field(adb, Which::Dir, folder, DIR_FILES, Which::File);
@@ -173,7 +173,8 @@ fn write_files<'a>(
     // Each text of this payload that `known` remembers has the remembered word in the draft.
     requires known { AreRememberedBlobsOfDraft (payload_of adb) draft.old known.old }
     // On Ok, the array of the files whose flag is set is added to the draft.
-    ensures files { OnOk result (draft.new ≡ draft_with (array_or_null (owned_entries (list_of
+    ensures files { OnOk result (draft.new
+        ≡ draft_with (array_or_null (owned_entries_without_zeros (list_of
         (entries_in (array_at (payload_of adb.entry) (Kinds.Obj Tables.File)
         (array_entries files.entry)))) flags.now)) draft.old) }
     // On Ok, each remembered text has the remembered word in the new draft.

@@ -7,7 +7,7 @@ ghost use Rattle.adb_copy.specs.adb_fields.FirstPair.{IsIn};
 ghost use Rattle.adb_copy.specs.adb_fields.Repeated.{entries_at, folders_in, list_of, name_of, paths_of_package_files};
 ghost use Rattle.adb_sound.specs.adb_schema.Rules.{is_digest_length};
 ghost use Rattle.adb_sound.specs.adb_schema.SoundContainers.{IsSoundContainer};
-ghost use Rattle.adb_sound.specs.adb_schema.Soundness.{payload_in, root_value};
+ghost use Rattle.adb_sound.specs.adb_schema.Soundness.{payload_in, root_value_of_payload};
 ghost use Rattle.adb_sound.specs.adb_schema.declared.read.TheConstants.{IDB_WORD};
 ghost use Rattle.adb_sound.specs.Root.{IsValidRootValueOfTable};
 ghost use Rattle.adb_view.specs.FieldIndexes.{DIR_ACL, IDB_PACKAGES, INFO_FILE_SIZE, INFO_HASHES, PACKAGE_INFO, PACKAGE_REPLACES_PRIORITY, PACKAGE_SCRIPTS, PACKAGE_TRIGGERS};
@@ -19,13 +19,13 @@ ghost use Rattle.adb_view.specs.Plain.{Plain};
 ghost use Rattle.adb_view.specs.Shaped.{HasShape};
 ghost use Rattle.adb_sound.specs.adb_write.Canonical.{payload_or_overflow};
 ghost use Rattle.adb_sound.specs.adb_write.File.{file_of};
-ghost use Rattle.db_core.specs.Members.{AreMembersInNameOrder, Member, member_of_added, member_listings, member_of_kept, members_of_kept};
+ghost use Rattle.db_core.specs.Members.{AreMembersInNameOrder, Member, member_of_added, listings_of_members, member_of_kept, members_of_kept};
 ghost use Rattle.db_core.specs.Packages.{installed_id};
 ghost use Rattle.db_write.specs.Information.{package_file_size_in_info};
 ghost use Rattle.db_write.specs.NewDatabase.{database_of, database_value, package_in_new_database, packages_in_new_database};
 ghost use Rattle.db_core.specs.OwnedListings.{owned_listings, owned_paths};
-ghost use Rattle.db_core.specs.SoundMembers.{AreMembersOfSoundContainers, IsPackageOfSoundContainer, HaveOneOwnerAndNoReservedPath};
-ghost use Rattle.db_write.specs.Unchanged.{all_owned_flags};
+ghost use Rattle.db_core.specs.SoundMembers.{AreMembersOfSoundContainers, IsPackageOfSoundContainer, HaveOneOwnerPerPathAndNoneReserved};
+ghost use Rattle.db_write.specs.Unchanged.{set_flags_of_all_listed_files};
 ghost use Rattle.adb_sound.specs.pkg_core.Whole.{container_fault};
 ghost use Rattle.std.specs.List.{flat_map};
 ghost use Rattle.std.specs.Prelude.{◌≡◌, ◌≢◌, ◌<◌, ℕ, All, Bool, List, None, Ok, Some, length, map, true};
@@ -53,7 +53,7 @@ pub fn a_written_database_is_read_back()
     ensures packages { (members : List Member) (flags : List Bool) (bytes : List ℕ)
         → IsValidRootValueOfTable Tables.Idb (database_value members flags)
         → database_of members flags ≡ Ok bytes
-        → entries_at IDB_PACKAGES (root_value Tables.Idb (payload_in bytes))
+        → entries_at IDB_PACKAGES (root_value_of_payload Tables.Idb (payload_in bytes))
         ≡ list_of (packages_in_new_database members flags) }
 {
     a_file_is_spelled();
@@ -69,7 +69,7 @@ pub fn a_database_of_sound_packages_may_be_the_root()
     // `flags` has one flag for each file that members list, and `bytes` is the written file.
     ensures { (members : List Member) (flags : List Bool) (bytes : List ℕ)
         → AreMembersOfSoundContainers members → AreMembersInNameOrder members
-        → HaveOneOwnerAndNoReservedPath (owned_listings (member_listings members) flags)
+        → HaveOneOwnerPerPathAndNoneReserved (owned_listings (listings_of_members members) flags)
         → database_of members flags ≡ Ok bytes
         → IsValidRootValueOfTable Tables.Idb (database_value members flags) }
 {
@@ -84,13 +84,14 @@ pub fn packages_of_sound_containers_may_be_members()
     // Each package of a sound database may be kept.
     ensures stays { (file : List ℕ) (pkg : Plain)
         → IsSoundContainer Tables.Idb file → All (λ b. b < 256) (payload_in file)
-        → IsIn pkg (entries_at IDB_PACKAGES (root_value Tables.Idb (payload_in file)))
+        → IsIn pkg (entries_at IDB_PACKAGES (root_value_of_payload Tables.Idb (payload_in file)))
         → IsPackageOfSoundContainer pkg None }
     // The package in a sound container may be added.
     ensures comes { (file id : List ℕ)
         → IsSoundContainer Tables.Package file → All (λ b. b < 256) (payload_in file)
         → is_digest_length (length id) ≡ true
-        → IsPackageOfSoundContainer (root_value Tables.Package (payload_in file)) (Some id) }
+        → IsPackageOfSoundContainer (root_value_of_payload Tables.Package (payload_in file))
+        (Some id) }
 {
     sound_containers_hold_sound_values();
 }
@@ -110,13 +111,13 @@ pub fn a_database_without_changes_stays_the_same()
     // The written value is the read one without zeros.
     ensures value { (v : Plain) → HasShape (shape_of (Kinds.Obj Tables.Idb)) v
         → database_value (members_of_kept (entries_at IDB_PACKAGES v))
-        (all_owned_flags (members_of_kept (entries_at IDB_PACKAGES v)))
+        (set_flags_of_all_listed_files (members_of_kept (entries_at IDB_PACKAGES v)))
         ≡ without_zeros v }
     // A value without zeros in its canonical payload is written as the same bytes.
     ensures bytes { (v : Plain) (payload : List ℕ) → HasShape (shape_of (Kinds.Obj Tables.Idb)) v
         → without_zeros v ≡ v → payload_or_overflow v ≡ Ok payload
         → database_of (members_of_kept (entries_at IDB_PACKAGES v))
-        (all_owned_flags (members_of_kept (entries_at IDB_PACKAGES v)))
+        (set_flags_of_all_listed_files (members_of_kept (entries_at IDB_PACKAGES v)))
         ≡ Ok (file_of IDB_WORD payload) }
 {}
 
@@ -159,8 +160,8 @@ pub fn a_package_keeps_its_folders()
 pub fn a_database_keeps_the_entries_of_owned_files()
     ensures { (members : List Member) (flags : List Bool)
         → map (λ l. l.entry)
-        (member_listings (members_of_kept (list_of (packages_in_new_database members flags))))
-        ≡ map (λ l. without_zeros l.entry) (owned_listings (member_listings members) flags) }
+        (listings_of_members (members_of_kept (list_of (packages_in_new_database members flags))))
+        ≡ map (λ l. without_zeros l.entry) (owned_listings (listings_of_members members) flags) }
 {}
 
 /// A law: a package in a new database keeps its scripts, its triggers and its priority in
@@ -188,9 +189,11 @@ pub fn a_written_database_is_written_again_alike()
         → IsValidRootValueOfTable Tables.Idb (database_value members flags)
         → database_of members flags ≡ Ok bytes
         → database_of
-        (members_of_kept (entries_at IDB_PACKAGES (root_value Tables.Idb (payload_in bytes))))
-        (all_owned_flags
-        (members_of_kept (entries_at IDB_PACKAGES (root_value Tables.Idb (payload_in bytes)))))
+        (members_of_kept (entries_at IDB_PACKAGES (root_value_of_payload Tables.Idb
+        (payload_in bytes))))
+        (set_flags_of_all_listed_files
+        (members_of_kept (entries_at IDB_PACKAGES (root_value_of_payload Tables.Idb
+        (payload_in bytes)))))
         ≡ Ok bytes }
 {
     what_a_container_is_made_of_is_read_back();

@@ -1,12 +1,12 @@
 -- Cases worked by hand: what a few small packages are made of, and which of them are added.
 use Rattle.std.proofs.Common.{◌≡◌, List, ℕ, [], ◌∷◌, codes, refl}
-use Rattle.demo_lines.specs.Lines.{add_words, demo_file, demo_text, demo_version, mkndx_words, mkpkg_words}
+use Rattle.demo_lines.specs.Lines.{add_words, demo_file, contents_of_demo_file, demo_version, mkndx_words, mkpkg_words}
 
 -- 10 is 3 modulo 7, and 1 modulo 3
 pub tenth_version : demo_version 10 ≡ codes "1.3-r1"
 tenth_version = refl
 
-five_digits : demo_text 12345 ≡ codes "p12345\n"
+five_digits : contents_of_demo_file 12345 ≡ codes "p12345\n"
 five_digits = refl
 
 pub first_file : demo_file 1 ≡ codes "demo/p00001/usr/share/demo/p00001"

@@ -32,8 +32,8 @@ abbrev pub demo_file : ℕ → List ℕ
 demo_file i = demo_folder i ++ codes "/usr/share/demo/" ++ demo_package_name i
 
 -- the contents of the one file of package i: its name and a line end
-abbrev pub demo_text : ℕ → List ℕ
-demo_text i = demo_package_name i ++ codes "\n"
+abbrev pub contents_of_demo_file : ℕ → List ℕ
+contents_of_demo_file i = demo_package_name i ++ codes "\n"
 
 -- the path of the file of package i, in the folder of the index
 abbrev pub demo_package_path : ℕ → List ℕ

@@ -9,4 +9,4 @@ mod lines;
 mod texts;
 
 pub use lines::{add_words, demo_count, demo_line, mkndx_words, mkpkg_words};
-pub use texts::{demo_file, demo_repositories, demo_text};
+pub use texts::{contents_of_demo_file, demo_file, demo_repositories};

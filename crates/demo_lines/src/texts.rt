@@ -1,7 +1,7 @@
 //! Names, paths and contents of the packages and files that `demo` makes, by the number i of the
 //! package. The rules are in `docs/commands.md`, "`demo N`".
 ghost use Rattle.std.specs.Prelude.{◌≡◌, ◌<◌, ◌++◌, IfOk, OnOk};
-ghost use Rattle.demo_lines.specs.Lines.{demo_file, demo_folder, demo_index_path, demo_package_name, demo_package_path, demo_repositories, demo_text, demo_version, digit_at_unit};
+ghost use Rattle.demo_lines.specs.Lines.{demo_file, demo_folder, demo_index_path, demo_package_name, demo_package_path, demo_repositories, contents_of_demo_file, demo_version, digit_at_unit};
 
 use std::alloc::{AllocError, Global};
 
@@ -26,8 +26,8 @@ pub fn demo_file(alloc: Global, i: u16) -> Result<Vec<u8>, AllocError>
 }
 
 /// The contents of the one file of package i: its name and a line end.
-pub fn demo_text(alloc: Global, i: u16) -> Result<Vec<u8>, AllocError>
-    ensures { IfOk result (λ text. text.items ≡ demo_text i) }
+pub fn contents_of_demo_file(alloc: Global, i: u16) -> Result<Vec<u8>, AllocError>
+    ensures { IfOk result (λ text. text.items ≡ contents_of_demo_file i) }
 {
     let mut text = Vec::new(alloc);
     push_name(&mut text, i)?;

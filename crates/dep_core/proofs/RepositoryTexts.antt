@@ -16,7 +16,7 @@ use Rattle.dep_core.specs.Dependency.{is_tag, is_tag_byte}
 use Rattle.dep_core.specs.DependencyText.{is_tag_or_none}
 use Rattle.dep_core.specs.Reading.{without_leading_bytes}
 use Rattle.dep_core.specs.Repositories.{Repository, repository_at_path, with_repositories_of_line, begins_with_blank, is_blank_or_comment, singleton, repositories_from, repositories_of, repositories_on_line, repository, repository_of, repository_after_at_sign, without_outer_blanks, without_trailing_blanks}
-use Rattle.dep_core.specs.RepositoryText.{is_line_path, is_line_repository, repositories_text, tag_prefix}
+use Rattle.dep_core.specs.RepositoryText.{is_path_writable_in_line, is_repository_writable_as_line, repositories_text, tag_prefix}
 use Rattle.dep_core.specs.World.{is_blank, is_line_end, lines_of}
 use Rattle.dep_core.proofs.Spelled.{run, past_run}
 
@@ -99,11 +99,11 @@ on-line tag path t n s =
 
 -- ---- the whole text
 
-lines-read : (rs : List Repository) (k : ℕ) → list_all is_line_repository rs ≡ true → repositories_from k (lines_of (repositories_text rs)) ≡ Ok rs
+lines-read : (rs : List Repository) (k : ℕ) → list_all is_repository_writable_as_line rs ≡ true → repositories_from k (lines_of (repositories_text rs)) ≡ Ok rs
 lines-read [] k h = refl
 lines-read (r ∷ rs) k h =
-    let parts : (is_line_repository r ≡ true) × (list_all is_line_repository rs ≡ true) = and_parts (is_line_repository r) (list_all is_line_repository rs) h in
-    let both : (is_tag_or_none r.tag ≡ true) × (is_line_path r.path ≡ true) = and_parts (is_tag_or_none r.tag) (is_line_path r.path) parts.0 in
+    let parts : (is_repository_writable_as_line r ≡ true) × (list_all is_repository_writable_as_line rs ≡ true) = and_parts (is_repository_writable_as_line r) (list_all is_repository_writable_as_line rs) h in
+    let both : (is_tag_or_none r.tag ≡ true) × (is_path_writable_in_line r.path ≡ true) = and_parts (is_tag_or_none r.tag) (is_path_writable_in_line r.path) parts.0 in
     let path = and_parts (is_name r.path) (list_all is_in_line r.path && eqb (suffix_len is_blank r.path) 0) both.1 in
     let ends : (list_all is_in_line r.path ≡ true) × (eqb (suffix_len is_blank r.path) 0 ≡ true) = and_parts (list_all is_in_line r.path) (eqb (suffix_len is_blank r.path) 0) path.1 in
     let in_line : list_all is_in_line (tag_prefix r.tag ++ (47 ∷ r.path)) ≡ true =
@@ -111,6 +111,6 @@ lines-read (r ∷ rs) k h =
     ap (repositories_from k) (slice_split_at is_line_end (tag_prefix r.tag ++ (47 ∷ r.path)) 10 (repositories_text rs) (no_line_end (tag_prefix r.tag ++ (47 ∷ r.path)) in_line) refl)
     ∙ (λ i. with_repositories_of_line k (on-line r.tag r.path both.0 path.0 (eqb-true (suffix_len is_blank r.path) 0 ends.1) i) (lines-read rs (k + 1) parts.1 i))
 
-pub repositories-read : (rs : List Repository) → list_all is_line_repository rs ≡ true → repositories_of (repositories_text rs) ≡ Ok rs
+pub repositories-read : (rs : List Repository) → list_all is_repository_writable_as_line rs ≡ true → repositories_of (repositories_text rs) ≡ Ok rs
 unfolding repositories_of
 repositories-read rs h = lines-read rs 1 h

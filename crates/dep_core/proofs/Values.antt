@@ -7,11 +7,11 @@ use Rattle.dep_core.specs.Dependency.{Dependency, dependency_from_parts, is_dep_
 use Rattle.dep_core.specs.DependencyText.{IsDependency, is_constraint_or_none, is_tag_or_none, operator_text}
 use Rattle.dep_core.specs.Reading.{dependency_on_any_version}
 use Rattle.dep_core.specs.Value.{dep_value, is_match_number, is_version_or_empty, match_number_of}
-use Rattle.dep_core.specs.ValueReading.{match_bits_unless_any_version, dependency_of_value, with_wanted_version}
+use Rattle.dep_core.specs.ValueReading.{match_bits_unless_any_version, dependency_of_value, with_wanted_version_if_any}
 use Rattle.dep_core.proofs.Operators.{each_operator}
 use Rattle.dep_core.proofs.Versions.{Versions}
 
-value-at : (name version : List ℕ) (matching : ℕ) (d : Dependency) → is_dep_name name ≡ true → is_version_or_empty version ≡ true → is_match_number matching ≡ true → with_wanted_version (dependency_on_any_version (not (nat_lt matching 16)) name) version (match_bits_unless_any_version (matching % 16)) ≡ d → dependency_of_value name version matching ≡ Some d
+value-at : (name version : List ℕ) (matching : ℕ) (d : Dependency) → is_dep_name name ≡ true → is_version_or_empty version ≡ true → is_match_number matching ≡ true → with_wanted_version_if_any (dependency_on_any_version (not (nat_lt matching 16)) name) version (match_bits_unless_any_version (matching % 16)) ≡ d → dependency_of_value name version matching ≡ Some d
 unfolding dependency_of_value
 value-at name version matching d n v m e = λ i. cond (n i && (v i && m i)) (Some (e i)) None
 
@@ -33,10 +33,10 @@ row name b rest bits strict plain n v my mn gy gn ly ln by bn = by_conflict
     by_conflict : IsRead name b rest bits
     by_conflict true =
         ap (dependency_of_value name (b ∷ rest)) my
-        ∙ value-at name (b ∷ rest) strict _ n v gy (λ i. with_wanted_version (dependency_on_any_version (not (ly i)) name) (b ∷ rest) (by i))
+        ∙ value-at name (b ∷ rest) strict _ n v gy (λ i. with_wanted_version_if_any (dependency_on_any_version (not (ly i)) name) (b ∷ rest) (by i))
     by_conflict false =
         ap (dependency_of_value name (b ∷ rest)) mn
-        ∙ value-at name (b ∷ rest) plain _ n v gn (λ i. with_wanted_version (dependency_on_any_version (not (ln i)) name) (b ∷ rest) (bn i))
+        ∙ value-at name (b ∷ rest) plain _ n v gn (λ i. with_wanted_version_if_any (dependency_on_any_version (not (ln i)) name) (b ∷ rest) (bn i))
 
 with-version : (name : List ℕ) (b : ℕ) (rest : List ℕ) (bits : ℕ) → is_dep_name name ≡ true → is_version (b ∷ rest) ≡ true → is_some (operator_text bits) ≡ true → IsRead name b rest bits
 with-version name b rest bits n v o =

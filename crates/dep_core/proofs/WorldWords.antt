@@ -16,7 +16,7 @@ use Rattle.dep_core.specs.Reading.{dependency_of}
 use Rattle.dep_core.specs.World.{IsWorld, has_dependency_named, lines_of, or_bad_line, world_with_dependency_set, world_with_lines, world_with_new_dependency, world_with_words, words_of_line, world_of}
 use Rattle.base_core.specs.ByteOrder.{bytes_cmp}
 use Rattle.base_core.proofs.Booleans.{or_swap}
-use Rattle.dep_core.specs.Entries.{IsFirstBadLineOfWorldText, IsWorldOf, have_different_names, words_in}
+use Rattle.dep_core.specs.Entries.{IsFirstBadLineOfWorldText, IsWorldOfText, have_different_names, words_in}
 use Rattle.dep_core.proofs.Operators.{some-inj}
 use Rattle.dep_core.proofs.ReadOut.{read-out}
 use Rattle.dep_core.proofs.Worlds.{IsWorld-world_with_dependency_set, cmp-back}
@@ -155,7 +155,7 @@ words-good (x ∷ words) (d ∷ ds) w r a n =
 
 -- ---- the whole text
 
-pub world-words : (text : List ℕ) (world : List Dependency) → world_of text ≡ Ok world → IsWorldOf text world
+pub world-words : (text : List ℕ) (world : List Dependency) → world_of text ≡ Ok world → IsWorldOfText text world
 unfolding world_of
 world-words text world h =
     let out : AreRead (words_in text) [] world = words-read (words_in text) world [] (sym (lines-words (lines_of text) 1 []) ∙ ap result_ok h) in

@@ -18,7 +18,7 @@ have_different_names (d ∷ rest) = not (has_dependency_named d.name rest) && ha
 
 -- `world` is the world of the text: each word of the text is a dependency, no name occurs twice, and the world has
 -- exactly these dependencies, in byte order of their names
-pub record IsWorldOf (text : List ℕ) (world : List Dependency) : Type 0 where
+pub record IsWorldOfText (text : List ℕ) (world : List Dependency) : Type 0 where
   -- the dependencies of the words, in the order of the words
   pub entries : List Dependency
   -- each word is a dependency

@@ -8,13 +8,13 @@ use Rattle.dep_core.specs.Repositories.{Repository}
 use Rattle.dep_core.specs.World.{is_blank, is_line_end}
 
 -- whether a line can have this path: it is a name, has no line end, and does not end with a space or a tab
-abbrev pub is_line_path : List ℕ → Bool
-is_line_path path =
+abbrev pub is_path_writable_in_line : List ℕ → Bool
+is_path_writable_in_line path =
     is_name path && (list_all (λ b. not (is_line_end b)) path && (suffix_len is_blank path == 0))
 
 -- whether a line can name this repository: its tag is a tag, and a line can have its path
-abbrev pub is_line_repository : Repository → Bool
-is_line_repository found = is_tag_or_none found.tag && is_line_path found.path
+abbrev pub is_repository_writable_as_line : Repository → Bool
+is_repository_writable_as_line found = is_tag_or_none found.tag && is_path_writable_in_line found.path
 
 -- the text before the path: `@` (64), the tag and a space (32), or nothing if there is no tag
 abbrev pub tag_prefix : Option (List ℕ) → List ℕ

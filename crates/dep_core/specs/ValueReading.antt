@@ -16,16 +16,16 @@ match_bits_unless_any_version low =
 
 -- the dependency with this wanted version and these match bits; unchanged if the version is empty
 -- or there are no match bits
-abbrev pub with_wanted_version : Dependency → List ℕ → Option ℕ → Dependency
-with_wanted_version d [] bits = d
-with_wanted_version d (b ∷ rest) None = d
-with_wanted_version d (b ∷ rest) (Some bits) = with_constraint d (b ∷ rest) bits
+abbrev pub with_wanted_version_if_any : Dependency → List ℕ → Option ℕ → Dependency
+with_wanted_version_if_any d [] bits = d
+with_wanted_version_if_any d (b ∷ rest) None = d
+with_wanted_version_if_any d (b ∷ rest) (Some bits) = with_constraint d (b ∷ rest) bits
 
 -- the dependency that a name, a version and a match number denote, or None if one of them is not
 -- allowed; from 16 on it is a conflict
 unfoldable pub dependency_of_value : List ℕ → List ℕ → ℕ → Option Dependency
 dependency_of_value name version matching =
     if is_dep_name name && (is_version_or_empty version && is_match_number matching) then
-    Some (with_wanted_version (dependency_on_any_version (not (nat_lt matching 16)) name) version
+    Some (with_wanted_version_if_any (dependency_on_any_version (not (nat_lt matching 16)) name) version
     (match_bits_unless_any_version (matching % 16)))
     else None

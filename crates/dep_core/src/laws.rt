@@ -10,9 +10,9 @@ ghost use Rattle.dep_core.specs.Spelling.{SpellsDependency};
 ghost use Rattle.dep_core.specs.Value.{dep_value};
 ghost use Rattle.dep_core.specs.ValueReading.{dependency_of_value};
 ghost use Rattle.dep_core.specs.World.{IsWorld, world_of, world_text};
-ghost use Rattle.dep_core.specs.Entries.{IsFirstBadLineOfWorldText, IsWorldOf, have_different_names, words_in};
+ghost use Rattle.dep_core.specs.Entries.{IsFirstBadLineOfWorldText, IsWorldOfText, have_different_names, words_in};
 ghost use Rattle.dep_core.specs.Repositories.{Repository, repositories_of};
-ghost use Rattle.dep_core.specs.RepositoryText.{is_line_repository, repositories_text};
+ghost use Rattle.dep_core.specs.RepositoryText.{is_repository_writable_as_line, repositories_text};
 ghost use Rattle.std.specs.List.{list_all};
 
 use version_core::versions_have_version_bytes;
@@ -67,7 +67,7 @@ pub fn worlds_are_read_back()
 /// once, in byte order.
 pub fn worlds_hold_their_words()
     ensures { (text : List ℕ) (world : List Dependency) → world_of text ≡ Ok world
-        → IsWorldOf text world }
+        → IsWorldOfText text world }
 {}
 
 /// A text whose words are all dependencies, of different names, is read as a world.
@@ -86,6 +86,6 @@ pub fn first_bad_line_is_reported()
 /// A text that names repositories is read as these repositories, if each of them can be written on
 /// a line.
 pub fn repositories_are_read_back()
-    ensures { (found : List Repository) → IsTrue (list_all is_line_repository found) →
+    ensures { (found : List Repository) → IsTrue (list_all is_repository_writable_as_line found) →
         repositories_of (repositories_text found) ≡ Ok found }
 {}

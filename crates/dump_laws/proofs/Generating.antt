@@ -4,7 +4,7 @@ use Rattle.std.proofs.lemmas.Bool.{eqb-true}
 use Rattle.std.specs.Prelude.{All, IfSome, IsSome, unwrap_or}
 use Rattle.base_core.specs.declared.cause.Cause.{Cause}
 use Rattle.adb_block.specs.Header.{schema_of_header}
-use Rattle.adb_block.specs.ReaderPosition.{first_block_position}
+use Rattle.adb_block.specs.ReaderPosition.{first_block_position_of_schema_and_file}
 use Rattle.adb_block.specs.Reading.{Reading, block_stream_from}
 use Rattle.adb_view.specs.Plain.{Plain, null, plain_of, IsNormal}
 use Rattle.adb_view.specs.Head.{root_word_of_payload}
@@ -14,9 +14,9 @@ use Rattle.adb_view.specs.declared.tables.Which.{Which}
 use Rattle.adb_view.specs.declared.tables.Which.TheVariants.{Package, Index, Idb, Intent}
 use Rattle.adb_view.specs.declared.tables.Kind.TheVariants.{Obj}
 use Rattle.adb_view.proofs.FoundShapes.{shape_null}
-use Rattle.outcome.specs.adb_schema.Soundness.{first_block_payload, payload_after_header, payload_in, root_value, schema_word}
+use Rattle.outcome.specs.adb_schema.Soundness.{first_block_payload, payload_after_header, payload_in, root_value_of_payload, schema_word}
 use Rattle.outcome.specs.adb_schema.declared.read.TheConstants.{PACKAGE_WORD, INDEX_WORD, IDB_WORD, INTENT_WORD}
-use Rattle.outcome.specs.adb_write.Canonical.{PayloadCounts, canonical, payload_or_overflow}
+use Rattle.outcome.specs.adb_write.Canonical.{ByteAndValueCounts, canonical, payload_or_overflow}
 use Rattle.outcome.specs.adb_write.File.{file_of}
 use Rattle.outcome.specs.pkg_core.Whole.{table_of_schema}
 use Rattle.outcome.proofs.adb_sound.Lower.{Lower}
@@ -46,7 +46,7 @@ some_word w e = go (schema_word w) e
     go (Some n) e = refl
 
 -- the payload of a container that was generated
-written_file : (word : ℕ) (r : Result (List ℕ) PayloadCounts) (file : List ℕ) → file_unless_too_large word r ≡ Ok file → (payload : List ℕ) × (r ≡ Ok payload) × (file_of word payload ≡ file)
+written_file : (word : ℕ) (r : Result (List ℕ) ByteAndValueCounts) (file : List ℕ) → file_unless_too_large word r ≡ Ok file → (payload : List ℕ) × (r ≡ Ok payload) × (file_of word payload ≡ file)
 written_file word (Ok payload) file e = (payload, refl, cc)
 written_file word (Err counts) file e = absurd cc
 
@@ -98,25 +98,25 @@ word_known : (which : Which) (schema : ℕ) → schema_word which ≡ Some schem
 word_known which schema e = (subst IsSome (sym e) refl, ap (λ (o : Option ℕ). unwrap_or o 0) e)
 
 -- what is printed of blocks
-text_of_blocks : (which : Which) (r : Reading) (text : List ℕ) → dump_of_blocks which r ≡ Ok text → dump_text which (root_value which (first_block_payload r)) ≡ text
+text_of_blocks : (which : Which) (r : Reading) (text : List ℕ) → dump_of_blocks which r ≡ Ok text → dump_text which (root_value_of_payload which (first_block_payload r)) ≡ text
 text_of_blocks which r text e = go (dump_fault_of_blocks which r) e
   where
-    go : (o : Option Cause) → text_unless_fault o (dump_text which (root_value which (first_block_payload r))) ≡ Ok text → dump_text which (root_value which (first_block_payload r)) ≡ text
+    go : (o : Option Cause) → text_unless_fault o (dump_text which (root_value_of_payload which (first_block_payload r))) ≡ Ok text → dump_text which (root_value_of_payload which (first_block_payload r)) ≡ text
     go None e = cc
     go (Some c) e = absurd cc
 
-printed_text : (file text : List ℕ) (schema : ℕ) (which : Which) → dump_of file ≡ Ok text → schema_of_header file ≡ Ok schema → table_of_schema schema ≡ Some which → dump_text which (root_value which (payload_in file)) ≡ text
+printed_text : (file text : List ℕ) (schema : ℕ) (which : Which) → dump_of file ≡ Ok text → schema_of_header file ≡ Ok schema → table_of_schema schema ≡ Some which → dump_text which (root_value_of_payload which (payload_in file)) ≡ text
 unfolding dump_of payload_in
 printed_text file text schema which e h root =
-    let r = block_stream_from (first_block_position schema file) in
+    let r = block_stream_from (first_block_position_of_schema_and_file schema file) in
     let blocks : dump_of_blocks which r ≡ Ok text = sym (ap (dump_by_schema file) h ∙ ap (dump_by_root_table schema r) root) ∙ e in
-    ap (λ (o : Result ℕ Cause). dump_text which (root_value which (payload_after_header file o))) h ∙ text_of_blocks which r text blocks
+    ap (λ (o : Result ℕ Cause). dump_text which (root_value_of_payload which (payload_after_header file o))) h ∙ text_of_blocks which r text blocks
 
 null_root : (which : Which) → IsNormalValueOfTable which null × IsOfBytes null
 unfolding IsNormal IsOfBytes
 null_root which = ((tt, shape_null (shape_of (Obj which))), tt)
 
-found_value : Found → (which : Which) (payload : List ℕ) → All (λ b. b < 256) payload → IsNormalValueOfTable which (root_value which payload) × IsOfBytes (root_value which payload)
+found_value : Found → (which : Which) (payload : List ℕ) → All (λ b. b < 256) payload → IsNormalValueOfTable which (root_value_of_payload which payload) × IsOfBytes (root_value_of_payload which payload)
 unfolding value_at
 found_value found which payload bytes = go (plain_of payload (shape_of (Obj which)) (root_word_of_payload payload)) (found payload bytes which (root_word_of_payload payload))
   where
@@ -125,15 +125,15 @@ found_value found which payload bytes = go (plain_of payload (shape_of (Obj whic
     go (Some v) h = h
 
 pub generated_value : Texts → Found → (file text : List ℕ) (schema : ℕ) (which : Which) → All (λ b. b < 256) (payload_in file) → dump_of file ≡ Ok text → schema_of_header file ≡ Ok schema → table_of_schema schema ≡ Some which
-    → generated_file text ≡ file_unless_too_large schema (payload_or_overflow (root_value which (payload_in file)))
+    → generated_file text ≡ file_unless_too_large schema (payload_or_overflow (root_value_of_payload which (payload_in file)))
 generated_value texts found file text schema which bytes e h root =
     let word = root_word schema which root in
     let k = word_known which schema word in
     let v = found_value found which (payload_in file) bytes in
-    let is : IsNormalRootValueOfTable which (root_value which (payload_in file)) = record { root = k.0; normal = v.0; bytes = v.1 } in
+    let is : IsNormalRootValueOfTable which (root_value_of_payload which (payload_in file)) = record { root = k.0; normal = v.0; bytes = v.1 } in
     ap generated_file (sym (printed_text file text schema which e h root))
-    ∙ generated texts which (root_value which (payload_in file)) is
-    ∙ ap (λ (n : ℕ). file_unless_too_large n (payload_or_overflow (root_value which (payload_in file)))) k.1
+    ∙ generated texts which (root_value_of_payload which (payload_in file)) is
+    ∙ ap (λ (n : ℕ). file_unless_too_large n (payload_or_overflow (root_value_of_payload which (payload_in file)))) k.1
 
 abbrev ok_text : List ℕ → Result (List ℕ) Cause
 ok_text t = Ok t

@@ -7,7 +7,7 @@ use Rattle.base_core.specs.declared.cause.Cause.{Cause}
 use Rattle.base_core.proofs.Causes.{none_both}
 use Rattle.adb_block.specs.Piece.{Piece}
 use Rattle.adb_block.specs.Header.{schema_of_header}
-use Rattle.adb_block.specs.ReaderPosition.{first_block_position}
+use Rattle.adb_block.specs.ReaderPosition.{first_block_position_of_schema_and_file}
 use Rattle.adb_block.specs.Reading.{Reading, done, more, block_stream_from}
 use Rattle.adb_view.specs.Plain.{Plain, null, IsNormal}
 use Rattle.adb_view.specs.Head.{payload_head_fault, root_word_of_payload}
@@ -18,7 +18,7 @@ use Rattle.adb_view.specs.Walk.{shape_fault}
 use Rattle.adb_view.specs.Visits.{MOST_VALUES}
 use Rattle.adb_view.specs.declared.tables.Which.{Which}
 use Rattle.adb_view.specs.declared.tables.Kind.TheVariants.{Obj}
-use Rattle.outcome.specs.adb_schema.Soundness.{first_block_payload, root_value, schema_word}
+use Rattle.outcome.specs.adb_schema.Soundness.{first_block_payload, root_value_of_payload, schema_word}
 use Rattle.outcome.specs.adb_write.Canonical.{Layout, MOST_BYTES, canonical, empty_layout, exceeds_a_limit, overflow_of, payload_with_root, write, payload_or_overflow}
 use Rattle.outcome.specs.adb_write.Size.{payload_size_of, value_count}
 use Rattle.outcome.specs.adb_write.File.{adb_block_of_payload, file_of}
@@ -70,7 +70,7 @@ shape_good laws which v g =
 form_good : Lower → (which : Which) (v : Plain) → HasNamesAmong which v → payload_head_or_shape_fault which (canonical v) ≡ None
 form_good laws which v g = none_both _ _ (head_good (write v empty_layout).0 (write v empty_layout).1) (shape_good laws which v g)
 
-value_is : Lower → (which : Which) (v : Plain) → HasNamesAmong which v → root_value which (canonical v) ≡ v
+value_is : Lower → (which : Which) (v : Plain) → HasNamesAmong which v → root_value_of_payload which (canonical v) ≡ v
 unfolding value_at
 value_is laws which v g = ap (λ (o : Option Plain). unwrap_or o null) (laws.back (shape_of (Obj which)) v g.normal g.shaped g.fits)
 
@@ -79,7 +79,7 @@ value_is laws which v g = ap (λ (o : Option Plain). unwrap_or o null) (laws.bac
 blocks_printed : Lower → (which : Which) (v : Plain) → HasNamesAmong which v → (r : Reading) (at : ℕ) → r ≡ more (adb_block_of_payload (canonical v)) at done → dump_of_blocks which r ≡ Ok (dump_text which v)
 blocks_printed laws which v g r at is =
     ap (dump_of_blocks which) is
-    ∙ ap (λ (o : Option Cause). text_unless_fault o (dump_text which (root_value which (canonical v)))) (none_both _ _ (form_good laws which v g) refl)
+    ∙ ap (λ (o : Option Cause). text_unless_fault o (dump_text which (root_value_of_payload which (canonical v)))) (none_both _ _ (form_good laws which v g) refl)
     ∙ ap (λ (u : Plain). let text : Result (List ℕ) Cause = Ok (dump_text which u) in text) (value_is laws which v g)
 
 pub printed : Lower → (which : Which) (schema : ℕ) (v : Plain) → schema_word which ≡ Some schema → HasNamesAmong which v → dump_of (file_of schema (canonical v)) ≡ Ok (dump_text which v)
@@ -92,8 +92,8 @@ printed laws which schema v word g =
     let fits = g.fits in
     let spelled = laws.written schema pieces w.small (record { order = refl; long = long }, omega arith, contents_stand [] tt) in
     let read = laws.read file schema pieces spelled in
-    let first = first_of (block_stream_from (first_block_position schema file)) (adb_block_of_payload (canonical v)) [] (reading_is file schema pieces read.0 read.1) in
-    let alone : block_stream_from (first_block_position schema file) ≡ more (adb_block_of_payload (canonical v)) first.at done = first.is ∙ ap (λ (r : Reading). more (adb_block_of_payload (canonical v)) first.at r) (none_of_blocks first.later first.others) in
+    let first = first_of (block_stream_from (first_block_position_of_schema_and_file schema file)) (adb_block_of_payload (canonical v)) [] (reading_is file schema pieces read.0 read.1) in
+    let alone : block_stream_from (first_block_position_of_schema_and_file schema file) ≡ more (adb_block_of_payload (canonical v)) first.at done = first.is ∙ ap (λ (r : Reading). more (adb_block_of_payload (canonical v)) first.at r) (none_of_blocks first.later first.others) in
     ap (dump_by_schema file) read.0
-    ∙ ap (dump_by_root_table schema (block_stream_from (first_block_position schema file))) w.root
-    ∙ blocks_printed laws which v g (block_stream_from (first_block_position schema file)) first.at alone
+    ∙ ap (dump_by_root_table schema (block_stream_from (first_block_position_of_schema_and_file schema file))) w.root
+    ∙ blocks_printed laws which v g (block_stream_from (first_block_position_of_schema_and_file schema file)) first.at alone

@@ -9,7 +9,7 @@ ghost use Rattle.std.specs.Prelude.{◌≡◌, ◌<◌, ℕ, All, List, Some, Ok
 ghost use Rattle.adb_block.specs.Header.{schema_of_header};
 ghost use Rattle.adb_view.specs.declared.tables.Which.{Which};
 ghost use Rattle.adb_view.specs.Plain.{Plain};
-ghost use Rattle.outcome.specs.adb_schema.Soundness.{payload_in, root_value, schema_word};
+ghost use Rattle.outcome.specs.adb_schema.Soundness.{payload_in, root_value_of_payload, schema_word};
 ghost use Rattle.outcome.specs.adb_write.Canonical.{payload_or_overflow};
 ghost use Rattle.outcome.specs.adb_write.File.{file_of};
 ghost use Rattle.outcome.specs.pkg_core.Whole.{table_of_schema};
@@ -47,7 +47,8 @@ pub fn what_is_printed_is_generated_again()
         → All (λ b. b < 256) (payload_in file) → dump_of file ≡ Ok text
         → schema_of_header file ≡ Ok schema → table_of_schema schema ≡ Some which
         → generated_file text
-        ≡ file_unless_too_large schema (payload_or_overflow (root_value which (payload_in file))) }
+        ≡ file_unless_too_large schema (payload_or_overflow (root_value_of_payload which
+        (payload_in file))) }
     // A canonical container without contents is made again, byte for byte.
     ensures canonical { (which : Which) (value : Plain) (schema : ℕ) (payload text : List ℕ)
         → IsNormalRootValueOfTable which value → schema_word which ≡ Some schema

@@ -5,7 +5,7 @@ use Rattle.std.proofs.lemmas.Bool.{ne_eqb}
 use Rattle.std.proofs.lemmas.List.{length-map}
 use Rattle.std.specs.Option.{option_copied}
 use Rattle.std.specs.Str.{bytes_eq}
-use Rattle.added_packages.specs.adb_write.Canonical.{PayloadCounts, counts_after_values, overflow_of}
+use Rattle.added_packages.specs.adb_write.Canonical.{ByteAndValueCounts, counts_after_values, overflow_of}
 use Rattle.journal_staging.specs.adb_schema.Reserved.{is_reserved}
 use Rattle.base_core.specs.Listed.{AreSortedDistinctNames}
 use Rattle.base_core.specs.Name.{IsName}
@@ -16,7 +16,7 @@ use Rattle.base_core.specs.Files.{Files}
 use Rattle.base_core.specs.Tree.{TreeState, files_of}
 use Rattle.change_report.specs.change_files.FileChange.{FileChange}
 use Rattle.change_report.specs.change_files.FilesAfter.{DatabaseAndWorldAfter, listing_bytes}
-use Rattle.change_report.specs.change_files.PlanLists.{FileWrite, file_writes_of, first_reserved_path, sorted_distinct_names}
+use Rattle.change_report.specs.change_files.PlanLists.{FileWrite, file_writes_of, first_reserved_added_path, sorted_distinct_names}
 use Rattle.change_report.specs.change_inputs.Answers.{Agrees}
 use Rattle.change_report.specs.change_inputs.Chains.{and_then}
 use Rattle.change_report.specs.change_inputs.Inputs.{Inputs}
@@ -34,7 +34,7 @@ use Rattle.change_report.proofs.change_outcome.Room.{room}
 use Rattle.change_report.specs.change_outcome.ChangeOutcome.{ChangeDone, ChangeWishes, intent_of_change, bytes_or_empty_under, change_done, has_actions, file_change, is_absent_or_different, name_if_needed, database_and_world_after_change, or_result_too_large, unless_overflow, change_done_unless_too_large, names_of_written_database_and_world}
 use Rattle.change_report.specs.change_outcome.MembersAfter.{MemberFound, found_package_contents, found_members}
 use Rattle.change_report.specs.journal_core.Recovery.{files_after_actions, intent_name}
-use Rattle.change_report.specs.journal_core.Staged.{AreJournalPathsFree, AreStagingPathsFree, HasNoStagedNames, Staging, action_count, new_stage_of_removals_and_writes, files_with_staged}
+use Rattle.change_report.specs.journal_core.Staged.{AreIntentAndStagedPathsFree, HasEmptyStageAndFreeJournalPaths, HasNoStagedNames, Staging, action_count, new_stage_of_removals_and_writes, files_with_staged}
 use Rattle.change_report.specs.journal_intent.IntentValue.{intent_of_lists, value_of_intent}
 use Rattle.change_report.specs.change_files.NamesAfter.{name_change}
 use Rattle.change_report.specs.db_core.Members.{Member, is_added, member_name}
@@ -75,11 +75,11 @@ use Rattle.engine_core.proofs.SpoiledPackages.{found_spoiled}
 
 -- ---- limits of the writer
 
-fits : {A : Type 0} (o : Option PayloadCounts) (a : A) → unless_overflow o true ≡ Ok true → unless_overflow o a ≡ Ok a
+fits : {A : Type 0} (o : Option ByteAndValueCounts) (a : A) → unless_overflow o true ≡ Ok true → unless_overflow o a ≡ Ok a
 fits None a is = refl
 fits (Some counts) a is = absurd (cc)
 
-too_large : {A : Type 0} (o : Option PayloadCounts) (a : A) (refusal : Refusal) → unless_overflow o true ≡ Err refusal → unless_overflow o a ≡ Err refusal
+too_large : {A : Type 0} (o : Option ByteAndValueCounts) (a : A) (refusal : Refusal) → unless_overflow o true ≡ Err refusal → unless_overflow o a ≡ Err refusal
 too_large None a refusal is = absurd (cc)
 too_large (Some counts) a refusal is = let same : _ ≡ refusal = cc in ap Err same
 
@@ -165,7 +165,7 @@ records_are_reserved inputs records q here = two_reserved (is_absent_or_differen
 -- of the plan alone
 module _ (history : List TreeState) (p : Plan) (found : List MemberFound) (files : Files) (plan : IsPlanned history p found files) where
   pub no_reserved : HasNoReservedPath (file_change (inputs_of_plan p) (wishes_of_plan p) found)
-  no_reserved = record { before = plan.unreserved; coming = sym (ap first_reserved_path plan.arrived.members) ∙ plan.owners.allowed }
+  no_reserved = record { before = plan.unreserved; coming = sym (ap first_reserved_added_path plan.arrived.members) ∙ plan.owners.allowed }
 
   module _ (records : NewRecords) (own : AreNewRecordsOf (inputs_of_plan p) records) (rw : RecordWrites) (which : AreRecordWrites (inputs_of_plan p) records rw) where
     pub record_names_are : database_and_world_names rw ≡ names_of_written_database_and_world (inputs_of_plan p) (database_and_world_after_change (inputs_of_plan p) records.database.items)
@@ -268,7 +268,7 @@ module _ (history : List TreeState) (p : Plan) (found : List MemberFound) (files
   overflow_is = λ i. overflow_of (value_of_intent (intent_of_lists (removed_is i) (written_is i)))
 
   pub ready_fits : unless_overflow (overflow_of (value_of_intent (intent_of_lists removals (map name_of_write writes)))) true ≡ Ok true → wanted ≡ Ok done
-  ready_fits is = fits (overflow_of (value_of_intent actions)) done (ap (λ (o : Option PayloadCounts). unless_overflow o true) (sym overflow_is) ∙ is)
+  ready_fits is = fits (overflow_of (value_of_intent actions)) done (ap (λ (o : Option ByteAndValueCounts). unless_overflow o true) (sym overflow_is) ∙ is)
 
   pub commits_is : has_actions (record { removals = removals; writes = map name_of_write writes }) ≡ done.commits
   commits_is = λ i. has_actions (record { removals = removed_is i; writes = written_is i })
@@ -312,24 +312,24 @@ module _ (history : List TreeState) (p : Plan) (found : List MemberFound) (files
             subst (P v) (acted v told root empty) (run (map (bytes_or_empty_under done.files) (map name_of_write writes)) absent empty (located v earlier read told root))
 
     -- files that leave room leave it after the change
-    pub room_after : IfObservable history (λ v. AreStagingPathsFree (files_of v) → AreJournalPathsFree done.files)
+    pub room_after : IfObservable history (λ v. HasEmptyStageAndFreeJournalPaths (files_of v) → AreIntentAndStagedPathsFree done.files)
     room_after = by history ready.plan.told ready.plan.no_clash
       where
         by : (h : List TreeState) → IfObservable h (λ v. files ≡ files_of v) → IfObservable h (λ v. HasNoClash (name_change change files) files)
-            → IfObservable h (λ v. AreStagingPathsFree (files_of v) → AreJournalPathsFree done.files)
+            → IfObservable h (λ v. HasEmptyStageAndFreeJournalPaths (files_of v) → AreIntentAndStagedPathsFree done.files)
         by [] told apart = tt
         by (v ∷ earlier) told apart = λ stage.
-            (room change (listing_bytes (found_package_contents found)) records files free.coming (subst AreStagingPathsFree (sym told) stage) apart).beside
+            (room change (listing_bytes (found_package_contents found)) records files free.coming (subst HasEmptyStageAndFreeJournalPaths (sym told) stage) apart).beside
 
     -- no call is a misuse where there is room
     pub proper_shown : (ws : List StagedWrite) → ws ≡ writes → (before after : ℕ) → FilesAreRead history found (package_at p.packages.now.arrivals)
-        → IfObservable history (λ v. (contents : List (List ℕ)) → v.names intent_name ≡ None → HasNoStagedNames (files_of v) → EachDenotes (files_of v) ws contents → AreJournalPathsFree (files_of v)
-        → AreJournalPathsFree (files_after_actions stage.intent (files_with_staged 1 contents (files_of v))) → after ≡ before)
-        → IfObservable history (λ v. v.names intent_name ≡ None → HasNoStagedNames (files_of v) → AreStagingPathsFree (files_of v) → after ≡ before)
-    proper_shown ws ws_is before after read proper = both history (where_shown ws ws_is (λ v left. AreJournalPathsFree (files_of v) → AreJournalPathsFree left → after ≡ before) read proper) room_after
+        → IfObservable history (λ v. (contents : List (List ℕ)) → v.names intent_name ≡ None → HasNoStagedNames (files_of v) → EachDenotes (files_of v) ws contents → AreIntentAndStagedPathsFree (files_of v)
+        → AreIntentAndStagedPathsFree (files_after_actions stage.intent (files_with_staged 1 contents (files_of v))) → after ≡ before)
+        → IfObservable history (λ v. v.names intent_name ≡ None → HasNoStagedNames (files_of v) → HasEmptyStageAndFreeJournalPaths (files_of v) → after ≡ before)
+    proper_shown ws ws_is before after read proper = both history (where_shown ws ws_is (λ v left. AreIntentAndStagedPathsFree (files_of v) → AreIntentAndStagedPathsFree left → after ≡ before) read proper) room_after
       where
-        both : (h : List TreeState) → IfObservable h (λ v. v.names intent_name ≡ None → HasNoStagedNames (files_of v) → AreJournalPathsFree (files_of v) → AreJournalPathsFree done.files → after ≡ before)
-            → IfObservable h (λ v. AreStagingPathsFree (files_of v) → AreJournalPathsFree done.files) → IfObservable h (λ v. v.names intent_name ≡ None → HasNoStagedNames (files_of v) → AreStagingPathsFree (files_of v) → after ≡ before)
+        both : (h : List TreeState) → IfObservable h (λ v. v.names intent_name ≡ None → HasNoStagedNames (files_of v) → AreIntentAndStagedPathsFree (files_of v) → AreIntentAndStagedPathsFree done.files → after ≡ before)
+            → IfObservable h (λ v. HasEmptyStageAndFreeJournalPaths (files_of v) → AreIntentAndStagedPathsFree done.files) → IfObservable h (λ v. v.names intent_name ≡ None → HasNoStagedNames (files_of v) → HasEmptyStageAndFreeJournalPaths (files_of v) → after ≡ before)
         both [] proper has = tt
         both (v ∷ earlier) proper has = λ absent empty stage. proper absent empty stage.beside (has stage)
 
@@ -341,8 +341,8 @@ module _ (history : List TreeState) (p : Plan) (found : List MemberFound) (files
   -- ---- what comes of the run
 
   module _ (is : wanted ≡ Ok done) (commits : done.commits ≡ true) (now : List TreeState) (before after : Counts)
-      (proper : IfObservable history (λ v. v.names intent_name ≡ None → HasNoStagedNames (files_of v) → AreStagingPathsFree (files_of v) → after.misuses ≡ before.misuses)) where
-    proper_where : IfObservable history (λ v. v.names intent_name ≡ None → HasNoStagedNames (files_of v) → (DoesCommit wanted → AreStagingPathsFree (files_of v)) → after.misuses ≡ before.misuses)
+      (proper : IfObservable history (λ v. v.names intent_name ≡ None → HasNoStagedNames (files_of v) → HasEmptyStageAndFreeJournalPaths (files_of v) → after.misuses ≡ before.misuses)) where
+    proper_where : IfObservable history (λ v. v.names intent_name ≡ None → HasNoStagedNames (files_of v) → (DoesCommit wanted → HasEmptyStageAndFreeJournalPaths (files_of v)) → after.misuses ≡ before.misuses)
     proper_where = if_told history _ _ proper (λ v same absent empty has. same absent empty (has (subst DoesCommit (sym is) commits)))
 
     abbrev Carried : Result (Unit {0}) StageFault → Type 0
@@ -441,7 +441,7 @@ pub entry_large : {A : Type 0} (view : A → Bool) (history : List TreeState) (p
     → Agrees view (Err fault) (unless_overflow (overflow_of (value_of_intent (intent_of_lists removals (map name_of_write writes)))) true)
     → Agrees {A = Bool} {B = Bool} (λ _. true) (Err fault) (unless_overflow (overflow_of (value_of_intent (intent_of_change (inputs_of_plan p) (file_change (inputs_of_plan p) (wishes_of_plan p) found) files (database_and_world_after_change (inputs_of_plan p) made.database.items)))) true)
 entry_large view history p found files made rw writes removals ready (IsRefused refusal) told =
-    ap (λ (o : Option PayloadCounts). unless_overflow o true) (sym (overflow_is history p found files made rw writes removals ready)) ∙ told
+    ap (λ (o : Option ByteAndValueCounts). unless_overflow o true) (sym (overflow_is history p found files made rw writes removals ready)) ∙ told
 entry_large view history p found files made rw writes removals ready Disk told = told
 entry_large view history p found files made rw writes removals ready Memory told = tt
 
@@ -525,8 +525,8 @@ module _ (history : List TreeState) (p : Plan) (r : Rendered) (ready : IsReadyTo
       (stage : Staging) (staged : r.stage ≡ Some stage) (few : action_count stage.intent < 2 ^ 63) (ws : List StagedWrite) (ws_is : ws ≡ r.writes.items) (now : List TreeState) (before after : Counts) (res : Result (Unit {0}) StageFault)
       (run : IfObservable history (λ v. (contents : List (List ℕ)) → v.names intent_name ≡ None → HasNoStagedNames (files_of v) → EachDenotes (files_of v) ws contents
       → IsCarriedTo {A = Unit {0}} (files_after_actions stage.intent (files_with_staged 1 contents (files_of v))) v history now res))
-      (proper : IfObservable history (λ v. (contents : List (List ℕ)) → v.names intent_name ≡ None → HasNoStagedNames (files_of v) → EachDenotes (files_of v) ws contents → AreJournalPathsFree (files_of v)
-      → AreJournalPathsFree (files_after_actions stage.intent (files_with_staged 1 contents (files_of v))) → after.misuses ≡ before.misuses)) where
+      (proper : IfObservable history (λ v. (contents : List (List ℕ)) → v.names intent_name ≡ None → HasNoStagedNames (files_of v) → EachDenotes (files_of v) ws contents → AreIntentAndStagedPathsFree (files_of v)
+      → AreIntentAndStagedPathsFree (files_after_actions stage.intent (files_with_staged 1 contents (files_of v))) → after.misuses ≡ before.misuses)) where
     of_stage : (has_actions (record { removals = removals_of_plan p; writes = map name_of_write r.writes.items }) ≡ true) × (stage ≡ new_stage_of_removals_and_writes (removals_of_plan p) (map name_of_write r.writes.items))
     of_stage = stage_of r.stage stage (removals_of_plan p) (map name_of_write r.writes.items) staged ready.rendered.stage
 
@@ -540,7 +540,7 @@ module _ (history : List TreeState) (p : Plan) (r : Rendered) (ready : IsReadyTo
     carried =
         where_shown history p ready.found ready.files ready.records of_records r.writes.items (removals_of_plan p) made few_names stage of_stage.1 ws ws_is (λ v left. IsCarriedTo {A = Unit {0}} left v history now res) law run
 
-    no_misuse : IfObservable history (λ v. v.names intent_name ≡ None → HasNoStagedNames (files_of v) → AreStagingPathsFree (files_of v) → after.misuses ≡ before.misuses)
+    no_misuse : IfObservable history (λ v. v.names intent_name ≡ None → HasNoStagedNames (files_of v) → HasEmptyStageAndFreeJournalPaths (files_of v) → after.misuses ≡ before.misuses)
     no_misuse =
         proper_shown history p ready.found ready.files ready.records of_records r.writes.items (removals_of_plan p) made few_names stage of_stage.1 ws ws_is before.misuses after.misuses law proper
 
@@ -566,7 +566,7 @@ module _ (history : List TreeState) (p : Plan) (r : Rendered) (ready : IsReadyTo
         refused bad)
 
 -- a journal entry that is too large is refused
-entry_refused : (packages : Result (List MemberFound) Refusal) (overflow : Option PayloadCounts) (ends : ChangeDone) (history : List TreeState) (counts : Counts) (fault : Refused)
+entry_refused : (packages : Result (List MemberFound) Refusal) (overflow : Option ByteAndValueCounts) (ends : ChangeDone) (history : List TreeState) (counts : Counts) (fault : Refused)
     → Agrees {A = Bool} {B = Bool} (λ _. true) (Err fault) (unless_overflow overflow true) → IsEndOfRunOfWantedChange packages (unless_overflow overflow ends) history history counts counts (Err fault)
 entry_refused packages overflow ends history counts (IsRefused refusal) told =
     comes_to_refusal packages (unless_overflow overflow ends) history history counts counts (nothing_read history counts) refusal (too_large overflow ends refusal told)

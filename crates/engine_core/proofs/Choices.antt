@@ -1,7 +1,7 @@
 -- There is one choice.
 use Rattle.std.proofs.Common.{◌≡◌, inl, inr, ℕ, ◌+◌, List, Option, Some, None, Result, Ok, Err, refl, sym, ap, subst, ◌∙◌, arith}
 use Rattle.change_report.specs.candidate_core.Candidates.{Need, is_eligible}
-use Rattle.change_report.specs.candidate_core.Options.{IsIn, places_passing_from}
+use Rattle.change_report.specs.candidate_core.Options.{IsIn, places_passing_counted_from}
 use Rattle.change_report.specs.candidate_core.Rank.{SealedPool}
 use Rattle.change_report.proofs.candidate_core.OptionLists.{in_places}
 use Rattle.report_core.specs.declared.refusal.Refusal.{Refusal}
@@ -11,7 +11,7 @@ use Rattle.change_report.proofs.solve_core.Existence.{first_or_none}
 use Rattle.change_report.proofs.solve_core.FirstFound.{none_satisfies}
 use Rattle.change_report.proofs.search_tables.PoolFacts.{pool_facts}
 use Rattle.change_report.proofs.search_tables.Satisfying.{closed_of_satisfying, satisfying_of_closed}
-use Rattle.engine_core.specs.Choice.{IsPreferredChoice, IsChoiceFrom}
+use Rattle.engine_core.specs.Choice.{IsPreferredChoice, IsPreferredChoiceUnlessRefused}
 
 -- what a pool promises of the options of each need
 abbrev pub HaveOptions : Type 0
@@ -20,7 +20,7 @@ HaveOptions = (pool : SealedPool) (need : Need) → HasOptions pool need
 pool_choice : HaveOptions → (pool : SealedPool) → (chosen : Option (List ℕ)) × IsPreferredChoice pool chosen
 pool_choice has pool =
     let facts = pool_facts pool (has pool) in
-    let all = places_passing_from 0 (is_eligible pool.world) pool.candidates in
+    let all = places_passing_counted_from 0 (is_eligible pool.world) pool.candidates in
     elim (first_or_none pool facts all (λ c h. let z : 0 + c ≡ c = omega arith in subst (λ (k : ℕ). IsIn k all) z (in_places 0 (is_eligible pool.world) pool.candidates c h))) [
       | inl found ↦ (
         Some found.0,
@@ -33,7 +33,7 @@ pool_choice has pool =
       | inr dead ↦ (None, none_satisfies pool dead)
     ]
 
-pub choice_exists : HaveOptions → (pool : Result SealedPool Refusal) → (chosen : Option (List ℕ)) × IsChoiceFrom pool chosen
+pub choice_exists : HaveOptions → (pool : Result SealedPool Refusal) → (chosen : Option (List ℕ)) × IsPreferredChoiceUnlessRefused pool chosen
 choice_exists has (Ok pool) = pool_choice has pool
 choice_exists has (Err refusal) = (None, refl)
 
@@ -47,6 +47,6 @@ pool_one one pool None (Some t) x y = absurd (x t y.satisfies)
 pool_one one pool (Some t) None x y = absurd (y t x.satisfies)
 pool_one one pool (Some t) (Some u) x y = ap Some (one pool t u x y)
 
-pub choice_one : HasOneFirst → (pool : Result SealedPool Refusal) (a b : Option (List ℕ)) → IsChoiceFrom pool a → IsChoiceFrom pool b → a ≡ b
+pub choice_one : HasOneFirst → (pool : Result SealedPool Refusal) (a b : Option (List ℕ)) → IsPreferredChoiceUnlessRefused pool a → IsPreferredChoiceUnlessRefused pool b → a ≡ b
 choice_one one (Ok pool) a b x y = pool_one one pool a b x y
 choice_one one (Err refusal) a b x y = x ∙ sym y

@@ -4,7 +4,7 @@ use Rattle.std.specs.Prelude.{All, IsSome, OnOk}
 use Rattle.std.proofs.lemmas.List.Elements.{All-head}
 use Rattle.base_core.specs.Calls.{IfObservable}
 use Rattle.base_core.specs.Faults.{Counts}
-use Rattle.base_core.specs.Files.{Files, HasNamesAmong, no_names}
+use Rattle.base_core.specs.Files.{Files, HasOnlyNamesAmong, no_names}
 use Rattle.base_core.specs.Read.{OnlyReads}
 use Rattle.base_core.specs.Tree.{IsWellFormed, TreeState, bytes_of_file_number, files_of}
 use Rattle.change_report.specs.change_inputs.Answers.{AgreesUnlessDiskOrMemory, IsDiskOrMemoryFailure}
@@ -12,35 +12,35 @@ use Rattle.change_report.specs.change_inputs.Chains.{and_then}
 use Rattle.change_report.specs.change_inputs.Inputs.{Inputs}
 use Rattle.change_report.specs.change_inputs.declared.root.Refused.{Refused}
 use Rattle.change_report.specs.change_inputs.declared.root.Refused.TheVariants.{Disk, Memory, Refusal as IsRefused}
-use Rattle.change_report.specs.change_outcome.ChangeOutcome.{ChangeDone, ChangeWishes, IsClashOfChange}
+use Rattle.change_report.specs.change_outcome.ChangeOutcome.{ChangeDone, ChangeWishes, IsFirstClashOfChange}
 use Rattle.change_report.specs.change_outcome.MembersAfter.{MemberFound}
 use Rattle.command_core.specs.Command.{CommandLine}
 use Rattle.change_report.specs.journal_core.Recovery.{intent_name}
-use Rattle.change_report.specs.journal_core.Staged.{AreStagingPathsFree, HasNoStagedNames}
+use Rattle.change_report.specs.journal_core.Staged.{HasEmptyStageAndFreeJournalPaths, HasNoStagedNames}
 use Rattle.change_report.specs.make_info.Reads.{Reads}
-use Rattle.change_report.specs.package_files.Runs.{AreReadsOfTree}
+use Rattle.change_report.specs.package_files.Runs.{AreReadsOfTreeIfObservable}
 use Rattle.change_report.specs.path_clashes.Clash.{NamePair}
 use Rattle.change_report.specs.package_changes.Changes.{Replacement}
 use Rattle.report_core.specs.declared.refusal.Refusal.{Refusal}
 use Rattle.engine_core.specs.ChangeRun.{IsEndOfRunOfWantedChange, DoesCommit, IsUnchangedOrCommit, report_as_is, report_of_result}
-use Rattle.engine_core.specs.Changed.{IsClashOfSelected, IsClashUnlessSimulated, InputsAndReplacement, change_of_selected, packages_found_after_change}
+use Rattle.engine_core.specs.Changed.{IsFirstClashUnlessRefused, IsFirstClashUnlessSimulated, InputsAndReplacement, change_of_selected, packages_found_after_change}
 use Rattle.engine_core.specs.Runs.{IsRunOnSelection}
 use Rattle.engine_core.specs.Wishes.{wishes_of}
 
 -- ---- there is a first clash
 
 pub record HaveClash : Type 0 where
-  pub exists : (inputs : Inputs) (r : Replacement) (wishes : ChangeWishes) (read : Reads) (names : List (List ℕ)) (files : Files) → HasNamesAmong names files
-      → (clash : Option NamePair) × IsClashOfChange inputs r wishes read files clash
+  pub exists : (inputs : Inputs) (r : Replacement) (wishes : ChangeWishes) (read : Reads) (names : List (List ℕ)) (files : Files) → HasOnlyNamesAmong names files
+      → (clash : Option NamePair) × IsFirstClashOfChange inputs r wishes read files clash
 
-module _ (have : HaveClash) (names : List (List ℕ)) (files : Files) (within : HasNamesAmong names files) where
+module _ (have : HaveClash) (names : List (List ℕ)) (files : Files) (within : HasOnlyNamesAmong names files) where
   clash_unless : (b : Bool) (s : InputsAndReplacement) (wishes : ChangeWishes) (read : Reads)
-      → (clash : Option NamePair) × IsClashUnlessSimulated b wishes read files s clash
+      → (clash : Option NamePair) × IsFirstClashUnlessSimulated b wishes read files s clash
   clash_unless true s wishes read = (None, refl)
   clash_unless false s wishes read = have.exists s.inputs s.replacement wishes read names files within
 
   pub clash_selected : (command : CommandLine) (read : Reads) (selected : Result InputsAndReplacement Refusal)
-      → (clash : Option NamePair) × IsClashOfSelected command read files selected clash
+      → (clash : Option NamePair) × IsFirstClashUnlessRefused command read files selected clash
   clash_selected command read (Ok s) = clash_unless command.flags.simulate s (wishes_of command) read
   clash_selected command read (Err refusal) = (None, refl)
 
@@ -48,16 +48,16 @@ module _ (have : HaveClash) (names : List (List ℕ)) (files : Files) (within : 
 
 pub record Seen (command : CommandLine) (selected : Result InputsAndReplacement Refusal) (old : List TreeState) : Type 0 where
   pub read : Reads
-  pub observed : AreReadsOfTree old read
+  pub observed : AreReadsOfTreeIfObservable old read
   pub files : Files
   pub there : IfObservable old (λ v. files ≡ files_of v)
   pub clash : Option NamePair
-  pub is_clash : IsClashOfSelected command read files selected clash
+  pub is_clash : IsFirstClashUnlessRefused command read files selected clash
 
-pub nothing_within : HasNamesAmong [] (no_names {X = List ℕ})
+pub nothing_within : HasOnlyNamesAmong [] (no_names {X = List ℕ})
 nothing_within q is = absurd (cc)
 
-within_files : (v : TreeState) (names : List (List ℕ)) → HasNamesAmong names v.names → HasNamesAmong names (files_of v)
+within_files : (v : TreeState) (names : List (List ℕ)) → HasOnlyNamesAmong names v.names → HasOnlyNamesAmong names (files_of v)
 within_files v names within q is = within q (by_number (v.names q) is)
   where
     by_number : (n : Option ℕ) → IsSome (bytes_of_file_number v.files n) → IsSome n
@@ -69,7 +69,7 @@ pub record FilesSeen (command : CommandLine) (selected : Result InputsAndReplace
   pub files : Files
   pub there : IfObservable old (λ v. files ≡ files_of v)
   pub clash : Option NamePair
-  pub is_clash : IsClashOfSelected command read files selected clash
+  pub is_clash : IsFirstClashUnlessRefused command read files selected clash
 
 pub files_seen : HaveClash → (command : CommandLine) (selected : Result InputsAndReplacement Refusal) (old : List TreeState) (read : Reads) → All IsWellFormed old → FilesSeen command selected old read
 files_seen have command selected [] read whole =
@@ -80,7 +80,7 @@ files_seen have command selected (v ∷ earlier) read whole =
     let found = clash_selected have finite.0 (files_of v) (within_files v finite.0 finite.1) command read selected in
     record { files = files_of v; there = refl; clash = found.0; is_clash = found.1 }
 
-pub some_reads : (old : List TreeState) → (read : Reads) × AreReadsOfTree old read
+pub some_reads : (old : List TreeState) → (read : Reads) × AreReadsOfTreeIfObservable old read
 some_reads [] = ((λ n name. None), tt)
 some_reads (v ∷ earlier) = ((λ n name. files_of v name), λ n name. refl)
 
@@ -126,7 +126,7 @@ module _ (packages : Result (List MemberFound) Refusal) (wanted : Result ChangeD
       by [] same = tt
       by (v ∷ earlier) same = λ absent empty. inl (same, ok)
 
-  none_proper : IfObservable old (λ v. v.names intent_name ≡ None → HasNoStagedNames (files_of v) → (DoesCommit wanted → AreStagingPathsFree (files_of v)) → after.misuses ≡ before.misuses)
+  none_proper : IfObservable old (λ v. v.names intent_name ≡ None → HasNoStagedNames (files_of v) → (DoesCommit wanted → HasEmptyStageAndFreeJournalPaths (files_of v)) → after.misuses ≡ before.misuses)
   none_proper = if_told old _ _ quiet.proper (λ v same absent empty room. same)
 
   pub comes_to_failure : (fault : Refused) → IsDiskOrMemoryFailure fault → IsEndOfRunOfWantedChange packages wanted old now before after (Err fault)

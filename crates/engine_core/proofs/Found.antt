@@ -8,21 +8,21 @@ use Rattle.journal_staging.specs.adb_schema.Reserved.{is_reserved}
 use Rattle.adb_view.specs.Plain.{Plain}
 use Rattle.base_core.specs.Calls.{IfObservable}
 use Rattle.base_core.specs.Faults.{Counts}
-use Rattle.base_core.specs.Files.{Files, HasNamesAmong, no_names}
+use Rattle.base_core.specs.Files.{Files, HasOnlyNamesAmong, no_names}
 use Rattle.base_core.specs.Tree.{IsWellFormed, TreeState, bytes_of_file_number, files_of}
 use Rattle.change_report.specs.Due.{planned_paths}
 use Rattle.change_report.specs.change_files.FileChange.{FileChange, old_listings}
 use Rattle.change_report.specs.change_files.NamesAfter.{name_change}
-use Rattle.change_report.specs.change_files.PlanLists.{first_reserved_path}
+use Rattle.change_report.specs.change_files.PlanLists.{first_reserved_added_path}
 use Rattle.change_report.specs.change_inputs.Answers.{IsDiskOrMemoryFailure}
 use Rattle.change_report.specs.change_inputs.Chains.{and_then}
 use Rattle.change_report.specs.change_inputs.Inputs.{Inputs}
 use Rattle.change_report.specs.change_inputs.declared.root.Refused.{Refused}
 use Rattle.change_report.specs.change_inputs.declared.root.Refused.TheVariants as Commands
-use Rattle.change_report.specs.change_outcome.ChangeOutcome.{ChangeDone, ChangeWishes, IsClashFound, members_after_change, change_with_members, file_change, member_name_at_place, touched_paths, unless_clash, unless_contested, unless_reserved_path, change_done_unless_too_large}
+use Rattle.change_report.specs.change_outcome.ChangeOutcome.{ChangeDone, ChangeWishes, IsFirstClashIfMembersFound, members_after_change, change_with_members, file_change, member_name_at_place, touched_paths, unless_clash, unless_contested, unless_reserved_path, change_done_unless_too_large}
 use Rattle.change_report.specs.change_outcome.MembersAfter.{MemberFound, found_members}
 use Rattle.change_report.specs.change_outcome.Triggers.{unless_trigger_due}
-use Rattle.change_report.specs.db_core.Members.{Member, member_listings, member_name, member_of_kept}
+use Rattle.change_report.specs.db_core.Members.{Member, listings_of_members, member_name, member_of_kept}
 use Rattle.change_report.specs.db_core.Seen.{members_of, packages_of}
 use Rattle.change_report.specs.db_core.declared.members.Members.{Members}
 use Rattle.change_report.specs.file_owners.Owners.{first_contested_path_of_members}
@@ -56,7 +56,7 @@ there_now : (h : List TreeState) → IfObservable h (λ v. files_now h ≡ files
 there_now [] = tt
 there_now (v ∷ earlier) = refl
 
-within_files : (v : TreeState) (names : List (List ℕ)) → HasNamesAmong names v.names → HasNamesAmong names (files_of v)
+within_files : (v : TreeState) (names : List (List ℕ)) → HasOnlyNamesAmong names v.names → HasOnlyNamesAmong names (files_of v)
 within_files v names within q is = within q (by_number (v.names q) is)
   where
     by_number : (n : Option ℕ) → IsSome (bytes_of_file_number v.files n) → IsSome n
@@ -67,7 +67,7 @@ within_files v names within q is = within q (by_number (v.names q) is)
 
 record ClashSeen (inputs : Inputs) (wishes : ChangeWishes) (found : List MemberFound) (old : List TreeState) : Type 0 where
   pub clash : Option NamePair
-  pub is_clash : IsClashFound inputs wishes (files_now old) (Ok found) clash
+  pub is_clash : IsFirstClashIfMembersFound inputs wishes (files_now old) (Ok found) clash
 
 -- by some files, and among some, the first clash; where the history tells its files both are these
 record ClashTold (change : FileChange) (old : List TreeState) (clash : Option NamePair) : Type 0 where
@@ -91,11 +91,11 @@ module _ (have : HaveClash) (inputs : Inputs) (r : Replacement) (wishes : Change
   clash_seen : (old : List TreeState) → All IsWellFormed old → ClashSeen inputs wishes found old
   clash_seen [] whole =
       let c = have.exists inputs r wishes read [] no_names nothing_within in
-      record { clash = c.0; is_clash = subst (λ (f : Result (List MemberFound) Refusal). IsClashFound inputs wishes no_names f c.0) is_found c.1 }
+      record { clash = c.0; is_clash = subst (λ (f : Result (List MemberFound) Refusal). IsFirstClashIfMembersFound inputs wishes no_names f c.0) is_found c.1 }
   clash_seen (v ∷ earlier) whole =
       let finite = (All-head IsWellFormed v earlier whole).finite v.names (inl refl) in
       let c = have.exists inputs r wishes read finite.0 (files_of v) (within_files v finite.0 finite.1) in
-      record { clash = c.0; is_clash = subst (λ (f : Result (List MemberFound) Refusal). IsClashFound inputs wishes (files_of v) f c.0) is_found c.1 }
+      record { clash = c.0; is_clash = subst (λ (f : Result (List MemberFound) Refusal). IsFirstClashIfMembersFound inputs wishes (files_of v) f c.0) is_found c.1 }
 
   module _ (old now : List TreeState) (before after : Counts) (whole : All IsWellFormed old) (quiet : IsOnlyRead old now before after) where
     found_by : (result : Result (List ℕ) Refused) → ((clash : Option NamePair) → IsEndOfRunOfWantedChange (Ok found) (change_with_members inputs r wishes clash (files_now old) found) old now before after result)
@@ -109,7 +109,7 @@ module _ (have : HaveClash) (inputs : Inputs) (r : Replacement) (wishes : Change
 
     -- ---- no plan
 
-    reserved_path : (path : List ℕ) → first_reserved_path (found_members found) ≡ Some path → IsRunOnFoundPackages inputs r wishes found old now before after (Err (Commands.Refusal (Reserved path)))
+    reserved_path : (path : List ℕ) → first_reserved_added_path (found_members found) ≡ Some path → IsRunOnFoundPackages inputs r wishes found old now before after (Err (Commands.Refusal (Reserved path)))
     reserved_path path is = found_by _ (λ clash. comes_to_refusal _ _ old now before after quiet (Reserved path)
         (ap (λ (o : Option (List ℕ)). unless_reserved_path o (unless_clash clash (unless_contested (found_members found) (first_contested_path_of_members (found_members found))
         (and_then (unless_trigger_due wishes.no_scripts (touched_paths (file_change inputs wishes found) (files_now old)) (found_members found)) (λ allowed. change_done_unless_too_large inputs r wishes found (files_now old)))))) is))
@@ -119,7 +119,7 @@ module _ (have : HaveClash) (inputs : Inputs) (r : Replacement) (wishes : Change
     by_clash result clash told comes =
         record { files = told.files; there = told.there; present_files = told.present_files; stand = told.stand; clash = clash; is_clash = told.is_clash; comes = comes }
 
-    path_clash : (path other : List ℕ) → first_reserved_path (found_members found) ≡ None → ClashTold (file_change inputs wishes found) old (Some (record { path = path; other = other }))
+    path_clash : (path other : List ℕ) → first_reserved_added_path (found_members found) ≡ None → ClashTold (file_change inputs wishes found) old (Some (record { path = path; other = other }))
         → IsRunOnFoundPackages inputs r wishes found old now before after (Err (Commands.Refusal (PathClash path other)))
     path_clash path other none told =
         let pair : NamePair = record { path = path; other = other } in
@@ -184,7 +184,7 @@ unplanned_step have old now before after a ms wishes read found refused why whol
 pub planned_now : (old mid : List TreeState) → mid ≡ old → (p : Plan) (found : List MemberFound) → IsArrived old p.packages.now p.members found
     → (plan : IsPlanOverSomeFiles (file_change_between p.packages.now.selection.now.db p.members (wishes_of_plan p).purge) old p.files)
     → HasDisjointUnreservedNames p.files → HasSources (members_of p.members) p.files → IsPlanForMembersAlone (members_of p.members) p.files
-    → All (λ l. is_reserved l.path ≡ false) (member_listings (map member_of_kept (packages_of p.packages.now.selection.now.db)))
+    → All (λ l. is_reserved l.path ≡ false) (listings_of_members (map member_of_kept (packages_of p.packages.now.selection.now.db)))
     → IsPlanned mid p found plan.files
 unfolding old_listings
 planned_now old mid same p found arrived plan names sources owners unreserved =
@@ -197,7 +197,7 @@ planned_now old mid same p found arrived plan names sources owners unreserved =
       sources = sources;
       owners = owners;
       no_clash = subst (λ (c : FileChange). IfObservable old (λ v. HasNoClash (name_change c plan.files) plan.files)) is plan.no_clash;
-      unreserved = subst (λ (ps : List Plain). All (λ l. is_reserved l.path ≡ false) (member_listings (map member_of_kept ps))) arrived.read.database unreserved;
+      unreserved = subst (λ (ps : List Plain). All (λ l. is_reserved l.path ≡ false) (listings_of_members (map member_of_kept ps))) arrived.read.database unreserved;
     })
 
 pub planned_run : (old mid now : List TreeState) (before between after : Counts) (a : ReadPackages) (ms : Members) (p : FilePlan) (wishes : ChangeWishes) (found : List MemberFound) (result : Result (List ℕ) Refused)
@@ -212,7 +212,7 @@ planned_run old mid now before between after a ms p wishes found result quiet ar
     let members : List Member = found_members found in
     let rest : Result ChangeDone Refusal = and_then (unless_trigger_due wishes.no_scripts (touched_paths (file_change inputs wishes found) plan.files) members) (λ allowed. change_done_unless_too_large inputs r wishes found plan.files) in
     let wanted_is : change_with_members inputs r wishes None plan.files found ≡ rest =
-    ap (λ (o : Option (List ℕ)). unless_reserved_path o (unless_contested members (first_contested_path_of_members members) rest)) (sym (ap first_reserved_path arrived.members) ∙ owners.allowed)
+    ap (λ (o : Option (List ℕ)). unless_reserved_path o (unless_contested members (first_contested_path_of_members members) rest)) (sym (ap first_reserved_added_path arrived.members) ∙ owners.allowed)
     ∙ ap (λ (o : Option ContestedPath). unless_contested members o rest) (sym (ap first_contested_path_of_members arrived.members) ∙ owners.owners) in
     let none = none_told (file_change inputs wishes found) plan.files old plan.told
     (subst (λ (c : FileChange). IsFirstClashOverSomeFiles (name_change c plan.files) None) (change_is old a ms wishes found arrived) plan.may_have_none)

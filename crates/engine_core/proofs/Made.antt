@@ -3,7 +3,7 @@ use Rattle.std.proofs.Common.{◌≡◌, ◌∙◌, ◌≤◌, ℕ, Bool, true, 
 use Rattle.std.specs.Prelude.{if◌then◌else◌, nat_lt}
 use Rattle.std.proofs.lemmas.Bool.{ltb-false}
 use Rattle.added_packages.specs.Answered.{DenotesUnlessDisk}
-use Rattle.added_packages.specs.Arrivals.{AreMembersRead, arrivals_seen, members_of_read_packages}
+use Rattle.added_packages.specs.Arrivals.{AreReadMembersThoseFound, arrivals_seen, members_of_read_packages}
 use Rattle.added_packages.specs.declared.arrivals.Arrivals.{Arrivals}
 use Rattle.added_packages.specs.declared.arrivals.MemberRead.{MemberRead}
 use Rattle.adb_view.specs.Plain.{Plain}
@@ -15,7 +15,7 @@ use Rattle.change_report.specs.change_inputs.Chains.{and_then}
 use Rattle.change_report.specs.change_inputs.Inputs.{Inputs}
 use Rattle.change_report.specs.change_inputs.declared.root.Refused.{Refused}
 use Rattle.change_report.specs.change_inputs.declared.root.Refused.TheVariants.{Disk, Memory, Refusal as IsRefused}
-use Rattle.change_report.specs.change_outcome.ChangeOutcome.{ChangeDone, ChangeWishes, IsClashFoundAmong, members_after_change, change_or_refusal, change_with_members, file_change, touched_paths, change_done_unless_too_large}
+use Rattle.change_report.specs.change_outcome.ChangeOutcome.{ChangeDone, ChangeWishes, IsFirstClashIfMembersFoundAmong, members_after_change, change_or_refusal, change_with_members, file_change, touched_paths, change_done_unless_too_large}
 use Rattle.change_report.specs.change_outcome.Triggers.{unless_trigger_due}
 use Rattle.change_report.specs.change_outcome.MembersAfter.{MemberFound, found_members, members_after}
 use Rattle.command_core.specs.Command.{CommandLine}
@@ -24,7 +24,7 @@ use Rattle.change_report.specs.db_core.Seen.{members_of, packages_of}
 use Rattle.change_report.specs.db_core.declared.members.TheConstants.{MOST_MEMBERS}
 use Rattle.dep_core.specs.Repositories.{Repository}
 use Rattle.change_report.specs.make_info.Reads.{Reads}
-use Rattle.change_report.specs.package_files.Runs.{AreReadsOfTree, IsExplainedBySomeReads}
+use Rattle.change_report.specs.package_files.Runs.{AreReadsOfTreeIfObservable, HoldsOfSomeReadsOfTree}
 use Rattle.change_report.specs.package_changes.Changes.{Replacement}
 use Rattle.change_report.specs.package_changes.Placed.{candidates_at, placed_names_of, replacement_of}
 use Rattle.change_report.specs.package_changes.Seen.{placed_names_seen, placed_replacement_from_parts}
@@ -34,7 +34,7 @@ use Rattle.change_report.specs.candidate_core.Rank.{SealedPool}
 use Rattle.change_report.specs.candidate_core.declared.candidate_list.TheConstants.{MOST_CANDIDATES}
 use Rattle.report_core.specs.declared.refusal.Refusal.{Refusal}
 use Rattle.engine_core.specs.ChangeRun.{IsEndOfRunOfWantedChange}
-use Rattle.engine_core.specs.Changed.{IsClashOfSelectedAmong, IsClashUnlessSimulatedAmong, change_of_selected, simulated_change}
+use Rattle.engine_core.specs.Changed.{IsFirstClashUnlessRefusedAmong, IsFirstClashUnlessSimulatedAmong, change_of_selected, simulated_change}
 use Rattle.engine_core.specs.Preparing.{HasReadAddedPackages, ArePackagesFoundByReads, ArePackagesReadForSelection, IsArrived, IsPlanOfPackages, IsPlanned, IsRootRead, inputs_of_packages, inputs_of_plan, replacement_of_packages, replacement_of_plan, wishes_of_packages, wishes_of_plan}
 use Rattle.engine_core.specs.Runs.{IsRunOnSelection}
 use Rattle.engine_core.specs.Selecting.{pool_of_inputs}
@@ -86,14 +86,14 @@ module _ (s : Selection) (database : HasDatabaseOfInputs s) where
   members_are read repositories flags are is = λ i. members_after (placed_is i) read (are i) (is i).no_scripts
 
   -- memory has run out
-  pub not_read : (old : List TreeState) → IsExplainedBySomeReads old (λ read. DenotesUnlessDisk {A = ReadPackages} (ArePackagesReadForSelection old s) (Err Memory) (members_after_change inputs (replacement_seen s) wishes read))
+  pub not_read : (old : List TreeState) → HoldsOfSomeReadsOfTree old (λ read. DenotesUnlessDisk {A = ReadPackages} (ArePackagesReadForSelection old s) (Err Memory) (members_after_change inputs (replacement_seen s) wishes read))
   not_read old = let (read, observed) = some_reads old in record { read = read; observed = observed; is = tt }
 
   module _ (old : List TreeState) (repositories : List Repository) (are : repositories ≡ inputs.root.repositories) (flags : Flags) (is_flags : flags ≡ s.command.now.flags) where
     -- a package that comes is refused
     pub read_refused : (fault : Refused)
-        → IsExplainedBySomeReads old (λ read. DenotesUnlessDisk (λ (a : Arrivals) (found : List MemberFound). AreMembersRead old (packages_of s.db) (arrivals_seen a) found) (Err fault) (members_after placed read repositories flags.no_scripts))
-        → IsExplainedBySomeReads old (λ read. DenotesUnlessDisk {A = ReadPackages} (ArePackagesReadForSelection old s) (Err fault) (members_after_change inputs (replacement_seen s) wishes read))
+        → HoldsOfSomeReadsOfTree old (λ read. DenotesUnlessDisk (λ (a : Arrivals) (found : List MemberFound). AreReadMembersThoseFound old (packages_of s.db) (arrivals_seen a) found) (Err fault) (members_after placed read repositories flags.no_scripts))
+        → HoldsOfSomeReadsOfTree old (λ read. DenotesUnlessDisk {A = ReadPackages} (ArePackagesReadForSelection old s) (Err fault) (members_after_change inputs (replacement_seen s) wishes read))
     read_refused (IsRefused refusal) explained =
         record { read = explained.read; observed = explained.observed; is = sym (members_are explained.read repositories flags are is_flags) ∙ explained.is }
     read_refused Disk explained = record { read = explained.read; observed = explained.observed; is = tt }
@@ -101,8 +101,8 @@ module _ (s : Selection) (database : HasDatabaseOfInputs s) where
 
     -- the packages that come are read
     pub read_all : (a : ReadPackages) → a.selection.now ≡ s → placed_names_seen a.names ≡ placed_names_of (placed_replacement_from_parts s.db s.pool s.trace s.again)
-        → IsExplainedBySomeReads old (λ read. DenotesUnlessDisk (λ (b : Arrivals) (found : List MemberFound). AreMembersRead old (packages_of s.db) (arrivals_seen b) found) (Ok a.arrivals) (members_after placed read repositories flags.no_scripts))
-        → IsExplainedBySomeReads old (λ read. DenotesUnlessDisk (ArePackagesReadForSelection old s) (Ok a) (members_after_change inputs (replacement_seen s) wishes read))
+        → HoldsOfSomeReadsOfTree old (λ read. DenotesUnlessDisk (λ (b : Arrivals) (found : List MemberFound). AreReadMembersThoseFound old (packages_of s.db) (arrivals_seen b) found) (Ok a.arrivals) (members_after placed read repositories flags.no_scripts))
+        → HoldsOfSomeReadsOfTree old (λ read. DenotesUnlessDisk (ArePackagesReadForSelection old s) (Ok a) (members_after_change inputs (replacement_seen s) wishes read))
     read_all a same named explained = record {
       read = explained.read;
       observed = explained.observed;
@@ -112,7 +112,7 @@ module _ (s : Selection) (database : HasDatabaseOfInputs s) where
         record {
           selection = same;
           placed = subst (λ (t : Selection). placed_names_seen a.names ≡ placed_names_of (placed_replacement_from_parts t.db t.pool t.trace t.again)) (sym same) named;
-          read = subst (λ (t : Selection). AreMembersRead old (packages_of t.db) (arrivals_seen a.arrivals) explained.is.0) (sym same) explained.is.2;
+          read = subst (λ (t : Selection). AreReadMembersThoseFound old (packages_of t.db) (arrivals_seen a.arrivals) explained.is.0) (sym same) explained.is.2;
         },
       );
     }
@@ -121,7 +121,7 @@ module _ (s : Selection) (database : HasDatabaseOfInputs s) where
 
 -- what `read_packages` explains
 abbrev pub Read : List TreeState → Selection → Result ReadPackages Refused → Type 0
-Read old s result = IsExplainedBySomeReads old (λ read. DenotesUnlessDisk (ArePackagesReadForSelection old s) result (members_after_change (inputs_of_selection s) (replacement_seen s) (wishes_of_selection s) read))
+Read old s result = HoldsOfSomeReadsOfTree old (λ read. DenotesUnlessDisk (ArePackagesReadForSelection old s) result (members_after_change (inputs_of_selection s) (replacement_seen s) (wishes_of_selection s) read))
 
 module _ (s : Selection) (real : s.command.now.flags.simulate ≡ false) where
   change_is : (read : Reads) (files : Files) (clash : Option NamePair) → change_of_selected s.command.now read files clash (selection_seen s) ≡ change_or_refusal (inputs_of_selection s) (replacement_seen s) (wishes_of_selection s) read clash files
@@ -135,10 +135,10 @@ module _ (s : Selection) (real : s.command.now.flags.simulate ≡ false) where
       change_is read files clash ∙ ap (λ (m : Result (List MemberFound) Refusal). and_then m (change_with_members (inputs_of_selection s) (replacement_seen s) (wishes_of_selection s) clash files)) is
 
   clash_is : (read : Reads) (found : List MemberFound) (files present_files : Files) (clash : Option NamePair) → members_after_change (inputs_of_selection s) (replacement_seen s) (wishes_of_selection s) read ≡ Ok found
-      → IsClashFoundAmong (inputs_of_selection s) (wishes_of_selection s) files present_files (Ok found) clash → IsClashOfSelectedAmong s.command.now read files present_files (Ok (selection_seen s)) clash
+      → IsFirstClashIfMembersFoundAmong (inputs_of_selection s) (wishes_of_selection s) files present_files (Ok found) clash → IsFirstClashUnlessRefusedAmong s.command.now read files present_files (Ok (selection_seen s)) clash
   clash_is read found files present_files clash is here =
-      subst (λ (b : Bool). IsClashUnlessSimulatedAmong b (wishes_of_selection s) read files present_files (selection_seen s) clash) (sym real)
-      (subst (λ (m : Result (List MemberFound) Refusal). IsClashFoundAmong (inputs_of_selection s) (wishes_of_selection s) files present_files m clash) (sym is) here)
+      subst (λ (b : Bool). IsFirstClashUnlessSimulatedAmong b (wishes_of_selection s) read files present_files (selection_seen s) clash) (sym real)
+      (subst (λ (m : Result (List MemberFound) Refusal). IsFirstClashIfMembersFoundAmong (inputs_of_selection s) (wishes_of_selection s) files present_files m clash) (sym is) here)
 
   module _ (old mid : List TreeState) (before between : Counts) (quiet : IsOnlyRead old mid before between) where
     -- a package that comes is refused
@@ -160,14 +160,14 @@ module _ (s : Selection) (real : s.command.now.flags.simulate ≡ false) where
     unarrived have whole Disk explained = selected_failure s.command.now (Ok (selection_seen s)) old mid before between have whole quiet Disk tt
     unarrived have whole Memory explained = selected_failure s.command.now (Ok (selection_seen s)) old mid before between have whole quiet Memory tt
 
-    found_run : (read : Reads) (found : List MemberFound) (now : List TreeState) (after : Counts) (result : Result (List ℕ) Refused) → AreReadsOfTree old read
+    found_run : (read : Reads) (found : List MemberFound) (now : List TreeState) (after : Counts) (result : Result (List ℕ) Refused) → AreReadsOfTreeIfObservable old read
         → members_after_change (inputs_of_selection s) (replacement_seen s) (wishes_of_selection s) read ≡ Ok found
         → IsRunOnFoundPackages (inputs_of_selection s) (replacement_seen s) (wishes_of_selection s) found mid now between after result
         → IsRunOnSelection s.command.now (Ok (selection_seen s)) old now before after result
     found_run read found now after result observed found_is run =
         run_after_reads s.command.now (Ok (selection_seen s)) old mid now before between after result quiet (record {
           read = read;
-          observed = subst (λ (h : List TreeState). AreReadsOfTree h read) (sym quiet.same) observed;
+          observed = subst (λ (h : List TreeState). AreReadsOfTreeIfObservable h read) (sym quiet.same) observed;
           files = run.files;
           there = run.there;
           present_files = run.present_files;
@@ -202,7 +202,7 @@ module _ (s : Selection) (real : s.command.now.flags.simulate ≡ false) where
 
 -- the law that packages that were read are those that are found
 abbrev pub HaveMembers : Type 0
-HaveMembers = (history : List TreeState) (before : List Plain) (reads : List MemberRead) (found : List MemberFound) → AreMembersRead history before reads found → members_of_read_packages before reads ≡ found_members found
+HaveMembers = (history : List TreeState) (before : List Plain) (reads : List MemberRead) (found : List MemberFound) → AreReadMembersThoseFound history before reads found → members_of_read_packages before reads ≡ found_members found
 
 module _ (law : HaveMembers) (old mid : List TreeState) (before between : Counts) (quiet : IsOnlyRead old mid before between) (a : ReadPackages) (p : Plan) (plan : IsPlanOfPackages old a p) (read : Reads) (found : List MemberFound) (are : ArePackagesFoundByReads old a read found) where
   arrivals_of_plan : HasReadAddedPackages old p.packages.now found

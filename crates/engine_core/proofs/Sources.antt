@@ -9,9 +9,9 @@ use Rattle.journal_staging.specs.adb_schema.Reserved.{is_reserved}
 use Rattle.adb_view.specs.Plain.{Plain}
 use Rattle.added_packages.specs.Arrivals.{IsTestedPackageOfMember}
 use Rattle.change_report.specs.change_files.FileChange.{FileChange}
-use Rattle.change_report.specs.change_files.FilesAfter.{DatabaseAndWorldAfter, files_after_change, database_name, is_written, listing_bytes, world_bytes_after, world_name, listing_written_under_name}
+use Rattle.change_report.specs.change_files.FilesAfter.{DatabaseAndWorldAfter, files_after_change, database_name, is_listing_written_under_name, listing_bytes, new_world_bytes_unless_empty_and_absent, world_name, listing_written_under_name}
 use Rattle.change_report.specs.change_files.PlanLists.{FileWrite, file_writes_of, file_write_under_name}
-use Rattle.change_report.specs.change_files.Touched.{is_database_or_world_name}
+use Rattle.change_report.specs.change_files.Touched.{is_old_or_new_database_or_world_name}
 use Rattle.change_report.proofs.change_files.Lists.{IsOneOf}
 use Rattle.change_report.proofs.change_files.OwnedFiles.{coming_is, written_is}
 use Rattle.change_report.proofs.change_files.PlanNames.{writes_are}
@@ -24,8 +24,8 @@ use Rattle.change_report.specs.change_outcome.Premises.{HasNoReservedPath, AreDa
 use Rattle.change_report.proofs.change_outcome.ActionNames.{written_free}
 use Rattle.change_report.specs.change_outcome.ChangeOutcome.{bytes_or_empty_under, is_absent_or_different, database_and_world_after_change}
 use Rattle.change_report.specs.change_outcome.MembersAfter.{MemberFound, found_package_contents}
-use Rattle.change_report.specs.db_core.Members.{Listing, Member, member_listings}
-use Rattle.journal_staging.specs.file_guard.AsListed.{has_target, link_bytes, link_bytes_to}
+use Rattle.change_report.specs.db_core.Members.{Listing, Member, listings_of_members}
+use Rattle.journal_staging.specs.file_guard.AsListed.{has_target, link_file_bytes_of_entry, link_file_bytes_of_target}
 use Rattle.base_core.proofs.Sorting.{Each}
 use Rattle.change_report.specs.own_core.ClaimEntries.{folders_if_any, listed_file_at}
 use Rattle.change_report.proofs.own_core.Listings.{IsPlaced, each_placed}
@@ -51,12 +51,12 @@ each_one P (y ∷ ys) x each (inr more) = each_one P ys x each.1 more
 -- the bytes that a planned write gets, where members have these contents
 abbrev write_bytes : List Member → (ℕ → List Contents) → FileWrite → List ℕ
 write_bytes members contents w =
-    if has_target (entry_of_write members w) then link_bytes (entry_of_write members w) else bytes_of_file w.folder w.file (contents w.member)
+    if has_target (entry_of_write members w) then link_file_bytes_of_entry (entry_of_write members w) else bytes_of_file w.folder w.file (contents w.member)
 
 listing_bytes_are : (contents : ℕ → List Contents) (members : List Member) (name : List ℕ) (l : Listing) → l.entry ≡ entry_of_write members (file_write_under_name name l) → listing_bytes contents l ≡ write_bytes members contents (file_write_under_name name l)
 unfolding listing_bytes
 listing_bytes_are contents members name l entry =
-    ap (λ (e : Plain). if has_target e then link_bytes e else bytes_of_file l.folder l.file (contents l.place)) entry
+    ap (λ (e : Plain). if has_target e then link_file_bytes_of_entry e else bytes_of_file l.folder l.file (contents l.place)) entry
 
 module _ (inputs : Inputs) (change : FileChange) (contents : ℕ → List Contents) (database : List ℕ) (files : Files) (root : AreDatabaseAndWorldReadFromFiles files inputs.root) (free : HasNoReservedPath change) where
   abbrev records : DatabaseAndWorldAfter
@@ -67,16 +67,16 @@ module _ (inputs : Inputs) (change : FileChange) (contents : ℕ → List Conten
 
   placed : (l : Listing) (name : List ℕ) → listing_written_under_name change files name ≡ Some l → IsPlaced change.members l
   placed l name written =
-      each_one (IsPlaced change.members) (member_listings change.members) l (each_placed change.members)
+      each_one (IsPlaced change.members) (listings_of_members change.members) l (each_placed change.members)
       ((coming_is change l.path l (written_is change files name l written).comes).0).listed
 
   entry_is : (l : Listing) (name : List ℕ) → IsPlaced change.members l → l.entry ≡ entry_of_write change.members (file_write_under_name name l)
   entry_is l name p = p.entry ∙ sym (ap (λ (o : Option Member). listed_file_at (folders_if_any o) l.folder l.file) p.at)
 
-  no_record : (name : List ℕ) → is_reserved name ≡ false → is_database_or_world_name records name ≡ false
-  no_record name unreserved = false_from_ne_true (is_database_or_world_name records name) (λ is. true≢false (sym (records_reserved records name is) ∙ unreserved))
+  no_record : (name : List ℕ) → is_reserved name ≡ false → is_old_or_new_database_or_world_name records name ≡ false
+  no_record name unreserved = false_from_ne_true (is_old_or_new_database_or_world_name records name) (λ is. true≢false (sym (records_reserved records name is) ∙ unreserved))
 
-  some_written : (l : Listing) (name : List ℕ) → listing_written_under_name change files name ≡ Some l → is_written change files name ≡ true
+  some_written : (l : Listing) (name : List ℕ) → listing_written_under_name change files name ≡ Some l → is_listing_written_under_name change files name ≡ true
   some_written l name written = ap is_some written
 
   bytes_by : (l : Listing) (name : List ℕ) → listing_written_under_name change files name ≡ Some l → bytes_or_empty_under after name ≡ write_bytes change.members contents (file_write_under_name name l)
@@ -95,11 +95,11 @@ module _ (inputs : Inputs) (change : FileChange) (contents : ℕ → List Conten
   pub database_bytes : bytes_or_empty_under after database_name ≡ database
   database_bytes = ap (λ (o : Option (List ℕ)). unwrap_or o []) (database_after change (listing_bytes contents) records files)
 
-  world_by : after world_name ≡ world_bytes_after records.world (files world_name)
+  world_by : after world_name ≡ new_world_bytes_unless_empty_and_absent records.world (files world_name)
   unfolding files_after_change
   world_by = refl
 
-  said_world : (world : List ℕ) (old : Option (List ℕ)) → unwrap_or (world_bytes_after world old) [] ≡ world
+  said_world : (world : List ℕ) (old : Option (List ℕ)) → unwrap_or (new_world_bytes_unless_empty_and_absent world old) [] ≡ world
   said_world [] None = refl
   said_world [] (Some old) = refl
   said_world (b ∷ world) old = refl
@@ -132,8 +132,8 @@ module _ (v : TreeState) (earlier : List TreeState) (found : List MemberFound) (
   file_stands : (w : FileWrite) (bytes : List ℕ) (s : Source) → bytes ≡ write_bytes members (found_package_contents found) w → IsSourceOfWrite members packages w s → DenotesBytes (files_of v) s bytes
   file_stands w bytes (Bytes own) is source = absurd source
   file_stands w bytes (Link target) is source =
-      is ∙ (ap (λ (b : Bool). if b then link_bytes (entry_of_write members w) else bytes_of_file w.folder w.file (found_package_contents found w.member)) source.0
-      ∙ ap link_bytes_to (sym source.1))
+      is ∙ (ap (λ (b : Bool). if b then link_file_bytes_of_entry (entry_of_write members w) else bytes_of_file w.folder w.file (found_package_contents found w.member)) source.0
+      ∙ ap link_file_bytes_of_target (sym source.1))
   file_stands w bytes (File f) is source =
       let of = source.1 in
       let file = read w.member f.package.now of.read in
@@ -142,7 +142,7 @@ module _ (v : TreeState) (earlier : List TreeState) (found : List MemberFound) (
         pkg = file.file;
         there = sym file.located;
         tested = file.tested;
-        is = is ∙ (ap (λ (b : Bool). if b then link_bytes (entry_of_write members w) else bytes_of_file w.folder w.file (found_package_contents found w.member)) source.0
+        is = is ∙ (ap (λ (b : Bool). if b then link_file_bytes_of_entry (entry_of_write members w) else bytes_of_file w.folder w.file (found_package_contents found w.member)) source.0
             ∙ ((λ i. bytes_of_file (sym of.folder i) (sym of.file i) (found_package_contents found w.member))
             ∙ ap (bytes_of_file f.folder f.file) file.contents));
       }

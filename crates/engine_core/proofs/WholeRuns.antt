@@ -13,12 +13,12 @@ use Rattle.change_report.specs.change_inputs.Seen.{inputs_seen}
 use Rattle.change_report.specs.change_inputs.declared.loaded.Loaded.{Loaded}
 use Rattle.change_report.specs.change_inputs.declared.root.Refused.{Refused}
 use Rattle.change_report.specs.change_inputs.declared.root.Refused.TheVariants.{Disk, Memory, Refusal as IsRefused}
-use Rattle.change_report.specs.change_outcome.ChangeOutcome.{ChangeDone, ChangeWishes, IsClashFoundAmong, members_after_change, change_or_refusal, change_with_members}
+use Rattle.change_report.specs.change_outcome.ChangeOutcome.{ChangeDone, ChangeWishes, IsFirstClashIfMembersFoundAmong, members_after_change, change_or_refusal, change_with_members}
 use Rattle.change_report.specs.change_outcome.MembersAfter.{MemberFound, members_after}
 use Rattle.command_core.specs.Command.{CommandLine}
 use Rattle.dep_core.specs.Repositories.{Repository}
 use Rattle.change_report.specs.make_info.Reads.{Reads}
-use Rattle.change_report.specs.package_files.Runs.{AreReadsOfTree, IsExplainedBySomeReads}
+use Rattle.change_report.specs.package_files.Runs.{AreReadsOfTreeIfObservable, HoldsOfSomeReadsOfTree}
 use Rattle.change_report.specs.package_changes.Changes.{Replacement}
 use Rattle.change_report.specs.path_clashes.Clash.{NamePair}
 use Rattle.change_report.specs.candidate_core.Rank.{SealedPool}
@@ -26,8 +26,8 @@ use Rattle.report_core.specs.declared.refusal.Refusal.{Refusal}
 use Rattle.change_report.specs.change_outcome.Premises.{AreDatabaseAndWorldReadFromFiles}
 use Rattle.engine_core.specs.Preparing.{IsRootRead}
 use Rattle.engine_core.specs.ChangeRun.{IsEndOfRunOfWantedChange, IsChangeRun}
-use Rattle.engine_core.specs.Changed.{IsClashOfSelected, IsClashOfSelectedAmong, IsClashUnlessSimulatedAmong, InputsAndReplacement, change_of_selected, change_of_command, packages_found_after_change, selected_from_pool_by_choice, selected_from_reads_by_choice, selected_from_inputs_by_choice, simulated_change}
-use Rattle.engine_core.specs.Choice.{IsChoiceFrom}
+use Rattle.engine_core.specs.Changed.{IsFirstClashUnlessRefused, IsFirstClashUnlessRefusedAmong, IsFirstClashUnlessSimulatedAmong, InputsAndReplacement, change_of_selected, change_of_command, packages_found_after_change, selected_from_pool_by_choice, selected_from_reads_by_choice, selected_from_inputs_by_choice, simulated_change}
+use Rattle.engine_core.specs.Choice.{IsPreferredChoiceUnlessRefused}
 use Rattle.engine_core.specs.Runs.{IsRunOnSelection}
 use Rattle.engine_core.specs.Selecting.{pool_of_inputs, pool_of_command}
 use Rattle.engine_core.specs.Wishes.{unknown_operand_place, unless_unknown_operand, wishes_of}
@@ -59,7 +59,7 @@ splice_after count first behind n name less =
     let is : nat_lt n count ≡ false = grind (arith, nat_tests) in
     ap (λ (b : Bool). if b then first n name else behind n name) is
 
-splice_observed : (count : ℕ) (first behind : Reads) (old : List TreeState) → AreReadsOfTree old first → AreReadsOfTree old behind → AreReadsOfTree old (splice count first behind)
+splice_observed : (count : ℕ) (first behind : Reads) (old : List TreeState) → AreReadsOfTreeIfObservable old first → AreReadsOfTreeIfObservable old behind → AreReadsOfTreeIfObservable old (splice count first behind)
 unfolding splice
 splice_observed count first behind [] f b = tt
 splice_observed count first behind (v ∷ earlier) f b = λ n name. by (nat_lt n count) n name
@@ -90,7 +90,7 @@ pub run_after_reads : (command : CommandLine) (selected : Result InputsAndReplac
     → IsOnlyRead old mid before between → IsRunOnSelection command selected mid now between after result → IsRunOnSelection command selected old now before after result
 run_after_reads command selected old mid now before between after result quiet run = record {
   read = run.read;
-  observed = subst (λ (h : List TreeState). AreReadsOfTree h run.read) quiet.same run.observed;
+  observed = subst (λ (h : List TreeState). AreReadsOfTreeIfObservable h run.read) quiet.same run.observed;
   files = run.files;
   there = subst (λ (h : List TreeState). IfObservable h (λ v. run.files ≡ files_of v)) quiet.same run.there;
   present_files = run.present_files;
@@ -121,15 +121,15 @@ module _ (have : HaveOwnReads) (command : CommandLine) (inputs : Inputs) (read o
       by true = refl
       by false = same_of_inputs s.inputs is
 
-  clash_same : (s : InputsAndReplacement) (files present_files : Files) (clash : Option NamePair) → s.inputs ≡ inputs → IsClashUnlessSimulatedAmong command.flags.simulate (wishes_of command) other files present_files s clash → IsClashUnlessSimulatedAmong command.flags.simulate (wishes_of command) read files present_files s clash
+  clash_same : (s : InputsAndReplacement) (files present_files : Files) (clash : Option NamePair) → s.inputs ≡ inputs → IsFirstClashUnlessSimulatedAmong command.flags.simulate (wishes_of command) other files present_files s clash → IsFirstClashUnlessSimulatedAmong command.flags.simulate (wishes_of command) read files present_files s clash
   clash_same s files present_files clash is = by command.flags.simulate
     where
       of_inputs : (i : Inputs) → i ≡ inputs → members_after_change i s.replacement (wishes_of command) other ≡ members_after_change i s.replacement (wishes_of command) read
       of_inputs i e = subst (λ (j : Inputs). members_after_change j s.replacement (wishes_of command) other ≡ members_after_change j s.replacement (wishes_of command) read) (sym e) (sym (members_same s.replacement (wishes_of command)))
 
-      by : (b : Bool) → IsClashUnlessSimulatedAmong b (wishes_of command) other files present_files s clash → IsClashUnlessSimulatedAmong b (wishes_of command) read files present_files s clash
+      by : (b : Bool) → IsFirstClashUnlessSimulatedAmong b (wishes_of command) other files present_files s clash → IsFirstClashUnlessSimulatedAmong b (wishes_of command) read files present_files s clash
       by true clash_is = clash_is
-      by false clash_is = subst (λ (found : Result (List MemberFound) Refusal). IsClashFoundAmong s.inputs (wishes_of command) files present_files found clash) (of_inputs s.inputs is) clash_is
+      by false clash_is = subst (λ (found : Result (List MemberFound) Refusal). IsFirstClashIfMembersFoundAmong s.inputs (wishes_of command) files present_files found clash) (of_inputs s.inputs is) clash_is
 
   packages_same : (s : InputsAndReplacement) → s.inputs ≡ inputs → packages_found_after_change command read (Ok s) ≡ packages_found_after_change command other (Ok s)
   packages_same s is = subst (λ (i : Inputs). members_after_change i s.replacement (wishes_of command) read ≡ members_after_change i s.replacement (wishes_of command) other) (sym is) (members_same s.replacement (wishes_of command))
@@ -155,8 +155,8 @@ selected_has command chosen inputs = by_pool (pool_of_inputs command inputs)
     by_pool (Err refusal) = tt
 
 module _ (have : HaveOwnReads) (command : CommandLine) (inputs : Inputs) (old now : List TreeState) (before after : Counts) (result : Result (List ℕ) Refused)
-    (first : Reads) (observed : AreReadsOfTree old first) (is : inputs_of command first ≡ Ok inputs)
-    (chosen : Option (List ℕ)) (choice : IsChoiceFrom (pool_of_inputs command inputs) chosen)
+    (first : Reads) (observed : AreReadsOfTreeIfObservable old first) (is : inputs_of command first ≡ Ok inputs)
+    (chosen : Option (List ℕ)) (choice : IsPreferredChoiceUnlessRefused (pool_of_inputs command inputs) chosen)
     (run : IsRunOnSelection command (selected_from_inputs_by_choice command chosen inputs) old now before after result) where
   count : ℕ
   count = first_index_read_number + length inputs.root.repositories
@@ -195,7 +195,7 @@ module _ (have : HaveOwnReads) (command : CommandLine) (inputs : Inputs) (old no
   unfolding selected
   packages_are = packages_by selected (selected_has command chosen inputs) ∙ ap (packages_found_after_change command read) (sym selected_is)
 
-  clash_by : (s : Result InputsAndReplacement Refusal) → HasInputs inputs s → IsClashOfSelectedAmong command run.read run.files run.present_files s run.clash → IsClashOfSelectedAmong command read run.files run.present_files s run.clash
+  clash_by : (s : Result InputsAndReplacement Refusal) → HasInputs inputs s → IsFirstClashUnlessRefusedAmong command run.read run.files run.present_files s run.clash → IsFirstClashUnlessRefusedAmong command read run.files run.present_files s run.clash
   clash_by (Ok s) has clash = clash_same have command inputs read run.read same s run.files run.present_files run.clash has clash
   clash_by (Err refusal) has clash = clash
 
@@ -205,20 +205,20 @@ module _ (have : HaveOwnReads) (command : CommandLine) (inputs : Inputs) (old no
     read = read;
     observed = splice_observed count first run.read old observed run.observed;
     chosen = chosen;
-    choice = subst (λ (r : Result Inputs Refusal). IsChoiceFrom (and_then r (pool_of_inputs command)) chosen) (sym inputs_is) choice;
+    choice = subst (λ (r : Result Inputs Refusal). IsPreferredChoiceUnlessRefused (and_then r (pool_of_inputs command)) chosen) (sym inputs_is) choice;
     files = run.files;
     there = run.there;
     present_files = run.present_files;
     stand = run.stand;
     clash = run.clash;
-    is_clash = subst (λ (s : Result InputsAndReplacement Refusal). IsClashOfSelectedAmong command read run.files run.present_files s run.clash) (sym selected_is)
+    is_clash = subst (λ (s : Result InputsAndReplacement Refusal). IsFirstClashUnlessRefusedAmong command read run.files run.present_files s run.clash) (sym selected_is)
         (clash_by selected (selected_has command chosen inputs) run.is_clash);
     comes = subst (λ (p : Result (List MemberFound) Refusal). IsEndOfRunOfWantedChange p (change_of_command command read run.files chosen run.clash) old now before after result) packages_are
         (subst (λ (w : Result ChangeDone Refusal). IsEndOfRunOfWantedChange (packages_found_after_change command run.read selected) w old now before after result) changed_is run.comes);
   }
 
 pub joined : HaveOwnReads → (command : CommandLine) (loaded : Loaded) (old mid now : List TreeState) (before between after : Counts) (result : Result (List ℕ) Refused) → IsOnlyRead old mid before between
-    → IsExplainedBySomeReads old (λ read. inputs_of command read ≡ Ok (inputs_seen loaded)) → IsRunBy command (inputs_seen loaded) mid now between after result → IsChangeRun command old now before after result
+    → HoldsOfSomeReadsOfTree old (λ read. inputs_of command read ≡ Ok (inputs_seen loaded)) → IsRunBy command (inputs_seen loaded) mid now between after result → IsChangeRun command old now before after result
 joined have command loaded old mid now before between after result quiet explained run =
     whole_run have command (inputs_seen loaded) old now before after result explained.read explained.observed explained.is run.0 run.1
     (run_after_reads command _ old mid now before between after result quiet run.2)
@@ -226,7 +226,7 @@ joined have command loaded old mid now before between after result quiet explain
 -- ---- a root that is not read
 
 module _ (choose : HaveChoice) (have : HaveClash) (command : CommandLine) (old now : List TreeState) (before after : Counts) (whole : All IsWellFormed old) (quiet : IsOnlyRead old now before after) where
-  unread_failure : (fault : Refused) → IsDiskOrMemoryFailure fault → (read : Reads) → AreReadsOfTree old read → IsChangeRun command old now before after (Err fault)
+  unread_failure : (fault : Refused) → IsDiskOrMemoryFailure fault → (read : Reads) → AreReadsOfTreeIfObservable old read → IsChangeRun command old now before after (Err fault)
   unread_failure fault is read observed =
       let (chosen, choice) = choose (pool_of_command command read) in
       let seen = files_seen have command (selected_from_reads_by_choice command read chosen) old read whole in
@@ -244,7 +244,7 @@ module _ (choose : HaveChoice) (have : HaveClash) (command : CommandLine) (old n
         comes = comes_to_failure _ _ old now before after quiet fault is;
       }
 
-  unread_refusal : (refusal : Refusal) (read : Reads) → AreReadsOfTree old read → inputs_of command read ≡ Err refusal → IsChangeRun command old now before after (Err (IsRefused refusal))
+  unread_refusal : (refusal : Refusal) (read : Reads) → AreReadsOfTreeIfObservable old read → inputs_of command read ≡ Err refusal → IsChangeRun command old now before after (Err (IsRefused refusal))
   unfolding change_of_command
   unread_refusal refusal read observed is =
       let seen = files_seen have command (Err refusal) old read whole in
@@ -253,17 +253,17 @@ module _ (choose : HaveChoice) (have : HaveClash) (command : CommandLine) (old n
         read = read;
         observed = observed;
         chosen = None;
-        choice = subst (λ (r : Result Inputs Refusal). IsChoiceFrom (and_then r (pool_of_inputs command)) None) (sym is) refl;
+        choice = subst (λ (r : Result Inputs Refusal). IsPreferredChoiceUnlessRefused (and_then r (pool_of_inputs command)) None) (sym is) refl;
         files = seen.files;
         there = seen.there;
         present_files = seen.files;
         stand = seen.there;
         clash = seen.clash;
-        is_clash = subst (λ (s : Result InputsAndReplacement Refusal). IsClashOfSelected command read seen.files s seen.clash) (sym selected) seen.is_clash;
+        is_clash = subst (λ (s : Result InputsAndReplacement Refusal). IsFirstClashUnlessRefused command read seen.files s seen.clash) (sym selected) seen.is_clash;
         comes = comes_to_refusal _ _ old now before after quiet refusal (ap (λ (s : Result InputsAndReplacement Refusal). and_then s (change_of_selected command read seen.files seen.clash)) selected);
       }
 
-  pub unread : (fault : Refused) → IsExplainedBySomeReads old (λ read. AgreesUnlessDiskOrMemory inputs_seen (Err fault) (inputs_of command read)) → IsChangeRun command old now before after (Err fault)
+  pub unread : (fault : Refused) → HoldsOfSomeReadsOfTree old (λ read. AgreesUnlessDiskOrMemory inputs_seen (Err fault) (inputs_of command read)) → IsChangeRun command old now before after (Err fault)
   unread (IsRefused refusal) explained = unread_refusal refusal explained.read explained.observed explained.is
   unread Disk explained = unread_failure Disk tt explained.read explained.observed
   unread Memory explained = unread_failure Memory tt explained.read explained.observed
@@ -271,9 +271,9 @@ module _ (choose : HaveChoice) (have : HaveClash) (command : CommandLine) (old n
 -- ---- what was read of the root stands there
 
 pub root_read : ((command : CommandLine) (read : Reads) (inputs : Inputs) (files : Files) → ((n : ℕ) (name : List ℕ) → read n name ≡ files name) → inputs_of command read ≡ Ok inputs → AreDatabaseAndWorldReadFromFiles files inputs.root)
-    → (command : CommandLine) (inputs : Inputs) (old mid : List TreeState) → mid ≡ old → IsExplainedBySomeReads old (λ read. inputs_of command read ≡ Ok inputs) → IsRootRead mid inputs
+    → (command : CommandLine) (inputs : Inputs) (old mid : List TreeState) → mid ≡ old → HoldsOfSomeReadsOfTree old (λ read. inputs_of command read ≡ Ok inputs) → IsRootRead mid inputs
 root_read law command inputs old mid same explained = subst (λ (h : List TreeState). IsRootRead h inputs) (sym same) (by old explained.observed)
   where
-    by : (h : List TreeState) → AreReadsOfTree h explained.read → IsRootRead h inputs
+    by : (h : List TreeState) → AreReadsOfTreeIfObservable h explained.read → IsRootRead h inputs
     by [] observed = tt
     by (v ∷ earlier) observed = law command explained.read inputs (files_of v) observed explained.is

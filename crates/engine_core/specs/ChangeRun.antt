@@ -17,16 +17,16 @@ use Rattle.command_core.specs.Command.{CommandLine}
 use Rattle.change_report.specs.db_core.Members.{member_name}
 use Rattle.change_report.specs.file_owners.Replaces.{package_version_text}
 use Rattle.change_report.specs.journal_core.Recovery.{intent_name}
-use Rattle.change_report.specs.journal_core.Staged.{AreStagingPathsFree, HasNoStagedNames}
+use Rattle.change_report.specs.journal_core.Staged.{HasEmptyStageAndFreeJournalPaths, HasNoStagedNames}
 use Rattle.change_report.specs.make_info.Reads.{Reads}
-use Rattle.change_report.specs.package_files.Runs.{AreReadsOfTree}
+use Rattle.change_report.specs.package_files.Runs.{AreReadsOfTreeIfObservable}
 use Rattle.change_report.specs.path_clashes.Clash.{NamePair}
 use Rattle.report_core.specs.declared.refusal.Refusal.{Refusal}
 use Rattle.report_core.specs.declared.refusal.Refusal.TheVariants.{PackageBad}
 use Rattle.journal_staging.specs.Spoiled.{IsFileWithOnlyContentsSpoiled}
 use Rattle.journal_staging.specs.journal_commit.StageRun.{IsRunOfStagedChange, IsStagedChangeComplete}
-use Rattle.engine_core.specs.Changed.{IsClashOfCommandAmong, change_of_command, packages_found_after_change, selected_from_reads_by_choice}
-use Rattle.engine_core.specs.Choice.{IsChoiceFrom}
+use Rattle.engine_core.specs.Changed.{IsFirstClashOfCommandAmong, change_of_command, packages_found_after_change, selected_from_reads_by_choice}
+use Rattle.engine_core.specs.Choice.{IsPreferredChoiceUnlessRefused}
 use Rattle.engine_core.specs.Selecting.{pool_of_command}
 
 -- ---- the answer
@@ -131,7 +131,8 @@ pub record IsEndOfRunOfWantedChange (packages : Result (List MemberFound) Refusa
       → IsUnchangedOrCommit wanted v old now result)
   -- without an intent and staged files, no call is a misuse if the paths of the stage are free
   pub proper : IfObservable old (λ v. v.names intent_name ≡ None → HasNoStagedNames (files_of v)
-      → (DoesCommit wanted → AreStagingPathsFree (files_of v)) → after.misuses ≡ before.misuses)
+      → (DoesCommit wanted → HasEmptyStageAndFreeJournalPaths (files_of v)) → after.misuses
+      ≡ before.misuses)
 
 -- A run of a command's change: by what reads find, by some files, by what is chosen, and by the first
 -- clash of names among some present files. On an observable tree `files` and `present_files` are the
@@ -141,11 +142,11 @@ pub record IsChangeRun (command : CommandLine) (old now : List TreeState) (befor
   -- what the reads find
   pub read : Reads
   -- the reads find what is in the tree
-  pub observed : AreReadsOfTree old read
+  pub observed : AreReadsOfTreeIfObservable old read
   -- the places of the chosen candidates; None if no selection satisfies the new world
   pub chosen : Option (List ℕ)
   -- the chosen candidates are the preferred selection, or there is none
-  pub choice : IsChoiceFrom (pool_of_command command read) chosen
+  pub choice : IsPreferredChoiceUnlessRefused (pool_of_command command read) chosen
   -- the files that decide whether a configuration file is kept
   pub files : Files
   -- on an observable tree these are its files at the start
@@ -157,7 +158,7 @@ pub record IsChangeRun (command : CommandLine) (old now : List TreeState) (befor
   -- two names of which one would be a folder of the other after the change; None if there are none
   pub clash : Option NamePair
   -- `clash` is the first such clash of the change among `present_files`
-  pub is_clash : IsClashOfCommandAmong command read files present_files chosen clash
+  pub is_clash : IsFirstClashOfCommandAmong command read files present_files chosen clash
   -- the run ends as the packages found and the result of the change say
   pub comes : IsEndOfRunOfWantedChange
       (packages_found_after_change command read (selected_from_reads_by_choice command read chosen))

@@ -5,7 +5,7 @@ use Rattle.std.specs.Prelude.{◌≡◌, ℕ, Bool, true, false, if◌then◌els
 use Rattle.base_core.specs.Files.{Files}
 use Rattle.change_report.specs.change_inputs.Chains.{and_then}
 use Rattle.change_report.specs.change_inputs.Inputs.{Inputs, inputs_of}
-use Rattle.change_report.specs.change_outcome.ChangeOutcome.{ChangeDone, ChangeWishes, IsClashOfChangeAmong, members_after_change, change_or_refusal}
+use Rattle.change_report.specs.change_outcome.ChangeOutcome.{ChangeDone, ChangeWishes, IsFirstClashOfChangeAmong, members_after_change, change_or_refusal}
 use Rattle.change_report.specs.change_outcome.MembersAfter.{MemberFound}
 use Rattle.command_core.specs.Command.{CommandLine}
 use Rattle.change_report.specs.make_info.Reads.{Reads}
@@ -85,44 +85,44 @@ change_of_command command read files chosen clash =
 -- ---- the first clash
 
 -- the first clash of names that a change finds; a simulated change does not search for it, and has none
-abbrev pub IsClashUnlessSimulatedAmong :
+abbrev pub IsFirstClashUnlessSimulatedAmong :
     Bool → ChangeWishes → Reads → Files → Files → InputsAndReplacement → Option NamePair → Type 0
-IsClashUnlessSimulatedAmong true wishes read files present_files s clash = clash ≡ None
-IsClashUnlessSimulatedAmong false wishes read files present_files s clash =
-    IsClashOfChangeAmong s.inputs s.replacement wishes read files present_files clash
+IsFirstClashUnlessSimulatedAmong true wishes read files present_files s clash = clash ≡ None
+IsFirstClashUnlessSimulatedAmong false wishes read files present_files s clash =
+    IsFirstClashOfChangeAmong s.inputs s.replacement wishes read files present_files clash
 
 -- the first clash of names that a command finds; a command that is refused earlier does not search for it, and
 -- has none
-abbrev pub IsClashOfSelectedAmong :
+abbrev pub IsFirstClashUnlessRefusedAmong :
     CommandLine → Reads → Files → Files → Result InputsAndReplacement Refusal → Option NamePair → Type 0
-IsClashOfSelectedAmong command read files present_files (Ok s) clash =
-    IsClashUnlessSimulatedAmong command.flags.simulate (wishes_of command) read files present_files s
+IsFirstClashUnlessRefusedAmong command read files present_files (Ok s) clash =
+    IsFirstClashUnlessSimulatedAmong command.flags.simulate (wishes_of command) read files present_files s
     clash
-IsClashOfSelectedAmong command read files present_files (Err refusal) clash = clash ≡ None
+IsFirstClashUnlessRefusedAmong command read files present_files (Err refusal) clash = clash ≡ None
 
 -- The first clash of the names after a change; none if the command is refused before that test. `files`
 -- decide whether a configuration file is kept or a file is written beside it; names clash among
 -- `present_files`.
-abbrev pub IsClashOfCommandAmong :
+abbrev pub IsFirstClashOfCommandAmong :
     CommandLine → Reads → Files → Files → Option (List ℕ) → Option NamePair → Type 0
-IsClashOfCommandAmong command read files present_files chosen clash =
-    IsClashOfSelectedAmong command read files present_files
+IsFirstClashOfCommandAmong command read files present_files chosen clash =
+    IsFirstClashUnlessRefusedAmong command read files present_files
     (selected_from_reads_by_choice command read chosen) clash
 
--- *IsClashUnlessSimulatedAmong*, with the same files as `present_files`, as on an observable tree
-abbrev pub IsClashUnlessSimulated :
+-- *IsFirstClashUnlessSimulatedAmong*, with the same files as `present_files`, as on an observable tree
+abbrev pub IsFirstClashUnlessSimulated :
     Bool → ChangeWishes → Reads → Files → InputsAndReplacement → Option NamePair → Type 0
-IsClashUnlessSimulated simulate wishes read files s clash =
-    IsClashUnlessSimulatedAmong simulate wishes read files files s clash
+IsFirstClashUnlessSimulated simulate wishes read files s clash =
+    IsFirstClashUnlessSimulatedAmong simulate wishes read files files s clash
 
--- *IsClashOfSelectedAmong*, with the same files as `present_files`
-abbrev pub IsClashOfSelected :
+-- *IsFirstClashUnlessRefusedAmong*, with the same files as `present_files`
+abbrev pub IsFirstClashUnlessRefused :
     CommandLine → Reads → Files → Result InputsAndReplacement Refusal → Option NamePair → Type 0
-IsClashOfSelected command read files selected clash =
-    IsClashOfSelectedAmong command read files files selected clash
+IsFirstClashUnlessRefused command read files selected clash =
+    IsFirstClashUnlessRefusedAmong command read files files selected clash
 
--- *IsClashOfCommandAmong*, with the same files as `present_files`
-abbrev pub IsClashOfCommand :
+-- *IsFirstClashOfCommandAmong*, with the same files as `present_files`
+abbrev pub IsFirstClashOfCommand :
     CommandLine → Reads → Files → Option (List ℕ) → Option NamePair → Type 0
-IsClashOfCommand command read files chosen clash =
-    IsClashOfCommandAmong command read files files chosen clash
+IsFirstClashOfCommand command read files chosen clash =
+    IsFirstClashOfCommandAmong command read files files chosen clash

@@ -6,7 +6,7 @@ use Rattle.base_core.specs.Calls.{IfObservable}
 use Rattle.base_core.specs.Tree.{TreeState, files_of}
 use Rattle.change_report.specs.change_inputs.declared.root.Refused.{Refused}
 use Rattle.change_report.specs.change_inputs.declared.root.Refused.TheVariants as Commands
-use Rattle.change_report.specs.db_core.Members.{member_of_kept, member_listings}
+use Rattle.change_report.specs.db_core.Members.{member_of_kept, listings_of_members}
 use Rattle.change_report.specs.db_core.Seen.{members_of, packages_of}
 use Rattle.change_report.specs.db_core.declared.db.Db.{Db}
 use Rattle.change_report.specs.db_core.declared.members.Members.{Members}
@@ -40,7 +40,7 @@ pub record IsPlanFrom (history : List TreeState) (purge : Bool) (db : Db) (membe
   pub owners : IsPlanForMembersAlone (members_of members) plan
   -- no path that the old database lists is reserved
   pub unreserved : All (λ l. is_reserved l.path ≡ false)
-      (member_listings (map member_of_kept (packages_of db)))
+      (listings_of_members (map member_of_kept (packages_of db)))
 
 -- a change has no plan, for this reason
 pub record HasNoPlan (history : List TreeState) (purge : Bool) (db : Db) (members : Members)

@@ -10,16 +10,16 @@ use Rattle.change_report.specs.change_inputs.Chains.{and_then}
 use Rattle.change_report.specs.change_inputs.declared.root.Refused.{Refused}
 use Rattle.change_report.specs.change_inputs.declared.root.Refused.TheVariants.{Disk}
 use Rattle.change_report.specs.change_inputs.Inputs.{Inputs}
-use Rattle.change_report.specs.change_outcome.ChangeOutcome.{ChangeWishes, IsClashFoundAmong, change_with_members}
+use Rattle.change_report.specs.change_outcome.ChangeOutcome.{ChangeWishes, IsFirstClashIfMembersFoundAmong, change_with_members}
 use Rattle.change_report.specs.change_outcome.MembersAfter.{MemberFound}
 use Rattle.command_core.specs.Command.{CommandLine}
 use Rattle.change_report.specs.make_info.Reads.{Reads}
-use Rattle.change_report.specs.package_files.Runs.{AreReadsOfTree}
+use Rattle.change_report.specs.package_files.Runs.{AreReadsOfTreeIfObservable}
 use Rattle.change_report.specs.package_changes.Changes.{Replacement}
 use Rattle.change_report.specs.path_clashes.Clash.{NamePair}
 use Rattle.report_core.specs.declared.refusal.Refusal.{Refusal}
 use Rattle.engine_core.specs.ChangeRun.{IsEndOfRunOfWantedChange}
-use Rattle.engine_core.specs.Changed.{IsClashOfSelectedAmong, InputsAndReplacement, change_of_selected, packages_found_after_change}
+use Rattle.engine_core.specs.Changed.{IsFirstClashUnlessRefusedAmong, InputsAndReplacement, change_of_selected, packages_found_after_change}
 
 -- a run of a change, given what is selected or the refusal instead
 pub record IsRunOnSelection (command : CommandLine) (selected : Result InputsAndReplacement Refusal)
@@ -28,7 +28,7 @@ pub record IsRunOnSelection (command : CommandLine) (selected : Result InputsAnd
   -- what the reads find
   pub read : Reads
   -- the reads find what is in the tree
-  pub observed : AreReadsOfTree old read
+  pub observed : AreReadsOfTreeIfObservable old read
   -- the files that decide whether a configuration file is kept
   pub files : Files
   -- on an observable tree these are its files at the start
@@ -40,7 +40,7 @@ pub record IsRunOnSelection (command : CommandLine) (selected : Result InputsAnd
   -- two names of which one would be a folder of the other after the change; None if there are none
   pub clash : Option NamePair
   -- `clash` is the first such clash of the change among `present_files`
-  pub is_clash : IsClashOfSelectedAmong command read files present_files selected clash
+  pub is_clash : IsFirstClashUnlessRefusedAmong command read files present_files selected clash
   -- the run ends as the packages found and the result of the change say
   pub comes : IsEndOfRunOfWantedChange (packages_found_after_change command read selected)
       (and_then selected (change_of_selected command read files clash))
@@ -61,7 +61,7 @@ pub record IsRunOnFoundPackages (inputs : Inputs) (r : Replacement) (wishes : Ch
   -- two names of which one would be a folder of the other after the change; None if there are none
   pub clash : Option NamePair
   -- `clash` is the first such clash of the change among `present_files`
-  pub is_clash : IsClashFoundAmong inputs wishes files present_files (Ok found) clash
+  pub is_clash : IsFirstClashIfMembersFoundAmong inputs wishes files present_files (Ok found) clash
   -- the run ends as the packages found and the result of the change say
   pub comes : IsEndOfRunOfWantedChange (Ok found) (change_with_members inputs r wishes clash files found)
       old now before after result

@@ -11,7 +11,7 @@ use Rattle.command_core.specs.Command.{CommandLine}
 use Rattle.change_report.specs.db_core.Seen.{packages_of}
 use Rattle.change_report.specs.package_changes.Changes.{Replacement}
 use Rattle.engine_core.specs.Changed.{InputsAndReplacement, selected_from_inputs_by_choice}
-use Rattle.engine_core.specs.Choice.{IsChoiceFrom}
+use Rattle.engine_core.specs.Choice.{IsPreferredChoiceUnlessRefused}
 use Rattle.engine_core.specs.Selecting.{pool_of_inputs, replacement_of_choice}
 use Rattle.engine_core.specs.Wishes.{wishes_of}
 use Rattle.engine_core.specs.declared.choosing.Selection.{Selection}
@@ -48,7 +48,7 @@ wishes_of_selection s = wishes_of s.command.now
 abbrev pub IsSelectedFrom : CommandLine → Inputs → Result Selection Refused → Type 0
 IsSelectedFrom command inputs result =
     (chosen : Option (List ℕ))
-    × IsChoiceFrom (pool_of_inputs command inputs) chosen
+    × IsPreferredChoiceUnlessRefused (pool_of_inputs command inputs) chosen
     × Agrees selection_seen result (selected_from_inputs_by_choice command chosen inputs)
 
 -- a selection has this command, these inputs, their database, and the command's candidates

@@ -48,8 +48,9 @@ abbrev pub is_installed_name : Inputs → List ℕ → Bool
 is_installed_name inputs name = was_installed inputs.root.database.packages name
 
 -- whether world has an entry of the name, or a package of it is installed
-abbrev pub is_known_name : Inputs → List ℕ → Bool
-is_known_name inputs name = has_dependency_named name inputs.root.world || is_installed_name inputs name
+abbrev pub is_name_in_world_or_installed : Inputs → List ℕ → Bool
+is_name_in_world_or_installed inputs name =
+    has_dependency_named name inputs.root.world || is_installed_name inputs name
 
 -- the place on the command line of the first operand whose text fails the test `is_known`; None if there is none
 abbrev pub place_of_first_unknown_operand : (List ℕ → Bool) → List Operand → Option ℕ
@@ -60,7 +61,8 @@ place_of_first_unknown_operand is_known (o ∷ operands) =
 -- the place on the command line of the operand that is refused as not installed: for `del` a name that
 -- is neither in world nor installed, for `upgrade` and `fix` one that is not installed
 abbrev pub unknown_operand_place : Applet → Inputs → List Operand → Option ℕ
-unknown_operand_place Del inputs operands = place_of_first_unknown_operand (is_known_name inputs) operands
+unknown_operand_place Del inputs operands =
+    place_of_first_unknown_operand (is_name_in_world_or_installed inputs) operands
 unknown_operand_place Upgrade inputs operands =
     place_of_first_unknown_operand (is_installed_name inputs) operands
 unknown_operand_place Fix inputs operands =

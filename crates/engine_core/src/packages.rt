@@ -6,7 +6,7 @@ ghost use Rattle.added_packages.specs.Arrivals.{CanBeMembers, arrivals_seen};
 ghost use Rattle.base_core.specs.Read.{OnlyReads};
 ghost use Rattle.change_report.specs.change_outcome.ChangeOutcome.{members_after_change};
 ghost use Rattle.change_report.specs.db_core.Seen.{packages_of};
-ghost use Rattle.change_report.specs.package_files.Runs.{IsExplainedBySomeReads};
+ghost use Rattle.change_report.specs.package_files.Runs.{HoldsOfSomeReadsOfTree};
 ghost use Rattle.engine_core.specs.Preparing.{ArePackagesReadForSelection};
 ghost use Rattle.engine_core.specs.SelectionSeen.{HasDatabaseOfInputs, HasPoolOfInputs, inputs_of_selection, replacement_seen, wishes_of_selection};
 ghost use Rattle.std.specs.Prelude.{IfOk};
@@ -46,7 +46,7 @@ pub(crate) fn read_packages<'r, 'a, T: Tree>(
     requires pool { HasPoolOfInputs selection.now }
     // The packages are those that the definition finds by reads of the tree; or the first package
     // with a fault is refused.
-    ensures found { IsExplainedBySomeReads (T.history tree.old) (λ read.
+    ensures found { HoldsOfSomeReadsOfTree (T.history tree.old) (λ read.
         DenotesUnlessDisk (ArePackagesReadForSelection
         (T.history tree.old) selection.entry.now) result
         (members_after_change (inputs_of_selection selection.entry.now)

@@ -5,7 +5,7 @@ ghost use Rattle.change_report.specs.change_inputs.Seen.{inputs_seen};
 ghost use Rattle.change_report.specs.db_core.Seen.{packages_of};
 ghost use Rattle.dep_core.specs.World.{has_dependency_named};
 ghost use Rattle.change_report.specs.change_inputs.World.{operand_texts};
-ghost use Rattle.engine_core.specs.Wishes.{place_of_first_unknown_operand, is_known_name, names_of_upgrade, names_to_remove, names_to_reinstall, names_to_upgrade, unknown_operand_place};
+ghost use Rattle.engine_core.specs.Wishes.{place_of_first_unknown_operand, is_name_in_world_or_installed, names_of_upgrade, names_to_remove, names_to_reinstall, names_to_upgrade, unknown_operand_place};
 ghost use Rattle.change_report.specs.package_changes.Report.{was_installed};
 ghost use Rattle.change_report.specs.candidate_core.Rank.{all_names, listed_names};
 ghost use Rattle.change_report.specs.candidate_core.Values.{names_upgraded_by};
@@ -112,7 +112,7 @@ pub(crate) fn unknown_operand(command: &Command, loaded: &Loaded, db: &Db<'_>) -
 fn place_of_first_unknown_operand(operands: &Operands, loaded: &Loaded, db: &Db<'_>) -> Option<u32>
     // The opened database has the packages that were read of the root.
     requires { packages_of db.now ≡ (inputs_seen loaded.now).root.database.packages }
-    ensures { result ≡ place_of_first_unknown_operand (is_known_name
+    ensures { result ≡ place_of_first_unknown_operand (is_name_in_world_or_installed
         (inputs_seen loaded.now)) operands.now }
 {
     for i in 0..operands.len() {
@@ -142,7 +142,7 @@ fn first_not_installed(operands: &Operands, db: &Db<'_>) -> Option<u32>
 fn is_known(name: &[u8], loaded: &Loaded, db: &Db<'_>) -> bool
     // The opened database has the packages that were read of the root.
     requires { packages_of db.now ≡ (inputs_seen loaded.now).root.database.packages }
-    ensures { result ≡ is_known_name (inputs_seen loaded.now) name.now }
+    ensures { result ≡ is_name_in_world_or_installed (inputs_seen loaded.now) name.now }
 {
     if is_in_world(name, loaded.world()) {
         return true;

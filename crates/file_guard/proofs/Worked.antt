@@ -1,6 +1,6 @@
 -- Rows that are worked by hand: bytes against an entry, and two entries.
 use Rattle.std.proofs.Common.{◌≡◌, ℕ, List, [], codes, refl, true, false}
-use Rattle.file_guard.specs.AsListed.{do_entries_agree, is_as_listed, is_as_listed_by_size_hash_target}
+use Rattle.file_guard.specs.AsListed.{are_sizes_hashes_targets_equal, is_as_listed, is_as_listed_by_size_hash_target}
 use Rattle.file_guard.proofs.Sample.{link, plain_file}
 
 abbrev name : List ℕ
@@ -42,22 +42,22 @@ link_to_other = refl
 
 -- ---- two entries
 
-other_name : do_entries_agree (plain_file name 3 digest) (plain_file (codes "y") 3 digest) ≡ true
-unfolding do_entries_agree
+other_name : are_sizes_hashes_targets_equal (plain_file name 3 digest) (plain_file (codes "y") 3 digest) ≡ true
+unfolding are_sizes_hashes_targets_equal
 other_name = refl
 
-other_size : do_entries_agree (plain_file name 3 digest) (plain_file name 4 digest) ≡ false
-unfolding do_entries_agree
+other_size : are_sizes_hashes_targets_equal (plain_file name 3 digest) (plain_file name 4 digest) ≡ false
+unfolding are_sizes_hashes_targets_equal
 other_size = refl
 
-other_digest : do_entries_agree (plain_file name 3 digest) (plain_file name 3 []) ≡ false
-unfolding do_entries_agree
+other_digest : are_sizes_hashes_targets_equal (plain_file name 3 digest) (plain_file name 3 []) ≡ false
+unfolding are_sizes_hashes_targets_equal
 other_digest = refl
 
-other_target : do_entries_agree (link name (codes "y")) (link name (codes "z")) ≡ false
-unfolding do_entries_agree
+other_target : are_sizes_hashes_targets_equal (link name (codes "y")) (link name (codes "z")) ≡ false
+unfolding are_sizes_hashes_targets_equal
 other_target = refl
 
-no_target : do_entries_agree (link name (codes "y")) (plain_file name 0 []) ≡ false
-unfolding do_entries_agree
+no_target : are_sizes_hashes_targets_equal (link name (codes "y")) (plain_file name 0 []) ≡ false
+unfolding are_sizes_hashes_targets_equal
 no_target = refl

@@ -26,27 +26,27 @@ abbrev pub has_target : Plain → Bool
 has_target entry = not (length (file_target entry) == 0)
 
 -- the offset in a target at which the text of the link begins, counted from 0: after `00 a0`
-abbrev pub link_text_offset : ℕ
-link_text_offset = 2
+abbrev pub link_text_offset_in_target : ℕ
+link_text_offset_in_target = 2
 
 -- the text of a link with this target
 abbrev pub link_text_of_target : List ℕ → List ℕ
-link_text_of_target target = drop link_text_offset target
+link_text_of_target target = drop link_text_offset_in_target target
 
 -- the bytes of a file that represents a link to a target: a mark, and the link's text
-abbrev pub link_bytes_to : List ℕ → List ℕ
-link_bytes_to target = codes "!<symlink>" ++ link_text_of_target target
+abbrev pub link_file_bytes_of_target : List ℕ → List ℕ
+link_file_bytes_of_target target = codes "!<symlink>" ++ link_text_of_target target
 
 -- the bytes of a file that represents the link of an entry
-abbrev pub link_bytes : Plain → List ℕ
-link_bytes entry = link_bytes_to (file_target entry)
+abbrev pub link_file_bytes_of_entry : Plain → List ℕ
+link_file_bytes_of_entry entry = link_file_bytes_of_target (file_target entry)
 
 -- Whether `bytes` are as an entry with this size, hash and target lists them. With a target, they are the
 -- bytes of the link; with a hash, they have this hash. With neither, the size is 0 and there are no
 -- bytes.
 unfoldable pub is_as_listed_by_size_hash_target : ℕ → List ℕ → List ℕ → List ℕ → Bool
 is_as_listed_by_size_hash_target size hash target bytes =
-    if not (length target == 0) then bytes_eq bytes (link_bytes_to target)
+    if not (length target == 0) then bytes_eq bytes (link_file_bytes_of_target target)
     else if length hash == 0 then (size == 0) && (length bytes == 0)
     else is_none (hash_fault hash bytes)
 
@@ -56,7 +56,7 @@ is_as_listed entry bytes =
     is_as_listed_by_size_hash_target (file_size entry) (file_hash entry) (file_target entry) bytes
 
 -- whether two entries of files give the same size, the same hash and the same target
-unfoldable pub do_entries_agree : Plain → Plain → Bool
-do_entries_agree a b =
+unfoldable pub are_sizes_hashes_targets_equal : Plain → Plain → Bool
+are_sizes_hashes_targets_equal a b =
     (file_size a == file_size b)
     && (bytes_eq (file_hash a) (file_hash b) && bytes_eq (file_target a) (file_target b))

@@ -10,7 +10,7 @@ ghost use Rattle.base_core.specs.Tree.{files_of};
 ghost use Rattle.file_guard.specs.Listed.{comparison_of_bytes, comparison_of_found_file, DescribesEntry};
 ghost use Rattle.pkg_core.specs.adb_schema.Views.{file_value};
 ghost use Rattle.adb_view.specs.Plain.{Plain};
-ghost use Rattle.file_guard.specs.AsListed.{do_entries_agree};
+ghost use Rattle.file_guard.specs.AsListed.{are_sizes_hashes_targets_equal};
 
 use crate::watch::Watch;
 use base_core::{Disk, Name, Tree};
@@ -144,10 +144,10 @@ pub struct ListedFile<'a> {
 
 impl<'a> ListedFile<'a> {
     /// Whether two entries give the same size, the same digest and the same target.
-    #[tactic(auto, unfolding(crate::specs::AsListed::do_entries_agree))]
+    #[tactic(auto, unfolding(crate::specs::AsListed::are_sizes_hashes_targets_equal))]
     pub fn agrees(&self, other: &ListedFile<'_>) -> bool
         ensures { (a b : Plain) → DescribesEntry self.now a → DescribesEntry other.now b
-            → result ≡ do_entries_agree a b }
+            → result ≡ are_sizes_hashes_targets_equal a b }
     {
         self.size == other.size && self.hash == other.hash && self.target == other.target
     }

@@ -15,7 +15,7 @@ use Rattle.std.proofs.lemmas.Map.Keys.{ge_from_not_lt}
 use Rattle.dep_core.specs.Dependency.{Dependency}
 use Rattle.dep_core.specs.Reading.{dependency_on_any_version}
 use Rattle.dep_core.specs.Value.{is_match_number, is_version_or_empty}
-use Rattle.dep_core.specs.ValueReading.{match_bits_unless_any_version, dependency_of_value, with_wanted_version}
+use Rattle.dep_core.specs.ValueReading.{match_bits_unless_any_version, dependency_of_value, with_wanted_version_if_any}
 use Rattle.dep_core.specs.Dependency.{is_dep_name}
 use Rattle.version_core.specs.Order.{is_version}
 use Rattle.adb_view.specs.Plain.{Plain}
@@ -38,7 +38,7 @@ value_or d (Some x) = x
 
 -- ---- an entry names no package of another name
 
-named_on : (d : Dependency) (version : List ℕ) (bits : Option ℕ) → (with_wanted_version d version bits).name ≡ d.name
+named_on : (d : Dependency) (version : List ℕ) (bits : Option ℕ) → (with_wanted_version_if_any d version bits).name ≡ d.name
 named_on d [] bits = refl
 named_on d (b ∷ rest) None = refl
 named_on d (b ∷ rest) (Some bits) = refl
@@ -54,7 +54,7 @@ not_met (Some d) name version h = go (not d.conflict) (bytes_eq d.name name) _ (
 value_named : (name version : List ℕ) (matching : ℕ) (d : Dependency) → dependency_of_value name version matching ≡ Some d → d.name ≡ name
 unfolding dependency_of_value
 value_named name version matching d e =
-    let made : Dependency = with_wanted_version (dependency_on_any_version (not (nat_lt matching 16)) name) version (match_bits_unless_any_version (matching % 16)) in
+    let made : Dependency = with_wanted_version_if_any (dependency_on_any_version (not (nat_lt matching 16)) name) version (match_bits_unless_any_version (matching % 16)) in
     go (is_dep_name name && (is_version_or_empty version && is_match_number matching)) made (named_on (dependency_on_any_version (not (nat_lt matching 16)) name) version (match_bits_unless_any_version (matching % 16))) e
   where
     go : (t : Bool) (made : Dependency) → made.name ≡ name → (if t then Some made else None) ≡ Some d → d.name ≡ name

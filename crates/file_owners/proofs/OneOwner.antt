@@ -2,8 +2,8 @@
 use Rattle.std.proofs.Common.{◌≡◌, inl, inr, ℕ, Bool, true, false, List, [], ◌∷◌, map, Option, Some, None, refl, ap, sym, ◌∙◌, true≢false}
 use Rattle.std.proofs.lemmas.Bool.{eqb-true}
 use Rattle.path_claims.specs.adb_fields.FirstPair.{IsIn}
-use Rattle.db_core.specs.Members.{Listing, Member, member_listings}
-use Rattle.db_core.specs.OwnedListings.{HaveAtMostOneOwner, owned_listings}
+use Rattle.db_core.specs.Members.{Listing, Member, listings_of_members}
+use Rattle.db_core.specs.OwnedListings.{HaveAtMostOneOwnerForEachPath, owned_listings}
 use Rattle.path_claims.specs.Claims.{is_owning_member}
 use Rattle.file_owners.specs.Owners.{owned_flags_of, owner_of_path}
 
@@ -25,10 +25,10 @@ abbrev value_or : ℕ → Option ℕ → ℕ
 value_or d None = d
 value_or d (Some v) = v
 
-pub owned_once : (members : List Member) → HaveAtMostOneOwner (owned_listings (member_listings members) (owned_flags_of members))
+pub owned_once : (members : List Member) → HaveAtMostOneOwnerForEachPath (owned_listings (listings_of_members members) (owned_flags_of members))
 unfolding owned_flags_of
 owned_once members l k lin kin same =
     let owns : Listing → Bool = λ x. is_owning_member x.place (owner_of_path members x.path) in
-    let first = owner_is l.place (owner_of_path members l.path) (passes owns (member_listings members) l lin) in
-    let second = owner_is k.place (owner_of_path members k.path) (passes owns (member_listings members) k kin) in
+    let first = owner_is l.place (owner_of_path members l.path) (passes owns (listings_of_members members) l lin) in
+    let second = owner_is k.place (owner_of_path members k.path) (passes owns (listings_of_members members) k kin) in
     ap (value_or 0) (sym first ∙ (ap (owner_of_path members) same ∙ second))

@@ -2,7 +2,7 @@
 -- The rules are in `docs/commands.md`, "Files that several packages list"; the terms *claim*, *owner*,
 -- *contested* and *rivals* in `docs/names.md`, "The installed database and a change of it".
 use Rattle.std.specs.Prelude.{ℕ, ◌+◌, Bool, false, List, [], ◌∷◌, map, Option, Some, None, slice_get}
-use Rattle.db_core.specs.Members.{Listing, Member, member_listings}
+use Rattle.db_core.specs.Members.{Listing, Member, listings_of_members}
 use Rattle.path_claims.specs.Claims.{ContestedPath, PathClaim, first_contested_path, is_owning_member, owner_among}
 use Rattle.file_owners.specs.Replaces.{takes_over}
 
@@ -22,8 +22,8 @@ member_beats members x y = takes_over_if_both_exist (slice_get members x) (slice
 -- ---- what members claim
 
 -- the claim of a listed file; the number says how many claims are before it in the list of all claims
-abbrev pub claim_of_listing : ℕ → Listing → PathClaim
-claim_of_listing number l = record {
+abbrev pub numbered_claim_of_listing : ℕ → Listing → PathClaim
+numbered_claim_of_listing number l = record {
   path = l.path;
   member = l.place;
   folder = l.folder;
@@ -33,13 +33,14 @@ claim_of_listing number l = record {
 
 -- the claims of the listings, in order; the first claim has the number `number`, and each further one a number that is
 -- one more
-abbrev pub claims_from : ℕ → List Listing → List PathClaim
-claims_from number [] = []
-claims_from number (l ∷ listings) = claim_of_listing number l ∷ claims_from (number + 1) listings
+abbrev pub claims_of_listings_numbered_from : ℕ → List Listing → List PathClaim
+claims_of_listings_numbered_from number [] = []
+claims_of_listings_numbered_from number (l ∷ listings) =
+    numbered_claim_of_listing number l ∷ claims_of_listings_numbered_from (number + 1) listings
 
 -- the claims of all members, in the order of members, folders and files, numbered from 0
 unfoldable pub claims_in : List Member → List PathClaim
-claims_in members = claims_from 0 (member_listings members)
+claims_in members = claims_of_listings_numbered_from 0 (listings_of_members members)
 
 -- ---- who owns a path
 
@@ -50,7 +51,7 @@ owner_of_path members path = owner_among (member_beats members) (claims_in membe
 -- for each file that members list, in the order of members, folders and files, whether its member owns its path
 unfoldable pub owned_flags_of : List Member → List Bool
 owned_flags_of members =
-    map (λ l. is_owning_member l.place (owner_of_path members l.path)) (member_listings members)
+    map (λ l. is_owning_member l.place (owner_of_path members l.path)) (listings_of_members members)
 
 -- the first path in byte order that members list and no member owns, with its rivals: the first member that lists the
 -- path, and the first other one that this member does not beat. None if each path has an owner

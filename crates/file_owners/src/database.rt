@@ -3,7 +3,7 @@
 //! `docs/commands.md`, "Files that several packages list", that a kept package claims those files.
 
 ghost use Rattle.std.specs.Prelude.{◌≡◌, ◌<◌, [], Some, IfOk, length, map, slice_get};
-ghost use Rattle.db_core.specs.Members.{Member, listings_of_member, member_listings, member_of_kept};
+ghost use Rattle.db_core.specs.Members.{Member, listings_of_member, listings_of_members, member_of_kept};
 ghost use Rattle.db_core.specs.Seen.{packages_of};
 ghost use Rattle.base_core.specs.Sorted.{sorted_by};
 ghost use Rattle.path_claims.specs.Claims.{claim_cmp};
@@ -56,7 +56,7 @@ fn count_in_package<'a>(db: &Db<'a>, i: usize, _mark: PhantomData<PackageView<'a
 fn listed_files<'a>(alloc: Global, db: &Db<'a>) -> Result<Vec<Claim<'a>>, AllocError>
     // On Ok, these are the claims of the packages as kept members, in the order of the members.
     ensures { IfOk result (λ claims. map claim_seen claims.items
-        ≡ claims_with_listings [] (member_listings (map member_of_kept (packages_of db.now)))) }
+        ≡ claims_with_listings [] (listings_of_members (map member_of_kept (packages_of db.now)))) }
 {
     // The memory for all claims is asked for at once: a list that grows would leave smaller copies
     // of itself in memory.

@@ -8,7 +8,7 @@ ghost use Rattle.path_claims.specs.adb_fields.Paths.{path_of};
 ghost use Rattle.path_claims.specs.adb_fields.ListValue.{list_value};
 ghost use Rattle.path_claims.specs.adb_fields.Repeated.{files_in, list_of, name_of};
 ghost use Rattle.adb_view.specs.Values.{count_of, entries_in, nth};
-ghost use Rattle.db_core.specs.Members.{Listing, Member, listings_of_member, listings_in_folder, listings_in_folders, member_listings};
+ghost use Rattle.db_core.specs.Members.{Listing, Member, listings_of_member, listings_in_folder_from_file, listings_in_folders_from, listings_of_members};
 ghost use Rattle.db_core.specs.Seen.{members_of};
 ghost use Rattle.path_claims.specs.Seen.{claim_seen};
 ghost use Rattle.file_owners.specs.Gathered.{claims_with_listings};
@@ -67,7 +67,7 @@ fn add_files<'a>(
     // On Ok, the claims of the folder's files are added at the end.
     ensures { IfOk result (λ _. (m : Member) → map claim_seen claims.new.items
         ≡ claims_with_listings (map claim_seen claims.old.items)
-        (listings_in_folder m place.now.member place.now.folder 1 place.now.name.now
+        (listings_in_folder_from_file m place.now.member place.now.folder 1 place.now.name.now
         (list_of (entries_in (list_value files.now))))) }
 {
     for i in 0..files.len() {
@@ -89,7 +89,7 @@ fn add_folder<'a>(
     // On Ok, the claims of the files of this folder are added at the end.
     ensures { IfOk result (λ _. (m : Member) → map claim_seen claims.new.items
         ≡ claims_with_listings (map claim_seen claims.old.items)
-        (listings_in_folder m member (i + 1) 1
+        (listings_in_folder_from_file m member (i + 1) 1
         (name_of (nth (entries_in (list_value folders.now)) i))
         (files_in (nth (entries_in (list_value folders.now)) i)))) }
 {
@@ -117,7 +117,7 @@ pub(crate) fn add_folders<'a>(
     // On Ok, the claims of the files of all folders are added at the end.
     ensures { IfOk result (λ _. (m : Member) → map claim_seen claims.new.items
         ≡ claims_with_listings (map claim_seen claims.old.items)
-        (listings_in_folders m member 1 (list_of (entries_in (list_value folders.now))))) }
+        (listings_in_folders_from m member 1 (list_of (entries_in (list_value folders.now))))) }
 {
     for i in 0..folders.len() {
         add_folder(claims, member, folders, i)?;
@@ -182,7 +182,7 @@ pub(crate) fn claims_in<'a>(
 ) -> Result<Vec<Claim<'a>>, AllocError>
     // On Ok, these are the claims of all files that the members list, in order.
     ensures { IfOk result (λ claims. map claim_seen claims.items
-        ≡ claims_with_listings [] (member_listings (members_of members.now))) }
+        ≡ claims_with_listings [] (listings_of_members (members_of members.now))) }
 {
     // The memory for all claims is asked for at once: a list that grows would leave smaller copies
     // of itself in memory.

@@ -4,7 +4,7 @@
 //! beats the other, who owns a path, and which path is reported if nobody does.
 
 ghost use Rattle.std.specs.Prelude.{◌≡◌, ◌<◌, Some, IfOk, length, map, option_map, slice_get, List, true, false};
-ghost use Rattle.db_core.specs.Members.{Member, member_listings};
+ghost use Rattle.db_core.specs.Members.{Member, listings_of_members};
 ghost use Rattle.db_core.specs.Seen.{members_of};
 ghost use Rattle.base_core.specs.Sorted.{sorted_by};
 ghost use Rattle.path_claims.specs.Claims.{claim_cmp};
@@ -18,7 +18,7 @@ ghost use Rattle.db_core.specs.adb_schema.Dependencies.{dependency_in};
 ghost use Rattle.db_core.specs.adb_schema.SoundValues.{IsSoundDependency};
 ghost use Rattle.version_core.specs.Order.{is_version};
 ghost use Rattle.adb_view.specs.Plain.{Plain};
-ghost use Rattle.db_core.specs.OwnedListings.{HaveAtMostOneOwner, owned_listings};
+ghost use Rattle.db_core.specs.OwnedListings.{HaveAtMostOneOwnerForEachPath, owned_listings};
 
 use crate::gather::claims_in;
 use crate::named::{is_among, places_of_each};
@@ -161,5 +161,6 @@ pub fn no_two_packages_take_over_from_each_other()
 pub fn no_path_is_owned_by_two_members()
     // Of the listings with the same path, the flags mark at most one member's.
     ensures { (members : List Member)
-        → HaveAtMostOneOwner (owned_listings (member_listings members) (owned_flags_of members)) }
+        → HaveAtMostOneOwnerForEachPath (owned_listings (listings_of_members members)
+        (owned_flags_of members)) }
 {}

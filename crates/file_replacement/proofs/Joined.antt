@@ -9,7 +9,7 @@ use Rattle.base_core.specs.Crash.{Since}
 use Rattle.base_core.specs.Undone.{IsDurable}
 use Rattle.journal_core.specs.Kept.{IsSyncedAt}
 use Rattle.journal_core.specs.Recovery.{StateDependsOn, EachCrashLeavesStateOf}
-use Rattle.journal_core.specs.Replacing.{scratch_name_of, files_after_replacement_through_scratch, files_after_replacement, IgnoresScratchNameButNotIntent, IsMomentOfReplacing}
+use Rattle.journal_core.specs.Replacing.{scratch_name_of, files_after_scratch_replaces_name, files_after_replacement, IgnoresScratchNameButNotIntent, IsMomentOfReplacing}
 use Rattle.journal_core.specs.Reading.{ReadsOldOrReplaced}
 use Rattle.journal_core.specs.Filling.{MayHaveChangedOnly, HasChangedOnlyByNewFile, synced_file, IsNewFileReadyToMove, IsNewFileDurablyMoved}
 
@@ -29,7 +29,7 @@ module _ (scratch name bytes : List ℕ) (v : TreeState) (old mid rest : History
         record {
           is_durable = is_unchanged.is_durable;
           old_or_new = old_or_new_from_quiet ignored v
-              (files_after_replacement_through_scratch scratch name bytes (files_of v)) w is_unchanged.quiet;
+              (files_after_scratch_replaces_name scratch name bytes (files_of v)) w is_unchanged.quiet;
           made = is_unchanged.made;
         };
     reads = inl was.others;

@@ -10,7 +10,7 @@ use Rattle.base_core.specs.Lists.{and_then}
 use Rattle.base_core.proofs.AtName.{is_name}
 use Rattle.adb_dump.specs.Dump.{Line, int_line, text_line, hash_line, indent, lines_with_dash_before_first, entry_lines_or_null_line, array_lines, block_lines, named_line, name_line_above_indented_lines, named_lines, fields_lines, field_lines_unless_null}
 use Rattle.adb_dump.specs.Values.{IsOfBytes, AreOfBytes}
-use Rattle.adb_dump.specs.ReadBack.{ResultOrBadLine, mapped_or_bad_line_shifted_by, strip_prefix, block_and_lines_after, single_line_value, entry_read, entries_from_dash_line, entries_read, array_unless_empty, object_unless_empty, fields_read_with_value_on_line, fields_read_with_value_below, value_if_printed_as_line, fields_read_by_name_match, block_read, named_read, fields_read, int_read, text_read, hash_read}
+use Rattle.adb_dump.specs.ReadBack.{ResultOrBadLine, mapped_or_bad_line_shifted_by, strip_prefix, block_and_lines_after, single_line_value, entry_read, entries_from_dash_line, entries_read_with_recursion_bound, array_unless_empty, object_unless_empty, fields_read_with_value_on_line, fields_read_with_value_below, value_if_printed_as_line, fields_read_by_name_match, block_read, named_read, fields_read, int_of_line_unchecked, text_of_line_unchecked, hash_of_line_unchecked}
 use Rattle.adb_dump.proofs.Booleans.{chosen}
 use Rattle.adb_dump.proofs.ReadOnly.{block_only, Fits1, split_block_parts, strip_prefix_some, keeps, entry_lines_or_null_line-is}
 use Rattle.adb_dump.proofs.BlockLines.{no_lines}
@@ -190,9 +190,9 @@ form_zero form l (Some v) k e =
     ]
 
 line_zero : (s : Shape) (l : Line) (k : ℕ) → line_read s l ≡ no_value k → k ≡ 0
-line_zero number l k e = form_zero int_line l (int_read l) k e
-line_zero text l k e = form_zero text_line l (text_read l) k e
-line_zero hash l k e = form_zero hash_line l (hash_read l) k e
+line_zero number l k e = form_zero int_line l (int_of_line_unchecked l) k e
+line_zero text l k e = form_zero text_line l (text_of_line_unchecked l) k e
+line_zero hash l k e = form_zero hash_line l (hash_of_line_unchecked l) k e
 line_zero (array s) l k e = sym (value_number 0 k e)
 line_zero (object which fs) l k e = sym (value_number 0 k e)
 
@@ -316,33 +316,33 @@ entry_passed s l m ls k j v dash read is c =
           ∙ ap (λ (i : ℕ). take i (l ∷ ls) ++ c.rest) (sym count);
     }
 
-entries_completed : (s : Shape) → Completes s → (n : ℕ) (ls : List Line) (k : ℕ) → entries_read (block_read s) n ls ≡ Err k → EntriesCompleted s ls k
+entries_completed : (s : Shape) → Completes s → (n : ℕ) (ls : List Line) (k : ℕ) → entries_read_with_recursion_bound (block_read s) n ls ≡ Err k → EntriesCompleted s ls k
 entries_completed s h zero ls k e = absurd cc
 entries_completed s h (suc n) [] k e = absurd cc
 entries_completed s h (suc n) (l ∷ ls) k e = go (strip_prefix (codes "- ") l) refl (entries_completed s h n (block_and_lines_after ls).1) e
   where
-    after : (m : Line) → Some m ≡ strip_prefix (codes "- ") l → ((j : ℕ) → entries_read (block_read s) n (block_and_lines_after ls).1 ≡ Err j → EntriesCompleted s (block_and_lines_after ls).1 j) → (x : ResultOrBadLine Plain) → entry_read (block_read s) m (block_and_lines_after ls).0 ≡ x
-        → and_then x (λ v. mapped_or_bad_line_shifted_by (1 + length (block_and_lines_after ls).0) (more v) (entries_read (block_read s) n (block_and_lines_after ls).1)) ≡ no_values k → EntriesCompleted s (l ∷ ls) k
+    after : (m : Line) → Some m ≡ strip_prefix (codes "- ") l → ((j : ℕ) → entries_read_with_recursion_bound (block_read s) n (block_and_lines_after ls).1 ≡ Err j → EntriesCompleted s (block_and_lines_after ls).1 j) → (x : ResultOrBadLine Plain) → entry_read (block_read s) m (block_and_lines_after ls).0 ≡ x
+        → and_then x (λ v. mapped_or_bad_line_shifted_by (1 + length (block_and_lines_after ls).0) (more v) (entries_read_with_recursion_bound (block_read s) n (block_and_lines_after ls).1)) ≡ no_values k → EntriesCompleted s (l ∷ ls) k
     after m dash next (Err j) is e = entry_ends s l m ls k dash (entry_completed s h m (block_and_lines_after ls).0 k (is ∙ ap no_value (values_number j k e)))
     after m dash next (Ok v) is e =
-        let (j, bad, count) = later (1 + length (block_and_lines_after ls).0) v (entries_read (block_read s) n (block_and_lines_after ls).1) k e in
+        let (j, bad, count) = later (1 + length (block_and_lines_after ls).0) v (entries_read_with_recursion_bound (block_read s) n (block_and_lines_after ls).1) k e in
         entry_passed s l m ls k j v dash is count (next j bad)
 
-    go : (o : Option Line) → o ≡ strip_prefix (codes "- ") l → ((j : ℕ) → entries_read (block_read s) n (block_and_lines_after ls).1 ≡ Err j → EntriesCompleted s (block_and_lines_after ls).1 j) → entries_from_dash_line (block_read s) (entries_read (block_read s) n) (block_and_lines_after ls) o ≡ no_values k → EntriesCompleted s (l ∷ ls) k
+    go : (o : Option Line) → o ≡ strip_prefix (codes "- ") l → ((j : ℕ) → entries_read_with_recursion_bound (block_read s) n (block_and_lines_after ls).1 ≡ Err j → EntriesCompleted s (block_and_lines_after ls).1 j) → entries_from_dash_line (block_read s) (entries_read_with_recursion_bound (block_read s) n) (block_and_lines_after ls) o ≡ no_values k → EntriesCompleted s (l ∷ ls) k
     go None dash next e = no_entry s (l ∷ ls) k (sym (values_number 0 k e))
     go (Some m) dash next e = after m dash next (entry_read (block_read s) m (block_and_lines_after ls).0) refl e
 
 array_completed : (s : Shape) → Completes s → Completes (array s)
 unfolding block_read block_lines
 array_completed s h ls k e =
-    elim (arr_bad (entries_read (block_read s) (length ls) ls) k e) [
+    elim (arr_bad (entries_read_with_recursion_bound (block_read s) (length ls) ls) k e) [
       | inl bad ↦
           let c = entries_completed s h (length ls) ls k bad in
           record { value = arr (more c.first c.others); fit = array_fit s c.first c.others c.fit; count = c.count; rest = c.rest; lines = c.lines }
       | inr nothing ↦ at_first (array s) (array_sample s) ls k (zero_of nothing e)
     ]
   where
-    zero_of : entries_read (block_read s) (length ls) ls ≡ Ok none → and_then (entries_read (block_read s) (length ls) ls) array_unless_empty ≡ no_value k → k ≡ 0
+    zero_of : entries_read_with_recursion_bound (block_read s) (length ls) ls ≡ Ok none → and_then (entries_read_with_recursion_bound (block_read s) (length ls) ls) array_unless_empty ≡ no_value k → k ≡ 0
     zero_of nothing e = sym (value_number 0 k (sym (ap (λ (r : ResultOrBadLine Plains). and_then r array_unless_empty) nothing) ∙ e))
 
 -- ---- fields
@@ -483,23 +483,23 @@ below_completed name s fs h inner next l [] ls k here e = go (block_read s (bloc
         let (j, bad, count) = later (1 + length (block_and_lines_after ls).0) v (fields_read fs (block_and_lines_after ls).1) k e in
         below_passed name s fs h l [] ls k j v here refl is count (next (block_and_lines_after ls).1 j bad)
 
-number_fits : (l : Line) (v : Plain) → value_if_printed_as_line int_line l (int_read l) ≡ Ok v → Fit number v
+number_fits : (l : Line) (v : Plain) → value_if_printed_as_line int_line l (int_of_line_unchecked l) ≡ Ok v → Fit number v
 unfolding block_read
 number_fits l v e = read_fit number (l ∷ []) v e
 
-text_fits : (l : Line) (v : Plain) → value_if_printed_as_line text_line l (text_read l) ≡ Ok v → Fit text v
+text_fits : (l : Line) (v : Plain) → value_if_printed_as_line text_line l (text_of_line_unchecked l) ≡ Ok v → Fit text v
 unfolding block_read
 text_fits l v e = read_fit text (l ∷ []) v e
 
-hash_fits : (l : Line) (v : Plain) → value_if_printed_as_line hash_line l (hash_read l) ≡ Ok v → Fit hash v
+hash_fits : (l : Line) (v : Plain) → value_if_printed_as_line hash_line l (hash_of_line_unchecked l) ≡ Ok v → Fit hash v
 unfolding block_read
 hash_fits l v e = read_fit hash (l ∷ []) v e
 
 named_completed : (name : List ℕ) (s : Shape) (fs : Fields) → Completes s → FieldsComplete fs → (l rest : Line) (ls : List Line) (k : ℕ) → NamedHere name l rest → named_read s (fields_read fs) ls rest ≡ no_values k → FieldsCompleted (field name s fs) (l ∷ ls) k
 unfolding named_read named_lines block_read block_lines
-named_completed name number fs h next = on_line_completed name number fs int_line int_read (λ v. refl) number_fits next
-named_completed name text fs h next = on_line_completed name text fs text_line text_read (λ v. refl) text_fits next
-named_completed name hash fs h next = on_line_completed name hash fs hash_line hash_read (λ v. refl) hash_fits next
+named_completed name number fs h next = on_line_completed name number fs int_line int_of_line_unchecked (λ v. refl) number_fits next
+named_completed name text fs h next = on_line_completed name text fs text_line text_of_line_unchecked (λ v. refl) text_fits next
+named_completed name hash fs h next = on_line_completed name hash fs hash_line hash_of_line_unchecked (λ v. refl) hash_fits next
 named_completed name (array s) fs h next = below_completed name (array s) fs (λ v. refl) h next
 named_completed name (object which gs) fs h next = below_completed name (object which gs) fs (λ v. refl) h next
 

@@ -7,7 +7,7 @@ use Rattle.adb_values.specs.Drafts.{DraftState, draft_with, draft_with_all, draf
 use Rattle.base_core.specs.Lists.{and_then}
 use Rattle.adb_dump.specs.Dump.{Line}
 use Rattle.adb_dump.specs.Margin.{margin}
-use Rattle.adb_dump.specs.ReadBack.{ResultOrBadLine, mapped_or_bad_line_shifted_by, strip_prefix, end_block_or_add_line, block_and_lines_after, with_line_before_block, single_line_value, entry_read, entries_from_dash_line, entries_read, array_unless_empty, object_unless_empty, fields_read_with_value_on_line, fields_read_with_value_below, fields_read_by_name_match, block_read, named_read, fields_read}
+use Rattle.adb_dump.specs.ReadBack.{ResultOrBadLine, mapped_or_bad_line_shifted_by, strip_prefix, end_block_or_add_line, block_and_lines_after, with_line_before_block, single_line_value, entry_read, entries_from_dash_line, entries_read_with_recursion_bound, array_unless_empty, object_unless_empty, fields_read_with_value_on_line, fields_read_with_value_below, fields_read_by_name_match, block_read, named_read, fields_read}
 use Rattle.adb_dump.proofs.Booleans.{chosen}
 use Rattle.adb_dump.proofs.ReadOnly.{FieldsOnly, fields_only, some_line as no_line}
 use Rattle.adb_dump.proofs.ValueBack.{strip_prefix-append}
@@ -43,7 +43,7 @@ same_dash f g h r None e = refl
 same_dash f g h r (Some l) e = ap (λ (x : ResultOrBadLine Plains). and_then (entry_read f l r.0) (λ v. mapped_or_bad_line_shifted_by (1 + length r.0) (more v) x)) e
 
 -- the number of lines is enough turns
-turns_enough : (f : List Line → ResultOrBadLine Plain) (n m : ℕ) (ls : List Line) → length ls ≤ n → length ls ≤ m → entries_read f n ls ≡ entries_read f m ls
+turns_enough : (f : List Line → ResultOrBadLine Plain) (n m : ℕ) (ls : List Line) → length ls ≤ n → length ls ≤ m → entries_read_with_recursion_bound f n ls ≡ entries_read_with_recursion_bound f m ls
 turns_enough f zero zero ls a b = refl
 turns_enough f zero (suc m) [] a b = refl
 turns_enough f zero (suc m) (l ∷ ls) a b = absurd (omega (arith, a))
@@ -51,7 +51,7 @@ turns_enough f (suc n) zero [] a b = refl
 turns_enough f (suc n) zero (l ∷ ls) a b = absurd (omega (arith, b))
 turns_enough f (suc n) (suc m) [] a b = refl
 turns_enough f (suc n) (suc m) (l ∷ ls) a b =
-    same_dash f (entries_read f n) (entries_read f m) (block_and_lines_after ls) (strip_prefix (codes "- ") l)
+    same_dash f (entries_read_with_recursion_bound f n) (entries_read_with_recursion_bound f m) (block_and_lines_after ls) (strip_prefix (codes "- ") l)
     (turns_enough f n m (block_and_lines_after ls).1 (omega (arith, a, split_count ls)) (omega (arith, b, split_count ls)))
 
 -- an entry's place: its first line has lost its dash, and stands as one that is indented deeper
@@ -86,25 +86,25 @@ entry_place depth line entry c e =
 
 -- the entries from one on, by the entry
 entries_from : (f : List Line → ResultOrBadLine Plain) (line entry : Line) (ls rest : List Line) (d : DraftState) (c : CursorState) → Some entry ≡ strip_prefix (codes "- ") line
-    → values_taken (entries_read f (length (line ∷ ls)) (line ∷ ls)) (line ∷ ls, rest) d c ≡ values_taken (entries_from_dash_line f (entries_read f (length ls)) (block_and_lines_after ls) (Some entry)) (line ∷ ls, rest) d c
+    → values_taken (entries_read_with_recursion_bound f (length (line ∷ ls)) (line ∷ ls)) (line ∷ ls, rest) d c ≡ values_taken (entries_from_dash_line f (entries_read_with_recursion_bound f (length ls)) (block_and_lines_after ls) (Some entry)) (line ∷ ls, rest) d c
 entries_from f line entry ls rest d c e =
-    ap (λ (o : Option Line). values_taken (entries_from_dash_line f (entries_read f (length ls)) (block_and_lines_after ls) o) (line ∷ ls, rest) d c) (sym e)
+    ap (λ (o : Option Line). values_taken (entries_from_dash_line f (entries_read_with_recursion_bound f (length ls)) (block_and_lines_after ls) o) (line ∷ ls, rest) d c) (sym e)
 
 pub entry_bad : (f : List Line → ResultOrBadLine Plain) (depth : ℕ) (line entry : Line) (d : DraftState) (c : CursorState) → Some line ≡ line_of_block (block_at depth c.lines).0 → Some entry ≡ strip_prefix (codes "- ") line → (n : ℕ)
     → (let new = cursor_at_entry (depth + 1) entry c.lines c in block_taken (entry_block_read f (block_at (depth + 1) new.lines).0) (block_at (depth + 1) new.lines) d new ≡ bad_at n)
-    → values_taken (entries_read f (length (block_at depth c.lines).0) (block_at depth c.lines).0) (block_at depth c.lines) d c ≡ bad_at n
+    → values_taken (entries_read_with_recursion_bound f (length (block_at depth c.lines).0) (block_at depth c.lines).0) (block_at depth c.lines) d c ≡ bad_at n
 entry_bad f depth line entry d c e dash n bad =
     let p = entry_place depth line entry c e in
     let new = cursor_at_entry (depth + 1) entry c.lines c in
     let ls = (block_at depth p.others).0 in
     let inner = sym (ap (λ (b : Split). block_taken (entry_block_read f b.0) b d new) p.inner) ∙ bad in
-    ap (λ (b : Split). values_taken (entries_read f (length b.0) b.0) b d c) p.outer
+    ap (λ (b : Split). values_taken (entries_read_with_recursion_bound f (length b.0) b.0) b d c) p.outer
     ∙ entries_from f line entry ls (block_at depth p.others).1 d c dash
     ∙ go (entry_read f entry (block_and_lines_after ls).0) (inner ∙ refl) p.number
   where
     go : (r : ResultOrBadLine Plain) → block_taken r (entry ∷ (block_and_lines_after (block_at depth (entry_place depth line entry c e).others).0).0, (block_at (depth + 1) (entry_place depth line entry c e).others).1) d (cursor_at_entry (depth + 1) entry c.lines c) ≡ bad_at n
         → (cursor_at_entry (depth + 1) entry c.lines c).number ≡ c.number
-        → values_taken (and_then r (λ v. mapped_or_bad_line_shifted_by (1 + length (block_and_lines_after (block_at depth (entry_place depth line entry c e).others).0).0) (more v) (entries_read f (length (block_at depth (entry_place depth line entry c e).others).0) (block_and_lines_after (block_at depth (entry_place depth line entry c e).others).0).1)))
+        → values_taken (and_then r (λ v. mapped_or_bad_line_shifted_by (1 + length (block_and_lines_after (block_at depth (entry_place depth line entry c e).others).0).0) (more v) (entries_read_with_recursion_bound f (length (block_at depth (entry_place depth line entry c e).others).0) (block_and_lines_after (block_at depth (entry_place depth line entry c e).others).0).1)))
         (line ∷ (block_at depth (entry_place depth line entry c e).others).0, (block_at depth (entry_place depth line entry c e).others).1) d c ≡ bad_at n
     go (Ok v) h same = absurd cc
     go (Err k) h same = ap (λ (m : ℕ). bad_at (m + k)) (sym same) ∙ h
@@ -113,8 +113,8 @@ entry_bad f depth line entry d c e dash n bad =
 pub record EntryLeft (f : List Line → ResultOrBadLine Plain) (depth : ℕ) (d : DraftState) (c : CursorState) (later : Reading) : Type 0 where
   pub levels : later.1.levels ≡ 0
   pub shorter : length later.1.lines < length c.lines
-  pub so_far : values_taken (entries_read f (length (block_at depth later.1.lines).0) (block_at depth later.1.lines).0) (block_at depth later.1.lines) later.0 later.1
-      ≡ values_taken (entries_read f (length (block_at depth c.lines).0) (block_at depth c.lines).0) (block_at depth c.lines) d c
+  pub so_far : values_taken (entries_read_with_recursion_bound f (length (block_at depth later.1.lines).0) (block_at depth later.1.lines).0) (block_at depth later.1.lines) later.0 later.1
+      ≡ values_taken (entries_read_with_recursion_bound f (length (block_at depth c.lines).0) (block_at depth c.lines).0) (block_at depth c.lines) d c
 
 pub no_levels : (ls : List Line) → margin_levels_after_block ls 0 ≡ 0
 no_levels [] = refl
@@ -128,8 +128,8 @@ one p q e = cc
 
 -- after an entry that was read
 entry_read_left : (f : List Line → ResultOrBadLine Plain) (depth : ℕ) (line entry : Line) (d : DraftState) (c new : CursorState) (p : EntryPlace depth line entry c) (v : Plain) → new.number ≡ c.number
-    → values_taken (entries_read f (length (block_at depth c.lines).0) (block_at depth c.lines).0) (block_at depth c.lines) d c
-    ≡ values_taken (mapped_or_bad_line_shifted_by (1 + length (block_and_lines_after (block_at depth p.others).0).0) (more v) (entries_read f (length (block_at depth p.others).0) (block_and_lines_after (block_at depth p.others).0).1)) (line ∷ (block_at depth p.others).0, (block_at depth p.others).1) d c
+    → values_taken (entries_read_with_recursion_bound f (length (block_at depth c.lines).0) (block_at depth c.lines).0) (block_at depth c.lines) d c
+    ≡ values_taken (mapped_or_bad_line_shifted_by (1 + length (block_and_lines_after (block_at depth p.others).0).0) (more v) (entries_read_with_recursion_bound f (length (block_at depth p.others).0) (block_and_lines_after (block_at depth p.others).0).1)) (line ∷ (block_at depth p.others).0, (block_at depth p.others).1) d c
     → EntryLeft f depth d c (draft_with v d, cursor_after_block (entry ∷ (block_and_lines_after (block_at depth p.others).0).0, (block_at (depth + 1) p.others).1) new)
 entry_read_left f depth line entry d c new p v same whole =
     let ls = (block_at depth p.others).0 in
@@ -147,9 +147,9 @@ entry_read_left f depth line entry d c new p v same whole =
       levels = refl;
       shorter = p.shorter;
       so_far =
-          ap (λ (b : Split). values_taken (entries_read f (length b.0) b.0) b (draft_with v d) place) p.later
+          ap (λ (b : Split). values_taken (entries_read_with_recursion_bound f (length b.0) b.0) b (draft_with v d) place) p.later
           ∙ ap (λ (x : ResultOrBadLine Plains). values_taken x (r.1, rest) (draft_with v d) place) (turns_enough f (length r.1) (length ls) r.1 (omega arith) (omega (arith, split_count ls)))
-          ∙ sym (later_values (line ∷ ls, rest) (r.1, rest) (1 + length r.0) d c place goes v (entries_read f (length ls) r.1))
+          ∙ sym (later_values (line ∷ ls, rest) (r.1, rest) (1 + length r.0) d c place goes v (entries_read_with_recursion_bound f (length ls) r.1))
           ∙ sym whole;
     }
 
@@ -173,24 +173,24 @@ entry_left f depth line entry d c e dash later ok = go (entry_read f entry r.0) 
     inner : block_taken (entry_read f entry r.0) (entry ∷ r.0, (block_at (depth + 1) p.others).1) d new ≡ Ok later
     inner = sym (ap (λ (b : Split). block_taken (entry_block_read f b.0) b d new) p.inner) ∙ ok
 
-    whole : values_taken (entries_read f (length (block_at depth c.lines).0) (block_at depth c.lines).0) (block_at depth c.lines) d c
-        ≡ values_taken (and_then (entry_read f entry r.0) (λ v. mapped_or_bad_line_shifted_by (1 + length r.0) (more v) (entries_read f (length ls) r.1))) (line ∷ ls, (block_at depth p.others).1) d c
-    whole = ap (λ (b : Split). values_taken (entries_read f (length b.0) b.0) b d c) p.outer ∙ entries_from f line entry ls (block_at depth p.others).1 d c dash
+    whole : values_taken (entries_read_with_recursion_bound f (length (block_at depth c.lines).0) (block_at depth c.lines).0) (block_at depth c.lines) d c
+        ≡ values_taken (and_then (entry_read f entry r.0) (λ v. mapped_or_bad_line_shifted_by (1 + length r.0) (more v) (entries_read_with_recursion_bound f (length ls) r.1))) (line ∷ ls, (block_at depth p.others).1) d c
+    whole = ap (λ (b : Split). values_taken (entries_read_with_recursion_bound f (length b.0) b.0) b d c) p.outer ∙ entries_from f line entry ls (block_at depth p.others).1 d c dash
 
     go : (x : ResultOrBadLine Plain) → block_taken x (entry ∷ r.0, (block_at (depth + 1) p.others).1) d new ≡ Ok later
-        → values_taken (entries_read f (length (block_at depth c.lines).0) (block_at depth c.lines).0) (block_at depth c.lines) d c ≡ values_taken (and_then x (λ v. mapped_or_bad_line_shifted_by (1 + length r.0) (more v) (entries_read f (length ls) r.1))) (line ∷ ls, (block_at depth p.others).1) d c
+        → values_taken (entries_read_with_recursion_bound f (length (block_at depth c.lines).0) (block_at depth c.lines).0) (block_at depth c.lines) d c ≡ values_taken (and_then x (λ v. mapped_or_bad_line_shifted_by (1 + length r.0) (more v) (entries_read_with_recursion_bound f (length ls) r.1))) (line ∷ ls, (block_at depth p.others).1) d c
         → EntryLeft f depth d c later
     go (Err k) h whole = absurd cc
     go (Ok v) h whole = subst (λ (x : Reading). EntryLeft f depth d c x) (one (draft_with v d, cursor_after_block (entry ∷ r.0, (block_at (depth + 1) p.others).1) new) later h) (entry_read_left f depth line entry d c new p v p.number whole)
 
 pub no_dash : (f : List Line → ResultOrBadLine Plain) (depth : ℕ) (line : Line) (d : DraftState) (c : CursorState) → Some line ≡ line_of_block (block_at depth c.lines).0 → None ≡ strip_prefix (codes "- ") line
-    → values_taken (entries_read f (length (block_at depth c.lines).0) (block_at depth c.lines).0) (block_at depth c.lines) d c ≡ bad_at c.number
+    → values_taken (entries_read_with_recursion_bound f (length (block_at depth c.lines).0) (block_at depth c.lines).0) (block_at depth c.lines) d c ≡ bad_at c.number
 no_dash f depth line d c e dash =
     let b = (first_line depth c.lines line e).block in
     let t = block_at depth (first_line depth c.lines line e).others in
     let zero_more : c.number + 0 ≡ c.number = omega arith in
-    ap (λ (b : Split). values_taken (entries_read f (length b.0) b.0) b d c) b
-    ∙ ap (λ (o : Option Line). values_taken (entries_from_dash_line f (entries_read f (length t.0)) (block_and_lines_after t.0) o) (line ∷ t.0, t.1) d c) (sym dash)
+    ap (λ (b : Split). values_taken (entries_read_with_recursion_bound f (length b.0) b.0) b d c) b
+    ∙ ap (λ (o : Option Line). values_taken (entries_from_dash_line f (entries_read_with_recursion_bound f (length t.0)) (block_and_lines_after t.0) o) (line ∷ t.0, t.1) d c) (sym dash)
     ∙ ap bad_at zero_more
 
 -- ---- an entry
@@ -240,15 +240,15 @@ more_values (Ok v) n (Ok vs) e = absurd cc
 more_values (Ok v) n (Err k) e = absurd cc
 more_values (Err k) n r e = absurd cc
 
-pub some_entries : (f : List Line → ResultOrBadLine Plain) (ls : List Line) (line : Line) → Some line ≡ line_of_block ls → entries_read f (length ls) ls ≢ Ok none
+pub some_entries : (f : List Line → ResultOrBadLine Plain) (ls : List Line) (line : Line) → Some line ≡ line_of_block ls → entries_read_with_recursion_bound f (length ls) ls ≢ Ok none
 some_entries f [] line e = absurd cc
 some_entries f (l ∷ ls) line e = go (strip_prefix (codes "- ") l)
   where
-    go : (o : Option Line) → entries_from_dash_line f (entries_read f (length ls)) (block_and_lines_after ls) o ≢ Ok none
+    go : (o : Option Line) → entries_from_dash_line f (entries_read_with_recursion_bound f (length ls)) (block_and_lines_after ls) o ≢ Ok none
     go None e = absurd cc
-    go (Some m) e = more_values (entry_read f m (block_and_lines_after ls).0) (1 + length (block_and_lines_after ls).0) (entries_read f (length ls) (block_and_lines_after ls).1) e
+    go (Some m) e = more_values (entry_read f m (block_and_lines_after ls).0) (1 + length (block_and_lines_after ls).0) (entries_read_with_recursion_bound f (length ls) (block_and_lines_after ls).1) e
 
-pub array_made : (f : List Line → ResultOrBadLine Plain) (ls : List Line) (line : Line) → Some line ≡ line_of_block ls → (vs : Plains) → entries_read f (length ls) ls ≡ Ok vs → array_unless_empty vs ≡ Ok (array_or_null vs)
+pub array_made : (f : List Line → ResultOrBadLine Plain) (ls : List Line) (line : Line) → Some line ≡ line_of_block ls → (vs : Plains) → entries_read_with_recursion_bound f (length ls) ls ≡ Ok vs → array_unless_empty vs ≡ Ok (array_or_null vs)
 array_made f ls line e none is = absurd (some_entries f ls line e is)
 array_made f ls line e (more v vs) is = refl
 

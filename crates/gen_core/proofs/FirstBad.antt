@@ -11,10 +11,10 @@ use Rattle.adb_view.specs.declared.tables.Which.TheVariants.{Dep, Acl, PkgInfo, 
 use Rattle.adb_dump.specs.adb_schema.Soundness.{schema_word}
 use Rattle.base_core.specs.Lists.{and_then}
 use Rattle.adb_dump.specs.Dump.{Line, dump_lines, schema_line, value_lines}
-use Rattle.adb_dump.specs.ReadBack.{ResultOrBadLine, value_read}
+use Rattle.adb_dump.specs.ReadBack.{ResultOrBadLine, value_of_lines_after_first}
 use Rattle.adb_dump.proofs.ValueLaws.{read_back}
 use Rattle.gen_core.specs.Dumps.{AreDumpLines, BeginsADump, IsFirstBadDumpLine, IsNormalRootValueOfTable}
-use Rattle.gen_core.specs.Generated.{DumpedRoot, dumped_root, root_of_lines, root_of_lines_after_first, dumped_root_of_value_read, table_of_line, text_lines, unless_unfinished_line}
+use Rattle.gen_core.specs.Generated.{DumpedRoot, dumped_root, root_of_lines, root_of_lines_after_first, dumped_root_of_value_read, table_of_line, whole_lines_and_rest, unless_unfinished_line}
 use Rattle.gen_core.proofs.Completed.{Completed, block_completed, has_samples}
 use Rattle.gen_core.proofs.Stable.{Agree, block_stable}
 use Rattle.gen_core.proofs.Texts.{AreLinesOf, NamesRoot, line_of_root, lines_are_read, lines_of_root, root_of_line}
@@ -34,11 +34,11 @@ table_samples Index = refl
 table_samples Idb = refl
 table_samples Intent = refl
 
-value_completed : (w : Which) (ls : List Line) (k : ℕ) → value_read w ls ≡ Err k → Completed (shape_of (Obj w)) ls k
+value_completed : (w : Which) (ls : List Line) (k : ℕ) → value_of_lines_after_first w ls ≡ Err k → Completed (shape_of (Obj w)) ls k
 value_completed w [] k e = absurd cc
 value_completed w (l ∷ ls) k e = block_completed (shape_of (Obj w)) (table_samples w) (l ∷ ls) k e
 
-value_stable : (w : Which) (xs ys : List Line) (k : ℕ) → value_read w xs ≡ Err k → Agree (suc k) xs ys → value_read w ys ≡ Err k
+value_stable : (w : Which) (xs ys : List Line) (k : ℕ) → value_of_lines_after_first w xs ≡ Err k → Agree (suc k) xs ys → value_of_lines_after_first w ys ≡ Err k
 value_stable w [] ys k e a = absurd a
 value_stable w (x ∷ xs) [] k e a = absurd a
 value_stable w (x ∷ xs) (y ∷ ys) k e a = block_stable (shape_of (Obj w)) (x ∷ xs) (y ∷ ys) k e a
@@ -74,13 +74,13 @@ no_dump l ls e b =
     absurd (let f = sym e ∙ named in cc)
 
 -- with the bad line no dump begins
-no_dump_with : (l : Line) (ls : List Line) (w : Which) (k : ℕ) → table_of_line l ≡ Some w → value_read w ls ≡ Err k → suc k ≤ length ls → ¬ BeginsADump (l ∷ take (suc k) ls)
+no_dump_with : (l : Line) (ls : List Line) (w : Which) (k : ℕ) → table_of_line l ≡ Some w → value_of_lines_after_first w ls ≡ Err k → suc k ≤ length ls → ¬ BeginsADump (l ∷ take (suc k) ls)
 no_dump_with l ls w k t e le b =
     let d = b.whole in
     let same : d.which ≡ w = some_same d.which w (sym (first_line_of_dump l l (take (suc k) ls ++ b.others) d.which d.value d.is d.lines_are) ∙ t) in
     let lines : value_lines d.which d.value ≡ take (suc k) ls ++ b.others = tails (schema_line (schema_word d.which)) l (value_lines d.which d.value) (take (suc k) ls ++ b.others) d.lines_are in
-    let read : value_read w (take (suc k) ls ++ b.others) ≡ Ok d.value = ap (λ (x : Which). value_read x (take (suc k) ls ++ b.others)) (sym same) ∙ ap (value_read d.which) (sym lines) ∙ read_back d.which d.value d.is.normal d.is.bytes in
-    let bad : value_read w (take (suc k) ls ++ b.others) ≡ Err k = value_stable w ls (take (suc k) ls ++ b.others) k e (agree_front (suc k) ls b.others le) in
+    let read : value_of_lines_after_first w (take (suc k) ls ++ b.others) ≡ Ok d.value = ap (λ (x : Which). value_of_lines_after_first x (take (suc k) ls ++ b.others)) (sym same) ∙ ap (value_of_lines_after_first d.which) (sym lines) ∙ read_back d.which d.value d.is.normal d.is.bytes in
+    let bad : value_of_lines_after_first w (take (suc k) ls ++ b.others) ≡ Err k = value_stable w ls (take (suc k) ls ++ b.others) k e (agree_front (suc k) ls b.others le) in
     absurd (let f = sym read ∙ bad in cc)
 
 -- a dump begins with the lines before it
@@ -110,7 +110,7 @@ record FirstBad (ls : List Line) (n : ℕ) : Type 0 where
   before : n ≢ 1 → BeginsADump (take (n - 1) ls)
   bad : n ≤ length ls → ¬ BeginsADump (take n ls)
 
-at_value : (l : Line) (ls : List Line) (w : Which) (k : ℕ) → table_of_line l ≡ Some w → value_read w ls ≡ Err k → FirstBad (l ∷ ls) (k + 2)
+at_value : (l : Line) (ls : List Line) (w : Which) (k : ℕ) → table_of_line l ≡ Some w → value_of_lines_after_first w ls ≡ Err k → FirstBad (l ∷ ls) (k + 2)
 at_value l ls w k t e =
     let c = value_completed w ls k e in
     let one_less : k + 2 - 1 ≡ suc k = omega arith in
@@ -132,13 +132,13 @@ first_bad : (ls : List Line) (n : ℕ) → root_of_lines ls ≡ Err n → FirstB
 first_bad [] n e = subst (FirstBad []) (root_number 1 n e) at_nothing
 first_bad (l ∷ ls) n e = by_table (table_of_line l) refl e
   where
-    by_value : (w : Which) (r : ResultOrBadLine Plain) → table_of_line l ≡ Some w → value_read w ls ≡ r → dumped_root_of_value_read w r ≡ bad_root n → FirstBad (l ∷ ls) n
+    by_value : (w : Which) (r : ResultOrBadLine Plain) → table_of_line l ≡ Some w → value_of_lines_after_first w ls ≡ r → dumped_root_of_value_read w r ≡ bad_root n → FirstBad (l ∷ ls) n
     by_value w (Ok v) t is e = absurd cc
     by_value w (Err k) t is e = subst (FirstBad (l ∷ ls)) (root_number (k + 2) n e) (at_value l ls w k t is)
 
     by_table : (o : Option Which) → table_of_line l ≡ o → root_of_lines_after_first o ls ≡ bad_root n → FirstBad (l ∷ ls) n
     by_table None t e = subst (FirstBad (l ∷ ls)) (root_number 1 n e) (at_table l ls t)
-    by_table (Some w) t e = by_value w (value_read w ls) t refl e
+    by_table (Some w) t e = by_value w (value_of_lines_after_first w ls) t refl e
 
 whole_front : (ls : List Line) → take (length ls) ls ≡ ls
 whole_front [] = refl
@@ -160,23 +160,23 @@ only_rest_bad ls root ok =
 
 pub first : (t : List ℕ) (n : ℕ) → dumped_root t ≡ Err n → IsFirstBadDumpLine t n
 unfolding dumped_root
-first t n e = go (root_of_lines (text_lines t).0) refl e
+first t n e = go (root_of_lines (whole_lines_and_rest t).0) refl e
   where
     ls : List Line
-    ls = (text_lines t).0
+    ls = (whole_lines_and_rest t).0
 
-    by_rest : (root : DumpedRoot) (rest : List ℕ) → root_of_lines ls ≡ Ok root → (text_lines t).1 ≡ rest → unless_unfinished_line rest (length ls) root ≡ bad_root n → IsFirstBadDumpLine t n
+    by_rest : (root : DumpedRoot) (rest : List ℕ) → root_of_lines ls ≡ Ok root → (whole_lines_and_rest t).1 ≡ rest → unless_unfinished_line rest (length ls) root ≡ bad_root n → IsFirstBadDumpLine t n
     by_rest root [] ok is e = absurd cc
     by_rest root (c ∷ cs) ok is e =
         let f : FirstBad ls n = subst (FirstBad ls) (root_number (length ls + 1) n e) (only_rest_bad ls root ok) in
         record { low = f.low; high = f.high; before = f.before; bad = f.bad; end = λ at_end. inl (λ nothing. let g = sym is ∙ nothing in absurd cc) }
 
-    go : (r : Result DumpedRoot ℕ) → root_of_lines ls ≡ r → and_then r (unless_unfinished_line (text_lines t).1 (length ls)) ≡ bad_root n → IsFirstBadDumpLine t n
+    go : (r : Result DumpedRoot ℕ) → root_of_lines ls ≡ r → and_then r (unless_unfinished_line (whole_lines_and_rest t).1 (length ls)) ≡ bad_root n → IsFirstBadDumpLine t n
     go (Err m) is e =
         let bad : root_of_lines ls ≡ Err n = is ∙ e in
         let f = first_bad ls n bad in
         record { low = f.low; high = f.high; before = f.before; bad = f.bad; end = λ at_end. inr (λ d. dump_read ls n d bad) }
-    go (Ok root) is e = by_rest root (text_lines t).1 is refl e
+    go (Ok root) is e = by_rest root (whole_lines_and_rest t).1 is refl e
 
 -- ---- there is one
 
@@ -202,7 +202,7 @@ fewer m n ls le b =
 
 not_less : (t : List ℕ) (m n : ℕ) → IsFirstBadDumpLine t m → IsFirstBadDumpLine t n → ¬ (m < n)
 not_less t m n a b lt =
-    a.bad (omega (arith, lt, b.high)) (fewer m (n - 1) (text_lines t).0 (omega (arith, lt)) (b.before (λ e. omega (arith, lt, a.low, e))))
+    a.bad (omega (arith, lt, b.high)) (fewer m (n - 1) (whole_lines_and_rest t).0 (omega (arith, lt)) (b.before (λ e. omega (arith, lt, a.low, e))))
 
 pub one : (t : List ℕ) (m n : ℕ) → IsFirstBadDumpLine t m → IsFirstBadDumpLine t n → m ≡ n
 one t m n a b =

@@ -11,7 +11,7 @@ use Rattle.base_core.specs.Lists.{and_then}
 use Rattle.adb_view.specs.declared.tables.Kind.{Kind}
 use Rattle.adb_view.specs.declared.tables.Kind.TheVariants.{Int, Text, Hash, Obj, TextArr, ObjArr}
 use Rattle.adb_dump.specs.Dump.{Line}
-use Rattle.adb_dump.specs.ReadBack.{ResultOrBadLine, array_unless_empty, entries_read, fields_read, object_unless_empty, value_read, single_line_value, fields_read_with_value_on_line, fields_read_with_value_below, block_read, named_read, block_and_lines_after, strip_prefix}
+use Rattle.adb_dump.specs.ReadBack.{ResultOrBadLine, array_unless_empty, entries_read_with_recursion_bound, fields_read, object_unless_empty, value_of_lines_after_first, single_line_value, fields_read_with_value_on_line, fields_read_with_value_below, block_read, named_read, block_and_lines_after, strip_prefix}
 use Rattle.adb_dump.specs.Words.{has_one_line}
 use Rattle.gen_core.specs.Cursors.{CursorState, block_at, line_of_block}
 use Rattle.gen_core.specs.Reads.{block_taken, line_read}
@@ -80,7 +80,7 @@ below_name (ObjArr which) e = array_below _
 
 -- ---- lists
 
-pub array_read : (s : Shape) (ls : List Line) → block_read (array s) ls ≡ and_then (entries_read (block_read s) (length ls) ls) array_unless_empty
+pub array_read : (s : Shape) (ls : List Line) → block_read (array s) ls ≡ and_then (entries_read_with_recursion_bound (block_read s) (length ls) ls) array_unless_empty
 unfolding block_read
 array_read s ls = refl
 
@@ -106,12 +106,12 @@ blob_read_as s b c l old new read ne same is = (blob b, read, is ∙ ap (λ (x :
 
 -- ---- the root
 
-pub root_block : (w : Which) (ls : List Line) (line : Line) → Some line ≡ line_of_block (block_at 0 ls).0 → value_read w ls ≡ block_read (shape_of (Obj w)) (block_at 0 ls).0
+pub root_block : (w : Which) (ls : List Line) (line : Line) → Some line ≡ line_of_block (block_at 0 ls).0 → value_of_lines_after_first w ls ≡ block_read (shape_of (Obj w)) (block_at 0 ls).0
 root_block w [] line e = absurd cc
 root_block w (l ∷ ls) line e = ap (λ (b : Split). block_read (shape_of (Obj w)) b.0) (sym (all_lines (l ∷ ls)))
 
 pub root_taken_as : (w : Which) (d : DraftState) (c : CursorState) (line : Line) → Some line ≡ line_of_block (block_at 0 c.lines).0
-    → block_taken (value_read w c.lines) (c.lines, []) d c ≡ block_taken (block_read (shape_of (Obj w)) (block_at 0 c.lines).0) (block_at 0 c.lines) d c
+    → block_taken (value_of_lines_after_first w c.lines) (c.lines, []) d c ≡ block_taken (block_read (shape_of (Obj w)) (block_at 0 c.lines).0) (block_at 0 c.lines) d c
 root_taken_as w d c line e =
     ap (λ (r : ResultOrBadLine Plain). block_taken r (c.lines, []) d c) (root_block w c.lines line e)
     ∙ ap (λ (b : Split). block_taken (block_read (shape_of (Obj w)) (block_at 0 c.lines).0) b d c) (sym (all_lines c.lines))

@@ -9,7 +9,7 @@ use Rattle.hex.specs.Hex.{encode_with, encode_lower, lower_digits}
 use Rattle.base_core.proofs.AtName.{other_name}
 use Rattle.adb_view.specs.Plain.{Plain, int, blob, number, text, hash}
 use Rattle.adb_dump.specs.Dump.{Line, is_printable, begins_with_byte, needs_no_quotes, quoted_form_of_byte, bare_or_quoted_text, int_line, text_line, hash_line}
-use Rattle.adb_dump.specs.ReadBack.{ResultOrBadLine, hex_digit_value_unchecked, quoted_read, bytes_of_hex_digits, blob_unless_empty, int_read, text_read, hash_read, value_if_printed_as_line}
+use Rattle.adb_dump.specs.ReadBack.{ResultOrBadLine, hex_digit_value_unchecked, quoted_text_read_with_recursion_bound, bytes_of_hex_digits_unchecked, blob_unless_empty, int_of_line_unchecked, text_of_line_unchecked, hash_of_line_unchecked, value_if_printed_as_line}
 use Rattle.adb_dump.proofs.Booleans.{chosen}
 use Rattle.adb_dump.proofs.LineBack.{AreBytes, int_back, text_back, hash_back, hex_digit_value_unchecked-digit, unquoted-escaped}
 use Rattle.adb_dump.proofs.ReadOnly.{made_blob_some}
@@ -48,14 +48,14 @@ over_byte c le =
     let low : hex_digit_value_unchecked (slice_index lower_digits (c % 16)) ≡ c % 16 = hex_digit_value_unchecked-digit (c % 16) (omega arith) in
     ap (λ (d : ℕ). hex_digit_value_unchecked d * 16 + hex_digit_value_unchecked (slice_index lower_digits (c % 16))) high ∙ ap (λ (d : ℕ). 0 * 16 + d) low ∙ omega arith
 
-pub hash_bytes : (b : List ℕ) → bytes_of_hex_digits (encode_lower b) ≡ b → AreBytes b
+pub hash_bytes : (b : List ℕ) → bytes_of_hex_digits_unchecked (encode_lower b) ≡ b → AreBytes b
 unfolding encode_with
 hash_bytes [] e = tt
 hash_bytes (c ∷ cs) e =
     let value = hex_digit_value_unchecked (slice_index lower_digits (c / 16)) * 16 + hex_digit_value_unchecked (slice_index lower_digits (c % 16)) in
-    let head : value ≡ c = heads value c (bytes_of_hex_digits (encode_lower cs)) cs e in
+    let head : value ≡ c = heads value c (bytes_of_hex_digits_unchecked (encode_lower cs)) cs e in
     elim (cases_lt c 256) [
-      | inl less ↦ (less, hash_bytes cs (tails value c (bytes_of_hex_digits (encode_lower cs)) cs e))
+      | inl less ↦ (less, hash_bytes cs (tails value c (bytes_of_hex_digits_unchecked (encode_lower cs)) cs e))
       | inr more ↦ absurd (let o = over_byte c (omega (arith, more)) in omega (arith, o, head, more))
     ]
   where
@@ -82,23 +82,23 @@ mapped : (c : ℕ) (o : Option (List ℕ)) (d : ℕ) (ds : List ℕ) → option_
 mapped c None d ds e = absurd cc
 mapped c (Some b) d ds e = let f : c ∷ b ≡ d ∷ ds = cc in (cc, cc)
 
-over : (n c : ℕ) (more : List ℕ) → 256 ≤ c → option_map (λ (b : List ℕ). (hex_digit_value_unchecked (slice_index lower_digits (c / 16)) * 16 + hex_digit_value_unchecked (slice_index lower_digits (c % 16))) ∷ b) (quoted_read n more) ≡ quoted_read (suc n) (quoted_form_of_byte c ++ more)
+over : (n c : ℕ) (more : List ℕ) → 256 ≤ c → option_map (λ (b : List ℕ). (hex_digit_value_unchecked (slice_index lower_digits (c / 16)) * 16 + hex_digit_value_unchecked (slice_index lower_digits (c % 16))) ∷ b) (quoted_text_read_with_recursion_bound n more) ≡ quoted_text_read_with_recursion_bound (suc n) (quoted_form_of_byte c ++ more)
 unfolding encode_with
-over n c more le = sym (ap (λ (e : List ℕ). quoted_read (suc n) (e ++ more)) (over_escape c le))
+over n c more le = sym (ap (λ (e : List ℕ). quoted_text_read_with_recursion_bound (suc n) (e ++ more)) (over_escape c le))
 
-quoted_bytes : (b : List ℕ) (n : ℕ) → quoted_read n (quoted_rest b) ≡ Some b → AreBytes b
+quoted_bytes : (b : List ℕ) (n : ℕ) → quoted_text_read_with_recursion_bound n (quoted_rest b) ≡ Some b → AreBytes b
 quoted_bytes [] n e = tt
 quoted_bytes (c ∷ cs) zero e = absurd cc
 quoted_bytes (c ∷ cs) (suc n) e =
     let there : quoted_rest (c ∷ cs) ≡ quoted_form_of_byte c ++ quoted_rest cs = ap (λ (x : List ℕ). x ++ codes "\"") (flat_map-cons quoted_form_of_byte c cs) ∙ append_assoc (quoted_form_of_byte c) (flat_map quoted_form_of_byte cs) (codes "\"") in
     elim (cases_lt c 256) [
       | inl less ↦
-          let r = mapped c (quoted_read n (quoted_rest cs)) c cs (sym (unquoted-escaped n c (quoted_rest cs) less) ∙ ap (quoted_read (suc n)) (sym there) ∙ e) in
+          let r = mapped c (quoted_text_read_with_recursion_bound n (quoted_rest cs)) c cs (sym (unquoted-escaped n c (quoted_rest cs) less) ∙ ap (quoted_text_read_with_recursion_bound (suc n)) (sym there) ∙ e) in
           (less, quoted_bytes cs n r.1)
       | inr more ↦
           let le : 256 ≤ c = omega (arith, more) in
           let value = hex_digit_value_unchecked (slice_index lower_digits (c / 16)) * 16 + hex_digit_value_unchecked (slice_index lower_digits (c % 16)) in
-          let r = mapped value (quoted_read n (quoted_rest cs)) c cs (over n c (quoted_rest cs) le ∙ ap (quoted_read (suc n)) (sym there) ∙ e) in
+          let r = mapped value (quoted_text_read_with_recursion_bound n (quoted_rest cs)) c cs (over n c (quoted_rest cs) le ∙ ap (quoted_text_read_with_recursion_bound (suc n)) (sym there) ∙ e) in
           absurd (let o = over_byte c le in omega (arith, o, r.0, le))
     ]
 
@@ -117,14 +117,14 @@ then_some : (o : Option (List ℕ)) (c : List ℕ) → option_and_then blob_unle
 then_some None c e = absurd cc
 then_some (Some b) c e = ap Some (blob_some b c e)
 
-pub text_bytes : (b l : List ℕ) → text_read l ≡ Some (blob b) → bare_or_quoted_text b ≡ l → AreBytes b
+pub text_bytes : (b l : List ℕ) → text_of_line_unchecked l ≡ Some (blob b) → bare_or_quoted_text b ≡ l → AreBytes b
 text_bytes b l r e = go (needs_no_quotes b) refl
   where
     go : (t : Bool) → needs_no_quotes b ≡ t → AreBytes b
     go true bare = bare_bytes b (and_parts _ _ (and_parts _ _ (and_parts _ _ (and_parts _ _ bare).0).0).0).0
     go false bare =
         let is : bare_or_quoted_text b ≡ 34 ∷ quoted_rest b = rw bare refl in
-        let read : text_read (34 ∷ quoted_rest b) ≡ Some (blob b) = ap text_read (sym is ∙ e) ∙ r in
+        let read : text_of_line_unchecked (34 ∷ quoted_rest b) ≡ Some (blob b) = ap text_of_line_unchecked (sym is ∙ e) ∙ r in
         quoted_bytes b (length (34 ∷ quoted_rest b)) (then_some _ b read)
 
 -- ---- texts and hashes
@@ -138,10 +138,10 @@ no_blob form l (Some v) line k h other =
     let f : bytes_eq (line v) l ≡ false = other_name (line v) l differ in
     rw f refl
 
-pub some_text : (l : Line) (v : Plain) → text_read l ≡ Some v → (b : List ℕ) × (v ≡ blob b) × (b ≢ [])
+pub some_text : (l : Line) (v : Plain) → text_of_line_unchecked l ≡ Some v → (b : List ℕ) × (v ≡ blob b) × (b ≢ [])
 some_text l v e =
     elim (chosen (begins_with_byte 0x22 l) _ _ _ e) [
-      | inl x ↦ quoted (quoted_read (length l) (drop 1 l)) x.1
+      | inl x ↦ quoted (quoted_text_read_with_recursion_bound (length l) (drop 1 l)) x.1
       | inr x ↦ let m = made_blob_some l v x.1 in (l, m.0, m.1)
     ]
   where
@@ -154,7 +154,7 @@ text_taken b l fits is = subst (λ (x : Line). line_read text x ≡ Ok (blob b))
 
 pub text_not_taken : (b : List ℕ) (l : Line) → IsFormOf bare_or_quoted_text false b l → line_read text l ≡ Err 0
 text_not_taken b l other =
-    no_blob bare_or_quoted_text l (text_read l) text_line (λ b. refl)
+    no_blob bare_or_quoted_text l (text_of_line_unchecked l) text_line (λ b. refl)
     (λ v e. let (b, is, ne) = some_text l v e in (b, is, ne, text_bytes b l (e ∙ ap Some is))) other
 
 pub hash_taken : (b : List ℕ) (l : Line) → AreBytes b → IsFormOf encode_lower true b l → line_read hash l ≡ Ok (blob b)
@@ -162,5 +162,5 @@ hash_taken b l fits is = subst (λ (x : Line). line_read hash x ≡ Ok (blob b))
 
 pub hash_not_taken : (b : List ℕ) (l : Line) → IsFormOf encode_lower false b l → line_read hash l ≡ Err 0
 hash_not_taken b l other =
-    no_blob encode_lower l (hash_read l) hash_line (λ b. refl)
-    (λ v e. let m = made_blob_some (bytes_of_hex_digits l) v e in (bytes_of_hex_digits l, m.0, m.1, λ f. hash_bytes (bytes_of_hex_digits l) (ap bytes_of_hex_digits f))) other
+    no_blob encode_lower l (hash_of_line_unchecked l) hash_line (λ b. refl)
+    (λ v e. let m = made_blob_some (bytes_of_hex_digits_unchecked l) v e in (bytes_of_hex_digits_unchecked l, m.0, m.1, λ f. hash_bytes (bytes_of_hex_digits_unchecked l) (ap bytes_of_hex_digits_unchecked f))) other

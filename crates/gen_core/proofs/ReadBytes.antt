@@ -7,7 +7,7 @@ use Rattle.base_core.specs.Lists.{and_then}
 use Rattle.base_core.proofs.AtName.{is_name}
 use Rattle.adb_dump.specs.Dump.{Line, int_line, text_line, hash_line}
 use Rattle.adb_dump.specs.Values.{IsOfBytes, AreOfBytes}
-use Rattle.adb_dump.specs.ReadBack.{ResultOrBadLine, mapped_or_bad_line_shifted_by, strip_prefix, block_and_lines_after, bytes_of_hex_digits, single_line_value, entry_read, entries_from_dash_line, entries_read, array_unless_empty, object_unless_empty, fields_read_with_value_on_line, fields_read_with_value_below, value_if_printed_as_line, fields_read_by_name_match, block_read, named_read, fields_read, int_read, text_read, hash_read}
+use Rattle.adb_dump.specs.ReadBack.{ResultOrBadLine, mapped_or_bad_line_shifted_by, strip_prefix, block_and_lines_after, bytes_of_hex_digits_unchecked, single_line_value, entry_read, entries_from_dash_line, entries_read_with_recursion_bound, array_unless_empty, object_unless_empty, fields_read_with_value_on_line, fields_read_with_value_below, value_if_printed_as_line, fields_read_by_name_match, block_read, named_read, fields_read, int_of_line_unchecked, text_of_line_unchecked, hash_of_line_unchecked}
 use Rattle.adb_dump.proofs.Booleans.{chosen}
 use Rattle.adb_dump.proofs.ReadOnly.{if_form_ok, made_blob_some}
 use Rattle.gen_core.proofs.LineReads.{hash_bytes, some_text, text_bytes}
@@ -29,27 +29,27 @@ only_ok f (l ∷ m ∷ ls) v e = absurd (let (x, a, b) = bound (f l) (λ v. Err 
 
 -- ---- one line
 
-pub int_of_bytes : (l : Line) (v : Plain) → value_if_printed_as_line int_line l (int_read l) ≡ Ok v → IsOfBytes v
+pub int_of_bytes : (l : Line) (v : Plain) → value_if_printed_as_line int_line l (int_of_line_unchecked l) ≡ Ok v → IsOfBytes v
 unfolding IsOfBytes
 int_of_bytes l v e =
-    elim (chosen (ltb (digits_value 10 l) (2 ^ 64)) _ _ _ (if_form_ok int_line l (int_read l) v e).0) [
+    elim (chosen (ltb (digits_value 10 l) (2 ^ 64)) _ _ _ (if_form_ok int_line l (int_of_line_unchecked l) v e).0) [
       | inl x ↦ let is : int (digits_value 10 l) ≡ v = (let f = x.1 in cc) in subst IsOfBytes is tt
       | inr x ↦ absurd (let f = x.1 in cc)
     ]
 
-pub text_of_bytes : (l : Line) (v : Plain) → value_if_printed_as_line text_line l (text_read l) ≡ Ok v → IsOfBytes v
+pub text_of_bytes : (l : Line) (v : Plain) → value_if_printed_as_line text_line l (text_of_line_unchecked l) ≡ Ok v → IsOfBytes v
 unfolding IsOfBytes
 text_of_bytes l v e =
-    let (read, form) = if_form_ok text_line l (text_read l) v e in
+    let (read, form) = if_form_ok text_line l (text_of_line_unchecked l) v e in
     let (b, is, ne) = some_text l v read in
     subst IsOfBytes (sym is) (text_bytes b l (read ∙ ap Some is) (ap text_line (sym is) ∙ form))
 
-pub hash_of_bytes : (l : Line) (v : Plain) → value_if_printed_as_line hash_line l (hash_read l) ≡ Ok v → IsOfBytes v
+pub hash_of_bytes : (l : Line) (v : Plain) → value_if_printed_as_line hash_line l (hash_of_line_unchecked l) ≡ Ok v → IsOfBytes v
 unfolding IsOfBytes
 hash_of_bytes l v e =
-    let (read, form) = if_form_ok hash_line l (hash_read l) v e in
-    let m = made_blob_some (bytes_of_hex_digits l) v read in
-    subst IsOfBytes (sym m.0) (hash_bytes (bytes_of_hex_digits l) (ap bytes_of_hex_digits (ap hash_line (sym m.0) ∙ form)))
+    let (read, form) = if_form_ok hash_line l (hash_of_line_unchecked l) v e in
+    let m = made_blob_some (bytes_of_hex_digits_unchecked l) v read in
+    subst IsOfBytes (sym m.0) (hash_bytes (bytes_of_hex_digits_unchecked l) (ap bytes_of_hex_digits_unchecked (ap hash_line (sym m.0) ∙ form)))
 
 -- ---- lists
 
@@ -65,17 +65,17 @@ entry_bytes f h l ls v e =
       | inr x ↦ h (l ∷ ls) v x.1
     ]
 
-entries_bytes : (f : List Line → ResultOrBadLine Plain) → ReadsBytes f → (n : ℕ) (ls : List Line) (vs : Plains) → entries_read f n ls ≡ Ok vs → AreOfBytes vs
+entries_bytes : (f : List Line → ResultOrBadLine Plain) → ReadsBytes f → (n : ℕ) (ls : List Line) (vs : Plains) → entries_read_with_recursion_bound f n ls ≡ Ok vs → AreOfBytes vs
 unfolding IsOfBytes
 entries_bytes f h zero ls vs e = let same : none ≡ vs = cc in subst AreOfBytes same tt
 entries_bytes f h (suc n) [] vs e = let same : none ≡ vs = cc in subst AreOfBytes same tt
 entries_bytes f h (suc n) (l ∷ ls) vs e = go (strip_prefix (codes "- ") l) (entries_bytes f h n (block_and_lines_after ls).1) e
   where
-    go : (o : Option Line) → ((us : Plains) → entries_read f n (block_and_lines_after ls).1 ≡ Ok us → AreOfBytes us) → entries_from_dash_line f (entries_read f n) (block_and_lines_after ls) o ≡ Ok vs → AreOfBytes vs
+    go : (o : Option Line) → ((us : Plains) → entries_read_with_recursion_bound f n (block_and_lines_after ls).1 ≡ Ok us → AreOfBytes us) → entries_from_dash_line f (entries_read_with_recursion_bound f n) (block_and_lines_after ls) o ≡ Ok vs → AreOfBytes vs
     go None k e = absurd cc
     go (Some m) k e =
-        let (v, one, a) = bound (entry_read f m (block_and_lines_after ls).0) (λ v. mapped_or_bad_line_shifted_by (1 + length (block_and_lines_after ls).0) (more v) (entries_read f n (block_and_lines_after ls).1)) vs e in
-        let (us, others, is) = read_after (1 + length (block_and_lines_after ls).0) (more v) (entries_read f n (block_and_lines_after ls).1) vs a in
+        let (v, one, a) = bound (entry_read f m (block_and_lines_after ls).0) (λ v. mapped_or_bad_line_shifted_by (1 + length (block_and_lines_after ls).0) (more v) (entries_read_with_recursion_bound f n (block_and_lines_after ls).1)) vs e in
+        let (us, others, is) = read_after (1 + length (block_and_lines_after ls).0) (more v) (entries_read_with_recursion_bound f n (block_and_lines_after ls).1) vs a in
         subst AreOfBytes is (entry_bytes f h m (block_and_lines_after ls).0 v one, k us others)
 
 arr_bytes : (vs : Plains) (v : Plain) → AreOfBytes vs → array_unless_empty vs ≡ Ok v → IsOfBytes v
@@ -91,7 +91,7 @@ obj_bytes (more u us) v b e = let same : obj (more u us) ≡ v = cc in subst IsO
 array_bytes : (s : Shape) → ReadsBytes (block_read s) → ReadsBytes (block_read (array s))
 unfolding block_read
 array_bytes s h ls v e =
-    let (vs, some, made) = bound (entries_read (block_read s) (length ls) ls) array_unless_empty v e in
+    let (vs, some, made) = bound (entries_read_with_recursion_bound (block_read s) (length ls) ls) array_unless_empty v e in
     arr_bytes vs v (entries_bytes (block_read s) h (length ls) ls vs some) made
 
 -- fields that are read are of bytes
@@ -123,9 +123,9 @@ below_bytes b f hb hf ls [] vs e =
 
 named_bytes : (s : Shape) (f : List Line → ResultOrBadLine Plains) → ReadsBytes (block_read s) → ReadsAllBytes f → (ls : List Line) (rest : Line) (vs : Plains) → named_read s f ls rest ≡ Ok vs → AreOfBytes vs
 unfolding named_read block_read
-named_bytes number f hb hf ls rest vs e = on_line_bytes (λ l. value_if_printed_as_line int_line l (int_read l)) f int_of_bytes hf ls (strip_prefix (codes " ") rest) vs e
-named_bytes text f hb hf ls rest vs e = on_line_bytes (λ l. value_if_printed_as_line text_line l (text_read l)) f text_of_bytes hf ls (strip_prefix (codes " ") rest) vs e
-named_bytes hash f hb hf ls rest vs e = on_line_bytes (λ l. value_if_printed_as_line hash_line l (hash_read l)) f hash_of_bytes hf ls (strip_prefix (codes " ") rest) vs e
+named_bytes number f hb hf ls rest vs e = on_line_bytes (λ l. value_if_printed_as_line int_line l (int_of_line_unchecked l)) f int_of_bytes hf ls (strip_prefix (codes " ") rest) vs e
+named_bytes text f hb hf ls rest vs e = on_line_bytes (λ l. value_if_printed_as_line text_line l (text_of_line_unchecked l)) f text_of_bytes hf ls (strip_prefix (codes " ") rest) vs e
+named_bytes hash f hb hf ls rest vs e = on_line_bytes (λ l. value_if_printed_as_line hash_line l (hash_of_line_unchecked l)) f hash_of_bytes hf ls (strip_prefix (codes " ") rest) vs e
 named_bytes (array s) f hb hf ls rest vs e = below_bytes (block_read (array s)) f hb hf ls rest vs e
 named_bytes (object which fs) f hb hf ls rest vs e = below_bytes (block_read (object which fs)) f hb hf ls rest vs e
 
@@ -145,15 +145,15 @@ no_fields_bytes (l ∷ ls) vs e = absurd cc
 
 number_bytes : ReadsBytes (block_read number)
 unfolding block_read
-number_bytes ls v e = let (l, one) = only_ok (λ l. value_if_printed_as_line int_line l (int_read l)) ls v e in int_of_bytes l v one
+number_bytes ls v e = let (l, one) = only_ok (λ l. value_if_printed_as_line int_line l (int_of_line_unchecked l)) ls v e in int_of_bytes l v one
 
 text_bytes_read : ReadsBytes (block_read text)
 unfolding block_read
-text_bytes_read ls v e = let (l, one) = only_ok (λ l. value_if_printed_as_line text_line l (text_read l)) ls v e in text_of_bytes l v one
+text_bytes_read ls v e = let (l, one) = only_ok (λ l. value_if_printed_as_line text_line l (text_of_line_unchecked l)) ls v e in text_of_bytes l v one
 
 hash_bytes_read : ReadsBytes (block_read hash)
 unfolding block_read
-hash_bytes_read ls v e = let (l, one) = only_ok (λ l. value_if_printed_as_line hash_line l (hash_read l)) ls v e in hash_of_bytes l v one
+hash_bytes_read ls v e = let (l, one) = only_ok (λ l. value_if_printed_as_line hash_line l (hash_of_line_unchecked l)) ls v e in hash_of_bytes l v one
 
 mutual
   pub block_bytes : (s : Shape) → ReadsBytes (block_read s)

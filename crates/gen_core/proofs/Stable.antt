@@ -4,7 +4,7 @@ use Rattle.std.specs.Prelude.{codes, bytes_eq}
 use Rattle.adb_view.specs.Plain.{Plain, Plains, null, none, more, Shape, number, text, hash, array, object, Fields, no_fields, field}
 use Rattle.base_core.specs.Lists.{and_then}
 use Rattle.adb_dump.specs.Dump.{Line, fields_lines, int_line, text_line, hash_line}
-use Rattle.adb_dump.specs.ReadBack.{ResultOrBadLine, mapped_or_bad_line_shifted_by, strip_prefix, end_block_or_add_line, block_and_lines_after, single_line_value, entry_read, entries_from_dash_line, entries_read, array_unless_empty, object_unless_empty, fields_read_with_value_on_line, fields_read_with_value_below, value_if_printed_as_line, fields_read_by_name_match, block_read, named_read, fields_read, int_read, text_read, hash_read}
+use Rattle.adb_dump.specs.ReadBack.{ResultOrBadLine, mapped_or_bad_line_shifted_by, strip_prefix, end_block_or_add_line, block_and_lines_after, single_line_value, entry_read, entries_from_dash_line, entries_read_with_recursion_bound, array_unless_empty, object_unless_empty, fields_read_with_value_on_line, fields_read_with_value_below, value_if_printed_as_line, fields_read_by_name_match, block_read, named_read, fields_read, int_of_line_unchecked, text_of_line_unchecked, hash_of_line_unchecked}
 use Rattle.adb_dump.proofs.Booleans.{chosen}
 use Rattle.adb_dump.proofs.ReadOnly.{FieldsOnly, fields_only, some_line}
 use Rattle.gen_core.specs.Reads.{entry_block_read}
@@ -122,19 +122,19 @@ entry_step f s g h l xs ys k a next e = go (entry_read f l r.0) refl e
     go (Err j) is e = ap (λ (x : ResultOrBadLine Plain). and_then x (λ v. mapped_or_bad_line_shifted_by (1 + length q.0) (more v) (h q.1))) (here j is (values_number j k e) (split_agree k xs ys a))
     go (Ok v) is e = let (j, bad, count) = later (1 + length r.0) v (g r.1) k e in beyond v j is bad count (split_agree k xs ys a)
 
-entries_stable : (f : List Line → ResultOrBadLine Plain) → IsStable f → (n m : ℕ) (xs ys : List Line) (k : ℕ) → length xs ≤ n → length ys ≤ m → entries_read f n xs ≡ Err k → Agree (suc k) xs ys → entries_read f m ys ≡ Err k
+entries_stable : (f : List Line → ResultOrBadLine Plain) → IsStable f → (n m : ℕ) (xs ys : List Line) (k : ℕ) → length xs ≤ n → length ys ≤ m → entries_read_with_recursion_bound f n xs ≡ Err k → Agree (suc k) xs ys → entries_read_with_recursion_bound f m ys ≡ Err k
 entries_stable f s zero m xs ys k a b e agree = absurd cc
 entries_stable f s (suc n) m [] ys k a b e agree = absurd cc
 entries_stable f s (suc n) m (x ∷ xs) [] k a b e agree = absurd agree
 entries_stable f s (suc n) zero (x ∷ xs) (y ∷ ys) k a b e agree = absurd (omega (arith, b))
 entries_stable f s (suc n) (suc m) (x ∷ xs) (y ∷ ys) k a b e agree =
-    subst (λ (l : Line). entries_read f (suc m) (l ∷ ys) ≡ Err k) agree.0
+    subst (λ (l : Line). entries_read_with_recursion_bound f (suc m) (l ∷ ys) ≡ Err k) agree.0
     (go (strip_prefix (codes "- ") x) (λ j bad more_agree. entries_stable f s n m (block_and_lines_after xs).1 (block_and_lines_after ys).1 j (omega (arith, a, split_count xs)) (omega (arith, b, split_count ys)) bad more_agree) e)
   where
-    go : (o : Option Line) → ((j : ℕ) → entries_read f n (block_and_lines_after xs).1 ≡ Err j → Agree (suc j) (block_and_lines_after xs).1 (block_and_lines_after ys).1 → entries_read f m (block_and_lines_after ys).1 ≡ Err j)
-        → entries_from_dash_line f (entries_read f n) (block_and_lines_after xs) o ≡ no_values k → entries_from_dash_line f (entries_read f m) (block_and_lines_after ys) o ≡ no_values k
+    go : (o : Option Line) → ((j : ℕ) → entries_read_with_recursion_bound f n (block_and_lines_after xs).1 ≡ Err j → Agree (suc j) (block_and_lines_after xs).1 (block_and_lines_after ys).1 → entries_read_with_recursion_bound f m (block_and_lines_after ys).1 ≡ Err j)
+        → entries_from_dash_line f (entries_read_with_recursion_bound f n) (block_and_lines_after xs) o ≡ no_values k → entries_from_dash_line f (entries_read_with_recursion_bound f m) (block_and_lines_after ys) o ≡ no_values k
     go None next e = e
-    go (Some l) next e = entry_step f s (entries_read f n) (entries_read f m) l xs ys k agree.1 next e
+    go (Some l) next e = entry_step f s (entries_read_with_recursion_bound f n) (entries_read_with_recursion_bound f m) l xs ys k agree.1 next e
 
 -- ---- whole lists
 
@@ -152,7 +152,7 @@ array_stable : (s : Shape) → IsStable (block_read s) → IsStable (block_read 
 unfolding block_read
 array_stable s h [] ys k e a = absurd a
 array_stable s h (x ∷ xs) ys k e a =
-    elim (arr_bad (entries_read (block_read s) (length (x ∷ xs)) (x ∷ xs)) k e) [
+    elim (arr_bad (entries_read_with_recursion_bound (block_read s) (length (x ∷ xs)) (x ∷ xs)) k e) [
       | inl bad ↦ ap (λ (r : ResultOrBadLine Plains). and_then r array_unless_empty) (entries_stable (block_read s) h (length (x ∷ xs)) (length ys) (x ∷ xs) ys k (omega arith) (omega arith) bad a)
       | inr nothing ↦ absurd (some_entries (block_read s) (x ∷ xs) x refl nothing)
     ]
@@ -223,9 +223,9 @@ below_stable b f sb sf [] xs ys k a e = go (b r.0) refl e
 
 named_stable : (s : Shape) (f : List Line → ResultOrBadLine Plains) → IsStable (block_read s) → IsStable f → StableNamed (named_read s f)
 unfolding named_read block_read
-named_stable number f sb sf = on_line_stable (λ l. value_if_printed_as_line int_line l (int_read l)) f sf
-named_stable text f sb sf = on_line_stable (λ l. value_if_printed_as_line text_line l (text_read l)) f sf
-named_stable hash f sb sf = on_line_stable (λ l. value_if_printed_as_line hash_line l (hash_read l)) f sf
+named_stable number f sb sf = on_line_stable (λ l. value_if_printed_as_line int_line l (int_of_line_unchecked l)) f sf
+named_stable text f sb sf = on_line_stable (λ l. value_if_printed_as_line text_line l (text_of_line_unchecked l)) f sf
+named_stable hash f sb sf = on_line_stable (λ l. value_if_printed_as_line hash_line l (hash_of_line_unchecked l)) f sf
 named_stable (array s) f sb sf = below_stable (block_read (array s)) f sb sf
 named_stable (object which fs) f sb sf = below_stable (block_read (object which fs)) f sb sf
 
@@ -250,15 +250,15 @@ no_fields_stable (x ∷ xs) (y ∷ ys) k e a = e
 
 number_stable : IsStable (block_read number)
 unfolding block_read
-number_stable = only_stable (λ l. value_if_printed_as_line int_line l (int_read l))
+number_stable = only_stable (λ l. value_if_printed_as_line int_line l (int_of_line_unchecked l))
 
 text_stable : IsStable (block_read text)
 unfolding block_read
-text_stable = only_stable (λ l. value_if_printed_as_line text_line l (text_read l))
+text_stable = only_stable (λ l. value_if_printed_as_line text_line l (text_of_line_unchecked l))
 
 hash_stable : IsStable (block_read hash)
 unfolding block_read
-hash_stable = only_stable (λ l. value_if_printed_as_line hash_line l (hash_read l))
+hash_stable = only_stable (λ l. value_if_printed_as_line hash_line l (hash_of_line_unchecked l))
 
 mutual
   pub block_stable : (s : Shape) → IsStable (block_read s)

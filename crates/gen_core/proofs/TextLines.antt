@@ -11,7 +11,7 @@ use Rattle.adb_dump.proofs.adb_schema.Below.{eqb-sym}
 use Rattle.adb_dump.proofs.Pieces.{ends_some, ends_none}
 use Rattle.adb_dump.proofs.ReadOnly.{strip_prefix_some}
 use Rattle.adb_dump.proofs.ValueBack.{strip_prefix-append}
-use Rattle.gen_core.specs.Generated.{TextLines, lines_with_byte_in_front, lines_with_nonend_byte_in_front, text_lines}
+use Rattle.gen_core.specs.Generated.{TextLines, lines_with_byte_in_front, lines_with_nonend_byte_in_front, whole_lines_and_rest}
 use Rattle.gen_core.specs.Reads.{has_rest}
 
 -- ---- prefixes
@@ -83,7 +83,7 @@ levels_over levels i l le = let same : levels - i ≡ 0 = omega (arith, le) in a
 
 -- ---- lines of a text
 
-pub line_found : (t : List ℕ) (k : ℕ) → k < length t → get_or t k 0 ≡ 10 → ((q : ℕ) → q < k → get_or t q 0 ≢ 10) → (text_lines t).0 ≡ take k t ∷ (text_lines (drop (k + 1) t)).0
+pub line_found : (t : List ℕ) (k : ℕ) → k < length t → get_or t k 0 ≡ 10 → ((q : ℕ) → q < k → get_or t q 0 ≢ 10) → (whole_lines_and_rest t).0 ≡ take k t ∷ (whole_lines_and_rest (drop (k + 1) t)).0
 line_found [] k lt is before = absurd (omega arith)
 line_found (c ∷ cs) zero lt is before = let t : eqb c 10 ≡ true = eq-eqb c 10 is in rw t refl
 line_found (c ∷ cs) (suc k) lt is before =
@@ -92,7 +92,7 @@ line_found (c ∷ cs) (suc k) lt is before =
     let e : suc k + 1 ≡ suc (k + 1) = omega arith in
     rw (f, e, more) refl
 
-pub no_line_found : (t : List ℕ) → ((q : ℕ) → q < length t → get_or t q 0 ≢ 10) → (text_lines t).0 ≡ []
+pub no_line_found : (t : List ℕ) → ((q : ℕ) → q < length t → get_or t q 0 ≢ 10) → (whole_lines_and_rest t).0 ≡ []
 no_line_found [] before = refl
 no_line_found (c ∷ cs) before =
     let f : eqb c 10 ≡ false = ne_eqb c 10 (before 0 (omega arith)) in
@@ -101,9 +101,9 @@ no_line_found (c ∷ cs) before =
 
 -- ---- what is after the last line end
 
-pub all_rest : (t : List ℕ) → (text_lines t).0 ≡ [] → (text_lines t).1 ≡ t
+pub all_rest : (t : List ℕ) → (whole_lines_and_rest t).0 ≡ [] → (whole_lines_and_rest t).1 ≡ t
 all_rest [] e = refl
-all_rest (c ∷ cs) e = go (eqb c 10) (text_lines cs).0 (text_lines cs).1 (all_rest cs) e
+all_rest (c ∷ cs) e = go (eqb c 10) (whole_lines_and_rest cs).0 (whole_lines_and_rest cs).1 (all_rest cs) e
   where
     first : (ls : List Line) (rest : List ℕ) → (ls ≡ [] → rest ≡ cs) → (lines_with_nonend_byte_in_front c ls rest).0 ≡ [] → (lines_with_nonend_byte_in_front c ls rest).1 ≡ c ∷ cs
     first [] rest h e = ap (λ (x : List ℕ). c ∷ x) (h refl)
@@ -121,24 +121,24 @@ rest_same c ls rest h = go (eqb c 10) ls h
     go false [] h = sym (h refl)
     go false (l ∷ ls) h = refl
 
-pub rest_by_end : (c : ℕ) (cs : List ℕ) → has_rest (text_lines (c ∷ cs)).1 ≡ not (ends_with_byte 10 (c ∷ cs))
+pub rest_by_end : (c : ℕ) (cs : List ℕ) → has_rest (whole_lines_and_rest (c ∷ cs)).1 ≡ not (ends_with_byte 10 (c ∷ cs))
 rest_by_end c [] = go (eqb c 10) refl
   where
     go : (b : Bool) → eqb c 10 ≡ b → has_rest (cond {A = TextLines} b ([] ∷ [], []) ([], c ∷ [])).1 ≡ not (eqb 10 c)
     go true e = let is : c ≡ 10 = eqb-true c 10 e in rw is refl
     go false e = let f : eqb 10 c ≡ false = ne_eqb 10 c (λ is. let t : eqb c 10 ≡ true = eq-eqb c 10 (sym is) in absurd cc) in rw f refl
 rest_by_end c (d ∷ ds) =
-    rest_same c (text_lines (d ∷ ds)).0 (text_lines (d ∷ ds)).1 (λ none. ap has_rest (all_rest (d ∷ ds) none)) ∙ rest_by_end d ds
+    rest_same c (whole_lines_and_rest (d ∷ ds)).0 (whole_lines_and_rest (d ∷ ds)).1 (λ none. ap has_rest (all_rest (d ∷ ds) none)) ∙ rest_by_end d ds
 
-pub rest_some : (x : ℕ) (t : List ℕ) → slice_get t (length t - 1) ≡ Some x → not (eqb x 10) ≡ has_rest (text_lines t).1
+pub rest_some : (x : ℕ) (t : List ℕ) → slice_get t (length t - 1) ≡ Some x → not (eqb x 10) ≡ has_rest (whole_lines_and_rest t).1
 rest_some x [] e = absurd cc
 rest_some x (c ∷ cs) e = ap not (eqb-sym x 10 ∙ sym (ends_some 10 x (c ∷ cs) e)) ∙ sym (rest_by_end c cs)
 
 -- ---- lines that a search found
 
-pub line_at : (t : List ℕ) (k : ℕ) → IsFirstByte (is_byte 10) t (Some k) → (text_lines t).0 ≡ take k t ∷ (text_lines (drop (k + 1) t)).0
+pub line_at : (t : List ℕ) (k : ℕ) → IsFirstByte (is_byte 10) t (Some k) → (whole_lines_and_rest t).0 ≡ take k t ∷ (whole_lines_and_rest (drop (k + 1) t)).0
 line_at t k found =
     line_found t k found.0.high (eqb-true _ _ found.1) (λ q lt is. found.0.before q (omega arith) lt (eq-eqb _ _ is))
 
-pub no_line : (t : List ℕ) → IsFirstByte (is_byte 10) t None → (text_lines t).0 ≡ []
+pub no_line : (t : List ℕ) → IsFirstByte (is_byte 10) t None → (whole_lines_and_rest t).0 ≡ []
 no_line t nowhere = no_line_found t (λ q lt is. nowhere q (omega arith) lt (eq-eqb _ _ is))

@@ -12,7 +12,7 @@ use Rattle.adb_dump.specs.adb_schema.Soundness.{schema_word}
 use Rattle.base_core.specs.Lists.{and_then}
 use Rattle.base_core.proofs.AtName.{is_name}
 use Rattle.adb_dump.specs.Dump.{Line, dump_lines, dump_text, schema_line, dump_text_of_lines, value_lines}
-use Rattle.adb_dump.specs.ReadBack.{ResultOrBadLine, add_char, lines_of_text_if_all_ended, value_read}
+use Rattle.adb_dump.specs.ReadBack.{ResultOrBadLine, add_char, lines_of_text_if_all_ended, value_of_lines_after_first}
 use Rattle.adb_dump.specs.Values.{IsOfBytes, IsNormalValueOfTable}
 use Rattle.adb_dump.proofs.Booleans.{chosen}
 use Rattle.adb_dump.proofs.ValueLaws.{only_values, read_back, text_split}
@@ -21,14 +21,14 @@ use Rattle.adb_view.specs.Schema.{shape_of}
 use Rattle.adb_view.specs.declared.tables.Kind.TheVariants.{Obj}
 use Rattle.gen_core.specs.Dumps.{IsNormalRootValueOfTable}
 use Rattle.gen_core.proofs.ReadBytes.{block_bytes}
-use Rattle.gen_core.specs.Generated.{DumpedRoot, TextLines, dumped_root, root_of_lines, root_of_lines_after_first, dumped_root_of_value_read, root_tables, table_of_line, text_lines, unless_unfinished_line, lines_with_byte_in_front, lines_with_nonend_byte_in_front}
+use Rattle.gen_core.specs.Generated.{DumpedRoot, TextLines, dumped_root, root_of_lines, root_of_lines_after_first, dumped_root_of_value_read, root_tables, table_of_line, whole_lines_and_rest, unless_unfinished_line, lines_with_byte_in_front, lines_with_nonend_byte_in_front}
 
 -- ---- lines and texts
 
 -- a text has its lines, and after them the rest
-pub text_of_lines : (t : List ℕ) → dump_text_of_lines (text_lines t).0 ++ (text_lines t).1 ≡ t
+pub text_of_lines : (t : List ℕ) → dump_text_of_lines (whole_lines_and_rest t).0 ++ (whole_lines_and_rest t).1 ≡ t
 text_of_lines [] = refl
-text_of_lines (c ∷ cs) = go (eqb c 10) refl (text_lines cs).0 (text_lines cs).1 (text_of_lines cs)
+text_of_lines (c ∷ cs) = go (eqb c 10) refl (whole_lines_and_rest cs).0 (whole_lines_and_rest cs).1 (text_of_lines cs)
   where
     first : (ls : List Line) (rest : List ℕ) → dump_text_of_lines ls ++ rest ≡ cs → dump_text_of_lines (lines_with_nonend_byte_in_front c ls rest).0 ++ (lines_with_nonend_byte_in_front c ls rest).1 ≡ c ∷ cs
     first [] rest h = ap (λ (x : List ℕ). c ∷ x) h
@@ -46,18 +46,18 @@ text_of_lines (c ∷ cs) = go (eqb c 10) refl (text_lines cs).0 (text_lines cs).
 some_same : (x y : List Line) → Some x ≡ Some y → x ≡ y
 some_same x y e = cc
 
-ended : (c : ℕ) (cs : List ℕ) (ls : List Line) (o : Option (List Line)) → ((xs : List Line) → o ≡ Some xs → text_lines cs ≡ (xs, [])) → eqb c 10 ≡ true → option_map (λ (xs : List Line). [] ∷ xs) o ≡ Some ls → text_lines (c ∷ cs) ≡ (ls, [])
+ended : (c : ℕ) (cs : List ℕ) (ls : List Line) (o : Option (List Line)) → ((xs : List Line) → o ≡ Some xs → whole_lines_and_rest cs ≡ (xs, [])) → eqb c 10 ≡ true → option_map (λ (xs : List Line). [] ∷ xs) o ≡ Some ls → whole_lines_and_rest (c ∷ cs) ≡ (ls, [])
 ended c cs ls None h t e = absurd cc
 ended c cs ls (Some xs) h t e =
     ap (lines_with_byte_in_front c) (h xs refl) ∙ ap (λ (b : Bool). cond {A = TextLines} b ([] ∷ xs, []) (lines_with_nonend_byte_in_front c xs [])) t ∙ ap (λ (x : List Line). (x, [])) (some_same ([] ∷ xs) ls e)
 
-added : (c : ℕ) (cs : List ℕ) (ls : List Line) (o : Option (List Line)) → ((xs : List Line) → o ≡ Some xs → text_lines cs ≡ (xs, [])) → eqb c 10 ≡ false → add_char c o ≡ Some ls → text_lines (c ∷ cs) ≡ (ls, [])
+added : (c : ℕ) (cs : List ℕ) (ls : List Line) (o : Option (List Line)) → ((xs : List Line) → o ≡ Some xs → whole_lines_and_rest cs ≡ (xs, [])) → eqb c 10 ≡ false → add_char c o ≡ Some ls → whole_lines_and_rest (c ∷ cs) ≡ (ls, [])
 added c cs ls None h t e = absurd cc
 added c cs ls (Some []) h t e = absurd cc
 added c cs ls (Some (l ∷ xs)) h t e =
     ap (lines_with_byte_in_front c) (h (l ∷ xs) refl) ∙ ap (λ (b : Bool). cond {A = TextLines} b ([] ∷ l ∷ xs, []) (lines_with_nonend_byte_in_front c (l ∷ xs) [])) t ∙ ap (λ (x : List Line). (x, [])) (some_same ((c ∷ l) ∷ xs) ls e)
 
-pub whole_lines : (t : List ℕ) (ls : List Line) → lines_of_text_if_all_ended t ≡ Some ls → text_lines t ≡ (ls, [])
+pub whole_lines : (t : List ℕ) (ls : List Line) → lines_of_text_if_all_ended t ≡ Some ls → whole_lines_and_rest t ≡ (ls, [])
 whole_lines [] ls e = ap (λ (x : List Line). (x, [])) (some_same [] ls e)
 whole_lines (c ∷ cs) ls e =
     elim (chosen (eqb c 10) _ _ _ e) [
@@ -111,7 +111,7 @@ root_of_line l w e =
 
 -- ---- the root of a text
 
-split_same : (t : List ℕ) (ls : List Line) → text_lines t ≡ (ls, []) → dumped_root t ≡ and_then (root_of_lines ls) (unless_unfinished_line [] (length ls))
+split_same : (t : List ℕ) (ls : List Line) → whole_lines_and_rest t ≡ (ls, []) → dumped_root t ≡ and_then (root_of_lines ls) (unless_unfinished_line [] (length ls))
 unfolding dumped_root
 split_same t ls e = ap (λ (x : TextLines). and_then (root_of_lines x.0) (unless_unfinished_line x.1 (length x.0))) e
 
@@ -122,12 +122,12 @@ lines_are_read w v is =
 
 pub dump_is_read : (w : Which) (v : Plain) → IsNormalRootValueOfTable w v → dumped_root (dump_text w v) ≡ Ok (record { which = w; value = v })
 dump_is_read w v is =
-    let lines : text_lines (dump_text w v) ≡ (dump_lines w v, []) = whole_lines (dump_text w v) (dump_lines w v) (text_split w v is.normal.0) in
+    let lines : whole_lines_and_rest (dump_text w v) ≡ (dump_lines w v, []) = whole_lines (dump_text w v) (dump_lines w v) (text_split w v is.normal.0) in
     split_same (dump_text w v) (dump_lines w v) lines
     ∙ ap (λ (r : Result DumpedRoot ℕ). and_then r (unless_unfinished_line [] (length (dump_lines w v)))) (lines_are_read w v is)
 
 -- a value that is read is of bytes
-value_bytes : (w : Which) (ls : List Line) (v : Plain) → value_read w ls ≡ Ok v → IsOfBytes v
+value_bytes : (w : Which) (ls : List Line) (v : Plain) → value_of_lines_after_first w ls ≡ Ok v → IsOfBytes v
 unfolding IsOfBytes
 value_bytes w [] v e = let same : null ≡ v = cc in subst IsOfBytes same tt
 value_bytes w (l ∷ ls) v e = block_bytes (shape_of (Obj w)) (l ∷ ls) v e
@@ -143,7 +143,7 @@ ok_root r = Ok r
 same_root : (p q : DumpedRoot) → ok_root p ≡ ok_root q → p ≡ q
 same_root p q e = cc
 
-value_lines_of : (l : Line) (ls : List Line) (w : Which) (r : ResultOrBadLine Plain) (root : DumpedRoot) → table_of_line l ≡ Some w → value_read w ls ≡ r → dumped_root_of_value_read w r ≡ Ok root → AreLinesOf (l ∷ ls) root
+value_lines_of : (l : Line) (ls : List Line) (w : Which) (r : ResultOrBadLine Plain) (root : DumpedRoot) → table_of_line l ≡ Some w → value_of_lines_after_first w ls ≡ r → dumped_root_of_value_read w r ≡ Ok root → AreLinesOf (l ∷ ls) root
 value_lines_of l ls w (Err k) root t e ok = absurd cc
 value_lines_of l ls w (Ok v) root t e ok =
     let names = root_of_line l w t in
@@ -155,7 +155,7 @@ value_lines_of l ls w (Ok v) root t e ok =
 
 table_lines_of : (l : Line) (ls : List Line) (o : Option Which) (root : DumpedRoot) → table_of_line l ≡ o → root_of_lines_after_first o ls ≡ Ok root → AreLinesOf (l ∷ ls) root
 table_lines_of l ls None root t ok = absurd cc
-table_lines_of l ls (Some w) root t ok = value_lines_of l ls w (value_read w ls) root t refl ok
+table_lines_of l ls (Some w) root t ok = value_lines_of l ls w (value_of_lines_after_first w ls) root t refl ok
 
 pub lines_of_root : (ls : List Line) (root : DumpedRoot) → root_of_lines ls ≡ Ok root → AreLinesOf ls root
 lines_of_root [] root ok = absurd cc
@@ -167,14 +167,14 @@ no_rest (Err k) rest n root e = absurd cc
 no_rest (Ok x) [] n root e = (e, refl)
 no_rest (Ok x) (c ∷ cs) n root e = absurd cc
 
-parts_read : (t : List ℕ) (root : DumpedRoot) → dumped_root t ≡ Ok root → (root_of_lines (text_lines t).0 ≡ Ok root) × ((text_lines t).1 ≡ [])
+parts_read : (t : List ℕ) (root : DumpedRoot) → dumped_root t ≡ Ok root → (root_of_lines (whole_lines_and_rest t).0 ≡ Ok root) × ((whole_lines_and_rest t).1 ≡ [])
 unfolding dumped_root
-parts_read t root e = no_rest (root_of_lines (text_lines t).0) (text_lines t).1 (length (text_lines t).0) root e
+parts_read t root e = no_rest (root_of_lines (whole_lines_and_rest t).0) (whole_lines_and_rest t).1 (length (whole_lines_and_rest t).0) root e
 
 pub what_is_read : (t : List ℕ) (root : DumpedRoot) → dumped_root t ≡ Ok root → IsNormalRootValueOfTable root.which root.value × (dump_text root.which root.value ≡ t)
 what_is_read t root e =
     let (ok, rest) = parts_read t root e in
-    let r = lines_of_root (text_lines t).0 root ok in (
+    let r = lines_of_root (whole_lines_and_rest t).0 root ok in (
       r.is,
-      ap dump_text_of_lines r.lines ∙ sym (append-nil (dump_text_of_lines (text_lines t).0)) ∙ ap (λ (x : List ℕ). dump_text_of_lines (text_lines t).0 ++ x) (sym rest) ∙ text_of_lines t,
+      ap dump_text_of_lines r.lines ∙ sym (append-nil (dump_text_of_lines (whole_lines_and_rest t).0)) ∙ ap (λ (x : List ℕ). dump_text_of_lines (whole_lines_and_rest t).0 ++ x) (sym rest) ∙ text_of_lines t,
     )

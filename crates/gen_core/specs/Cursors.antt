@@ -5,7 +5,7 @@ use Rattle.std.specs.Prelude.{ℕ, ◌+◌, List, [], ◌∷◌, ◌++◌, lengt
 use Rattle.adb_dump.specs.Dump.{Line}
 use Rattle.adb_dump.specs.Margin.{margin}
 use Rattle.adb_dump.specs.ReadBack.{strip_prefix, end_block_or_add_line}
-use Rattle.gen_core.specs.Generated.{text_lines}
+use Rattle.gen_core.specs.Generated.{whole_lines_and_rest}
 
 -- a place in a text, at the beginning of a line
 pub record CursorState : Type 0 where
@@ -24,7 +24,7 @@ cursor_from_parts lines number levels = record { lines = lines; number = number;
 -- lines of `rest`, the bytes after it, that have their line ends
 abbrev pub lines_at_cursor : ℕ → Option Line → List ℕ → List Line
 lines_at_cursor levels None rest = []
-lines_at_cursor levels (Some l) rest = (margin levels ++ l) ∷ (text_lines rest).0
+lines_at_cursor levels (Some l) rest = (margin levels ++ l) ∷ (whole_lines_and_rest rest).0
 
 -- how many line ends the current line has: one, if there is such a line
 abbrev pub line_end_count : Option Line → ℕ

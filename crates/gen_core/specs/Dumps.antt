@@ -7,7 +7,7 @@ use Rattle.adb_view.specs.declared.tables.Which.{Which}
 use Rattle.adb_dump.specs.adb_schema.Soundness.{schema_word}
 use Rattle.adb_dump.specs.Dump.{Line, dump_lines}
 use Rattle.adb_dump.specs.Values.{IsOfBytes, IsNormalValueOfTable}
-use Rattle.gen_core.specs.Generated.{text_lines}
+use Rattle.gen_core.specs.Generated.{whole_lines_and_rest}
 
 -- a value of a root: a normal one of bytes, of one of the four tables that a root may have
 pub record IsNormalRootValueOfTable (which : Which) (value : Plain) : Type 0 where
@@ -42,11 +42,12 @@ pub record IsFirstBadDumpLine (text : List ℕ) (number : ℕ) : Type 0 where
   -- the number is at least 1
   pub low : 1 ≤ number
   -- the number is at most that of whole lines (lines with their line end) plus 1
-  pub high : number ≤ length (text_lines text).0 + 1
+  pub high : number ≤ length (whole_lines_and_rest text).0 + 1
   -- a dump begins with the lines before the reported one, if there are any
-  pub before : number ≢ 1 → BeginsADump (take (number - 1) (text_lines text).0)
+  pub before : number ≢ 1 → BeginsADump (take (number - 1) (whole_lines_and_rest text).0)
   -- no dump begins with these lines and the reported one, if that is a whole line
-  pub bad : number ≤ length (text_lines text).0 → ¬ BeginsADump (take number (text_lines text).0)
+  pub bad : number ≤ length (whole_lines_and_rest text).0
+      → ¬ BeginsADump (take number (whole_lines_and_rest text).0)
   -- if it is no whole line, bytes follow the last line end, or the whole lines are not all lines of a dump
-  pub end : number ≡ length (text_lines text).0 + 1
-      → ((text_lines text).1 ≢ []) ⊎ (¬ AreDumpLines (text_lines text).0)
+  pub end : number ≡ length (whole_lines_and_rest text).0 + 1
+      → ((whole_lines_and_rest text).1 ≢ []) ⊎ (¬ AreDumpLines (whole_lines_and_rest text).0)

@@ -7,10 +7,10 @@ use Rattle.adb_view.specs.Plain.{Plain}
 use Rattle.adb_view.specs.declared.tables.Which.{Which}
 use Rattle.adb_view.specs.declared.tables.Which.TheVariants.{Package, Index, Idb, Intent}
 use Rattle.adb_dump.specs.adb_schema.Soundness.{schema_word}
-use Rattle.adb_values.specs.adb_write.Canonical.{PayloadCounts, payload_or_overflow}
+use Rattle.adb_values.specs.adb_write.Canonical.{ByteAndValueCounts, payload_or_overflow}
 use Rattle.adb_values.specs.adb_write.File.{file_of}
 use Rattle.adb_dump.specs.Dump.{Line, schema_line}
-use Rattle.adb_dump.specs.ReadBack.{ResultOrBadLine, value_read}
+use Rattle.adb_dump.specs.ReadBack.{ResultOrBadLine, value_of_lines_after_first}
 use Rattle.gen_core.specs.declared.generate.GenFault.{GenFault}
 use Rattle.gen_core.specs.declared.generate.GenFault.TheVariants.{Bad, TooLarge, Memory}
 
@@ -32,9 +32,9 @@ lines_with_byte_in_front c lines =
     if c == 0x0a then ([] ∷ lines.0, lines.1) else lines_with_nonend_byte_in_front c lines.0 lines.1
 
 -- the lines of a text that have their line end, and the bytes after the last line end
-abbrev pub text_lines : List ℕ → TextLines
-text_lines [] = ([], [])
-text_lines (c ∷ cs) = lines_with_byte_in_front c (text_lines cs)
+abbrev pub whole_lines_and_rest : List ℕ → TextLines
+whole_lines_and_rest [] = ([], [])
+whole_lines_and_rest (c ∷ cs) = lines_with_byte_in_front c (whole_lines_and_rest cs)
 
 -- ---- the root that is read from a text
 
@@ -64,7 +64,8 @@ dumped_root_of_value_read which (Err k) = Err (k + 2)
 -- first line names. Without a table line 1 is bad
 abbrev pub root_of_lines_after_first : Option Which → List Line → Result DumpedRoot ℕ
 root_of_lines_after_first None ls = Err 1
-root_of_lines_after_first (Some which) ls = dumped_root_of_value_read which (value_read which ls)
+root_of_lines_after_first (Some which) ls =
+    dumped_root_of_value_read which (value_of_lines_after_first which ls)
 
 -- the root that is read from some lines, or the number of the first bad line, counted from 1; without
 -- any line, line 1 is bad
@@ -81,7 +82,7 @@ unless_unfinished_line (c ∷ cs) lines root = Err (lines + 1)
 -- the root that is read from a text, or the number, from 1, of the first line that no dump has after
 -- the lines before it
 unfoldable pub dumped_root : List ℕ → Result DumpedRoot ℕ
-dumped_root text = let lines = text_lines text in
+dumped_root text = let lines = whole_lines_and_rest text in
     and_then (root_of_lines lines.0) (unless_unfinished_line lines.1 (length lines.0))
 
 -- ---- the container of a text
@@ -92,7 +93,7 @@ schema_word_or_zero which = unwrap_or (schema_word which) 0
 
 -- the container with the schema `word` and this payload, or the counts of a payload that is too large
 abbrev pub file_unless_too_large :
-    ℕ → Result (List ℕ) PayloadCounts → Result (List ℕ) GenFault
+    ℕ → Result (List ℕ) ByteAndValueCounts → Result (List ℕ) GenFault
 file_unless_too_large word (Ok payload) = Ok (file_of word payload)
 file_unless_too_large word (Err counts) = Err (TooLarge counts.0 counts.1)
 

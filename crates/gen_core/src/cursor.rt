@@ -7,7 +7,7 @@ ghost use Rattle.adb_dump.specs.Margin.{margin};
 ghost use Rattle.adb_dump.specs.ReadBack.{strip_prefix};
 ghost use Rattle.gen_core.specs.declared.generate.GenFault.TheVariants.{Bad};
 ghost use Rattle.gen_core.specs.Cursors.{cursor_after_line, cursor_at_entry, block_at, cursor_from_parts, line_of_block};
-ghost use Rattle.gen_core.specs.Generated.{text_lines};
+ghost use Rattle.gen_core.specs.Generated.{whole_lines_and_rest};
 
 use crate::generate::GenFault;
 use memchr::memchr;
@@ -46,7 +46,7 @@ impl<'a> Model for Cursor<'a> {
 impl<'a> Cursor<'a> {
     /// The beginning of a text.
     pub(crate) fn new(text: &'a [u8]) -> Cursor<'a>
-        ensures { result ≡ cursor_from_parts (text_lines text.entry.now).0 1 0 }
+        ensures { result ≡ cursor_from_parts (whole_lines_and_rest text.entry.now).0 1 0 }
     {
         Cursor::at(text, 1)
     }
@@ -55,7 +55,7 @@ impl<'a> Cursor<'a> {
     fn at(text: &'a [u8], number: u64) -> Cursor<'a>
         // Line numbers fit into 64 bits.
         requires { number + length text.now < 2 ^ 64 }
-        ensures { result ≡ cursor_from_parts (text_lines text.entry.now).0 number 0 }
+        ensures { result ≡ cursor_from_parts (whole_lines_and_rest text.entry.now).0 number 0 }
     {
         match first_line(text) {
             Some((line, rest)) => Cursor {
@@ -119,8 +119,9 @@ impl<'a> Cursor<'a> {
 /// line end.
 fn first_line(text: &[u8]) -> Option<(&[u8], &[u8])>
     // The first line is the first of the text's lines, and the rest has the others.
-    ensures lines { MatchOption result ((text_lines text.entry.now).0 ≡ [])
-        (λ found. (text_lines text.entry.now).0 ≡ found.0.now ∷ (text_lines found.1.now).0) }
+    ensures lines { MatchOption result ((whole_lines_and_rest text.entry.now).0 ≡ [])
+        (λ found. (whole_lines_and_rest text.entry.now).0
+        ≡ found.0.now ∷ (whole_lines_and_rest found.1.now).0) }
     // Fewer bytes are left than before, so that a loop ends.
     ensures shorter { MatchOption result (0 ≤ length text.entry.now)
         (λ found. length found.1.now < length text.entry.now) }

@@ -4,7 +4,7 @@
 ghost use Rattle.std.specs.Prelude.{◌≡◌, IfErr, IfOk, OnOk, Ok, Err, Some, None};
 ghost use Rattle.gen_core.specs.declared.generate.GenFault.TheVariants.{Bad};
 ghost use Rattle.gen_core.specs.Cursors.{cursor_after_line};
-ghost use Rattle.gen_core.specs.Generated.{IsGenFault, dumped_root, generated_file, table_of_line, text_lines, schema_word_or_zero};
+ghost use Rattle.gen_core.specs.Generated.{IsGenFault, dumped_root, generated_file, table_of_line, whole_lines_and_rest, schema_word_or_zero};
 ghost use Rattle.gen_core.specs.Reads.{IsTextFault, fault_of_writer, has_rest, table_and_draft_of_root, table_read};
 
 use crate::cursor::Cursor;
@@ -89,7 +89,7 @@ fn read_table(cursor: &mut Cursor<'_>) -> Result<Which, GenFault>
 /// Whether a text has bytes after its last line end.
 #[tactic(auto, using(crate::proofs::TextLines::rest_some))]
 fn has_rest(text: &[u8]) -> bool
-    ensures { result ≡ has_rest (text_lines text.now).1 }
+    ensures { result ≡ has_rest (whole_lines_and_rest text.now).1 }
 {
     match text.last() {
         Some(last) => *last != b'\n',

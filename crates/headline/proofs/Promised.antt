@@ -13,7 +13,7 @@ use Rattle.refusal_laws.specs.outcome.Outcome.{Outcome}
 use Rattle.refusal_laws.specs.outcome.Words.{IsOutcome}
 use Rattle.refusal_laws.specs.words_core.Grammar.{command_of}
 use Rattle.run_lists.specs.Events.{RootEvent, HasNoUnfinishedRunSinceCrash, Reaches, ReachesWithoutCommit, ReachesOneCrashState, IsRunWithoutCommit, IsOutcomeFrom, IsRunFrom, IsPossibleStop, Run, ignored_after, ignored_during_run, ignored_with_all_touched, ignored_with_scratch}
-use Rattle.run_lists.specs.Recovered.{ReachesWithoutBadIntent, HasStateOfSomeCrashBefore, HasStateOfCrashBeforeOrOutcome, HasSameState, IsRecoveredBy, LeavesNoBadIntent}
+use Rattle.run_lists.specs.Recovered.{ReachesWithNoBadIntentPutByOthers, HasStateOfSomeCrashBefore, HasStateOfCrashBeforeOrOutcome, HasSameState, IsRecoveredBy, EachCrashLeavesNoBadIntent}
 use Rattle.run_lists.specs.Safety.{HasStateAsReadOrOutcome, IsAtomicAfterAnyEvents, IsSafeRun, IsSafeAfterAnyEvents, LeavesFilesOfAnsweredOutcome}
 use Rattle.run_lists.proofs.AtMoments.{History}
 use Rattle.run_lists.proofs.Facts.{AreMore, Ignored}
@@ -76,8 +76,8 @@ module _ (begins : (ignored : Ignored) (first v : TreeState) (events : List Root
     (safe : (v : TreeState) (run : Run) → IsRunFrom v run → IsSafeAfterAnyEvents v run)
     (one_state : (ignored : Ignored) (first v : TreeState) (events : List RootEvent) → ignored intent_name ≡ false → IsDurableAndLeavesFiles ignored (files_of first) first → ReachesOneCrashState first events v → IsDurableAndLeavesFiles (ignored_after ignored events) (files_of v) v)
     (unbroken : (first v : TreeState) (events : List RootEvent) → Reaches first events v → HasNoUnfinishedRunSinceCrash events → ReachesOneCrashState first events v)
-    (left : (ignored : Ignored) (first v m w : TreeState) (events later : List RootEvent) (run next : Run) → ignored intent_name ≡ false → IsDurable (StateDependsOn ignored) first → LeavesNoBadIntent first
-    → ReachesWithoutBadIntent first events v → IsRunFrom v run → IsPossibleStop run m → ReachesWithoutCommit m later w → IsRunFrom w next → does_recover (effect_of_arguments (command_of next.words)) ≡ true
+    (left : (ignored : Ignored) (first v m w : TreeState) (events later : List RootEvent) (run next : Run) → ignored intent_name ≡ false → IsDurable (StateDependsOn ignored) first → EachCrashLeavesNoBadIntent first
+    → ReachesWithNoBadIntentPutByOthers first events v → IsRunFrom v run → IsPossibleStop run m → ReachesWithoutCommit m later w → IsRunFrom w next → does_recover (effect_of_arguments (command_of next.words)) ≡ true
     → (image : Files) × IsCrashImage m image × IsRecoveredBy (HasSameState (ignored_with_all_touched later (ignored_during_run run (ignored_after ignored events))) image) w next)
     (two : (ignored : Ignored) (v : TreeState) (run : Run) (files : Files) → EachCrashLeavesStateOf ignored (files_of v) v → HasStateOfCrashBeforeOrOutcome ignored v run files → HasStateAsReadOrOutcome ignored v run files)
     (more_settled : (few many : Ignored) (files : Files) (v : TreeState) → AreMore few many → EachCrashLeavesStateOf few files v → EachCrashLeavesStateOf many files v)

@@ -2,7 +2,7 @@
 -- `run_lists` (runs, and what a root has seen), `apk_front` (answers), `journal_core` (states of files), `outcome` (the
 -- outcomes of commands) and `refusal_laws` (the faults that refusals state).
 use Rattle.std.specs.Prelude.{◌≡◌, ◌⊎◌, ℕ, Bool, true, false, List, Some, None, Ok}
-use Rattle.run_lists.specs.apk_front.Answers.{IsAnswerOfSomeOutcome, LeavesFiles}
+use Rattle.run_lists.specs.apk_front.Answers.{IsAnswerOfSomeOutcomeOrFailure, LeavesFiles}
 use Rattle.run_lists.specs.apk_front.Moments.{IsOkRefusedOrOutputFault, IsDurableAndLeavesFiles, MustOutcomeBeDurable}
 use Rattle.base_core.specs.Calls.{HoldsNow}
 use Rattle.base_core.specs.Undone.{IsDurable, IsCrashImage}
@@ -19,7 +19,7 @@ use Rattle.refusal_laws.specs.RunFaults.{IsFaultOfRun}
 use Rattle.refusal_laws.specs.RunMade.{HasFaultlessFirstPreferredSelection}
 use Rattle.report_core.specs.declared.refusal.Refusal.{Refusal}
 use Rattle.run_lists.specs.Events.{RootEvent, HasNoUnfinishedRunSinceCrash, ReachesWithoutCommit, ReachesOneCrashState, IsRunWithoutCommit, IsOutcomeFrom, IsRunFrom, IsPossibleStop, Run, ignored_after, ignored_during_run, ignored_with_all_touched}
-use Rattle.run_lists.specs.Recovered.{ReachesWithoutBadIntent, HasStateOfSomeCrashBefore, HasStateOfCrashBeforeOrOutcome, HasSameState, IsRecoveredBy, LeavesNoBadIntent}
+use Rattle.run_lists.specs.Recovered.{ReachesWithNoBadIntentPutByOthers, HasStateOfSomeCrashBefore, HasStateOfCrashBeforeOrOutcome, HasSameState, IsRecoveredBy, EachCrashLeavesNoBadIntent}
 use Rattle.run_lists.specs.Safety.{HasStateAsReadOrOutcome}
 use Rattle.refusal_laws.specs.words_core.Grammar.{command_of}
 
@@ -32,9 +32,9 @@ pub record HasGoodPast (ignored : List ℕ → Bool) (first : TreeState) (events
   -- at first no crash could change the bytes of a file on which the state depends, apart from the ignored names
   pub durable : IsDurable (StateDependsOn ignored) first
   -- at first no crash could leave a bad intent
-  pub good : LeavesNoBadIntent first
+  pub good : EachCrashLeavesNoBadIntent first
   -- the events led from `first` to v, and after no edit by others was there a bad intent
-  pub seen : ReachesWithoutBadIntent first events v
+  pub seen : ReachesWithNoBadIntentPutByOthers first events v
 
 -- From the state m on, a root recovers to files for whose state `HasState` holds, apart from the ignored names. Each
 -- crash in m leaves such files. The next run that recovers works on such files, after any crashes, any touches by
@@ -85,7 +85,7 @@ pub record IsAsPromised (ignored : List ℕ → Bool) (v : TreeState) (run : Run
       → RootRecoversTo (λ names. HasStateOfSomeCrashBefore names v) ignored m
   -- The answer, the printed bytes and the files left are the outcome's; or the run reports a fault of
   -- the tree or of an output stream, with its cause, or that it is out of memory.
-  pub answer : IsAnswerOfSomeOutcome (IsOutcomeFrom v run) (LeavesFiles run.now)
+  pub answer : IsAnswerOfSomeOutcomeOrFailure (IsOutcomeFrom v run) (LeavesFiles run.now)
       (IsFaultCountedWithCause run.before run.after) run.answer run.out run.err
   -- A run that changes the installed packages ends in one of the stated ways (*EndsInTrueRefusalOrFirstSelection*).
   pub change : (command : CommandLine) (o : Outcome) → command_of run.words ≡ Ok command

@@ -1,8 +1,8 @@
 //! The function that the program calls: `apk`, with the theorem of the README as its contract, and
 //! with those clauses of `apk` that are about every tree, or about one run alone.
 ghost use Rattle.std.specs.Prelude.{◌≡◌, IsTrue};
-ghost use Rattle.run_lists.specs.apk_front.Answers.{is_applet_help_or_version_named, IsAnswerExplainedByCounts, IsAnswerOfSomeOutcome, AnswersOutcomeUnlessMemory, IsFaultless, IsAnsweredInFullUnlessMemory, HasNoPlannedFailure, LeavesAnyFiles, LeavesFiles};
-ghost use Rattle.run_lists.specs.apk_front.Moments.{AreRecoveryTargetsAccepted, AreRunPathsFree};
+ghost use Rattle.run_lists.specs.apk_front.Answers.{is_applet_help_or_version_named, IsAnswerExplainedByCounts, IsAnswerOfSomeOutcomeOrFailure, AnswersOutcomeUnlessMemory, IsFaultless, IsAnsweredInFullUnlessMemory, HasNoPlannedFailureAndCanCountMisuse, LeavesAnyFiles, LeavesFiles};
+ghost use Rattle.run_lists.specs.apk_front.Moments.{EachRecoveryChangesOnlyAcceptedNames, AreRunPathsFree};
 ghost use Rattle.base_core.specs.Calls.{IfObservable};
 ghost use Rattle.base_core.specs.Faults.{CountsOnlyRise, IsFaultCountedWithCause};
 ghost use Rattle.base_core.specs.Files.{no_names};
@@ -51,18 +51,20 @@ pub fn apk_as_promised<T: Tree, O: Sink, E: Sink>(
     // On every tree: an outcome that depends on the arguments alone is answered, and the tree never
     // fails.
     ensures every_tree { IsTrue (depends_only_on_arguments (command_of words.now))
-        → IsAnswerOfSomeOutcome (IsOutcome (command_of words.now) no_names) LeavesAnyFiles ⊥ result
+        → IsAnswerOfSomeOutcomeOrFailure (IsOutcome
+        (command_of words.now) no_names) LeavesAnyFiles ⊥ result
         (sink_before_and_after O.bytes O.counts out.old out.new)
         (sink_before_and_after E.bytes E.counts err.old err.new) }
     // On every tree the answer is that of a possible outcome.
-    ensures found { IsAnswerOfSomeOutcome (IsPossibleOutcome (command_of words.now)) LeavesAnyFiles
+    ensures found { IsAnswerOfSomeOutcomeOrFailure (IsPossibleOutcome
+        (command_of words.now)) LeavesAnyFiles
         (IsFaultCountedWithCause (T.counts tree.old) (T.counts tree.new)) result
         (sink_before_and_after O.bytes O.counts out.old out.new)
         (sink_before_and_after E.bytes E.counts err.old err.new) }
     // At each moment of a change, the tree has accepted each name to which recovery would then give
     // other bytes than recovery at the start.
     ensures asked { effect_of_arguments (command_of words.now) ≡ Changes
-        → AreRecoveryTargetsAccepted T.accepts (T.history tree.old) (T.history tree.new) }
+        → EachRecoveryChangesOnlyAcceptedNames T.accepts (T.history tree.old) (T.history tree.new) }
     // The counts of the tree and of the sinks explain the answer: which call failed, if any, and
     // why.
     ensures causes { IsAnswerExplainedByCounts result (T.counts tree.old) (T.counts tree.new)
@@ -83,8 +85,10 @@ pub fn apk_as_promised<T: Tree, O: Sink, E: Sink>(
     // If these paths are free and no failure is planned, the run ends as its outcome says, unless
     // memory runs out.
     ensures unless_memory { IfObservable (T.history tree.old) (λ v.
-        AreRunPathsFree words.now (files_of v) → HasNoPlannedFailure (T.counts tree.old)
-        → HasNoPlannedFailure (O.counts out.old) → HasNoPlannedFailure (E.counts err.old)
+        AreRunPathsFree words.now (files_of v)
+        → HasNoPlannedFailureAndCanCountMisuse (T.counts tree.old)
+        → HasNoPlannedFailureAndCanCountMisuse (O.counts out.old)
+        → HasNoPlannedFailureAndCanCountMisuse (E.counts err.old)
         → IsAnsweredInFullUnlessMemory words.now (files_of v) (LeavesFiles
         (T.history tree.new)) result
         (T.counts tree.old) (T.counts tree.new)

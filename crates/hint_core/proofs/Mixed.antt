@@ -8,7 +8,7 @@ use Rattle.base_core.specs.Tree.{TreeState, files_of}
 use Rattle.base_core.specs.declared.cause.Cause.{Cause}
 use Rattle.base_core.specs.declared.tree.TreeFault.{TreeFault}
 use Rattle.pkg_core.specs.Front.{IsFrontOf, IsFrontRead, front_fault, front_payload}
-use Rattle.pkg_core.specs.adb_schema.Soundness.{container_fault_except_contents, payload_fault, payload_in, root_value}
+use Rattle.pkg_core.specs.adb_schema.Soundness.{container_fault_except_contents, payload_fault, payload_in, root_value_of_payload}
 use Rattle.pkg_core.specs.declared.front.Front.{Front}
 use Rattle.pkg_core.specs.declared.front.FrontFault.{FrontFault}
 use Rattle.pkg_core.specs.declared.front.FrontFault.TheVariants.{Bad, Disk, Memory}
@@ -23,13 +23,13 @@ module _ (schema : ℕ)
   lines_of name mixed None (Ok (Some front)) lines is says = absurd is
   lines_of name mixed (Some file) (Ok (Some front)) lines is says =
       says
-      ∙ (ap (λ (f : Option Cause). lines_unless f (package_lines name mixed (root_value Package (front_payload front)))) (sym (tested file front is))
-      ∙ ap (λ (p : List ℕ). lines_unless (container_fault_except_contents Package file) (package_lines name mixed (root_value Package p))) (sym (held file front is)))
+      ∙ (ap (λ (f : Option Cause). lines_unless f (package_lines name mixed (root_value_of_payload Package (front_payload front)))) (sym (tested file front is))
+      ∙ ap (λ (p : List ℕ). lines_unless (container_fault_except_contents Package file) (package_lines name mixed (root_value_of_payload Package p))) (sym (held file front is)))
   lines_of name mixed None (Ok None) lines is says = says
   lines_of name mixed (Some file) (Ok None) lines is says = absurd is
   lines_of name mixed None (Err (Bad cause)) lines is says = absurd is
   lines_of name mixed (Some file) (Err (Bad cause)) lines is says =
-      says ∙ ap (λ (f : Option Cause). lines_unless f (package_lines name mixed (root_value Package (payload_in file)))) (sym (bad file cause is))
+      says ∙ ap (λ (f : Option Cause). lines_unless f (package_lines name mixed (root_value_of_payload Package (payload_in file)))) (sym (bad file cause is))
   lines_of name mixed found (Err Disk) lines is says = absurd says
   lines_of name mixed found (Err Memory) lines is says = absurd says
 

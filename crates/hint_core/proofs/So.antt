@@ -28,7 +28,7 @@ use Rattle.hint_core.specs.declared.hint.Subject.TheVariants.{Word, Information,
 use Rattle.hint_core.specs.declared.hint.Subject.TheVariants as Subjects
 use Rattle.hint_core.specs.Hints.{absent_database_hint, absent_file_hint, absent_package_hint, asks_for_owner, cause_hint, cause_of, field_hint, field_hint_if_found, line_hint_if_found, repository_hint_if_found, schema_hint_if_found, file_cause_hint, hint_of_cause, information_hint, is_fix, not_installed_hint, subject_hint, subject_of, table_numbered, word_hint}
 use Rattle.hint_core.specs.Repositories.{repository_from_line, path_alone, repository_at, repository_line_from_parts}
-use Rattle.hint_core.specs.Truths.{RepositoryHasPath, IsTrueHint, NamesFieldPlace}
+use Rattle.hint_core.specs.Truths.{RepositoryHasPath, IsHintTrueBySubjectFile, NamesFieldPlace}
 
 -- ---- lines, each without a line end
 
@@ -163,15 +163,15 @@ counted number line k (text ∷ rest) a r e rs f =
 
 -- ---- the hints
 
-word_so : (words : List (List ℕ)) (refusal : Refusal) (found : Option (List ℕ)) (place : ℕ) (o : Option (List ℕ)) → subject_of refusal ≡ Word place → slice_get words (place - 1) ≡ o → IsTrueHint words refusal found (word_hint place o)
+word_so : (words : List (List ℕ)) (refusal : Refusal) (found : Option (List ℕ)) (place : ℕ) (o : Option (List ℕ)) → subject_of refusal ≡ Word place → slice_get words (place - 1) ≡ o → IsHintTrueBySubjectFile words refusal found (word_hint place o)
 word_so words refusal found place (Some word) s h = (inl s, h)
 word_so words refusal found place None s h = tt
 
-absent_file_so : (words : List (List ℕ)) (refusal : Refusal) (found : Option (List ℕ)) (place : ℕ) (o : Option (List ℕ)) → subject_of refusal ≡ Subjects.AbsentFile place → slice_get words (place - 1) ≡ o → IsTrueHint words refusal found (absent_file_hint place o)
+absent_file_so : (words : List (List ℕ)) (refusal : Refusal) (found : Option (List ℕ)) (place : ℕ) (o : Option (List ℕ)) → subject_of refusal ≡ Subjects.AbsentFile place → slice_get words (place - 1) ≡ o → IsHintTrueBySubjectFile words refusal found (absent_file_hint place o)
 absent_file_so words refusal found place (Some word) s h = (s, h)
 absent_file_so words refusal found place None s h = tt
 
-not_installed_so : (words : List (List ℕ)) (refusal : Refusal) (found : Option (List ℕ)) (asked : Bool) (place : ℕ) (o : Option (List ℕ)) → subject_of refusal ≡ Subjects.NotInstalled place → asks_for_owner (command_of words) ≡ asked → slice_get words (place - 1) ≡ o → IsTrueHint words refusal found (not_installed_hint asked place o)
+not_installed_so : (words : List (List ℕ)) (refusal : Refusal) (found : Option (List ℕ)) (asked : Bool) (place : ℕ) (o : Option (List ℕ)) → subject_of refusal ≡ Subjects.NotInstalled place → asks_for_owner (command_of words) ≡ asked → slice_get words (place - 1) ≡ o → IsHintTrueBySubjectFile words refusal found (not_installed_hint asked place o)
 not_installed_so words refusal found true place (Some word) s a h = (s, a, h)
 not_installed_so words refusal found true place None s a h = tt
 not_installed_so words refusal found false place (Some word) s a h = (inr s, h)
@@ -182,7 +182,7 @@ past [] i h = omega arith
 past (x ∷ xs) zero h = absurd (none-some x (sym h))
 past (x ∷ xs) (suc i) h = let less = past xs i h in omega (arith, less)
 
-information_so : (words : List (List ℕ)) (refusal : Refusal) (found : Option (List ℕ)) (place : ℕ) (o : Option (List ℕ)) → subject_of refusal ≡ Information place → slice_get words (place - 1) ≡ o → IsTrueHint words refusal found (information_hint place o)
+information_so : (words : List (List ℕ)) (refusal : Refusal) (found : Option (List ℕ)) (place : ℕ) (o : Option (List ℕ)) → subject_of refusal ≡ Information place → slice_get words (place - 1) ≡ o → IsHintTrueBySubjectFile words refusal found (information_hint place o)
 information_so words refusal found place (Some word) s h = (s, h)
 information_so words refusal found place None s h = (s, past words (place - 1) h)
 
@@ -190,25 +190,25 @@ has_path : (text : List ℕ) (number : ℕ) (r : RepositoryLine) → repository_
 unfolding repositories_of
 has_path text number r h = λ rs f. counted number 1 1 (lines_of text) (lines_alone text) r h rs f
 
-repository_so : (words : List (List ℕ)) (refusal : Refusal) (text : List ℕ) (number : ℕ) (o : Option RepositoryLine) → subject_of refusal ≡ Subjects.Repository number → repository_at number 1 (lines_of text) ≡ o → IsTrueHint words refusal (Some text) (repository_hint_if_found number o)
+repository_so : (words : List (List ℕ)) (refusal : Refusal) (text : List ℕ) (number : ℕ) (o : Option RepositoryLine) → subject_of refusal ≡ Subjects.Repository number → repository_at number 1 (lines_of text) ≡ o → IsHintTrueBySubjectFile words refusal (Some text) (repository_hint_if_found number o)
 repository_so words refusal text number None s h = tt
 repository_so words refusal text number (Some r) s h =
     let n = named_at number 1 (lines_of text) r h in
     (s, text, refl, has_path text number r h, (n.alone, n.found, n.more, n.at, n.named, n.path))
 
-line_so : (words : List (List ℕ)) (refusal : Refusal) (whole : List ℕ) (file : HintFile) (line : ℕ) (o : Option (List ℕ)) → subject_of refusal ≡ Line file line → slice_get (lines_of whole) (line - 1) ≡ o → IsTrueHint words refusal (Some whole) (line_hint_if_found file line o)
+line_so : (words : List (List ℕ)) (refusal : Refusal) (whole : List ℕ) (file : HintFile) (line : ℕ) (o : Option (List ℕ)) → subject_of refusal ≡ Line file line → slice_get (lines_of whole) (line - 1) ≡ o → IsHintTrueBySubjectFile words refusal (Some whole) (line_hint_if_found file line o)
 line_so words refusal whole file line None s h = tt
 line_so words refusal whole file line (Some text) s h = (s, whole, refl, h)
 
-absent_so : (words : List (List ℕ)) (refusal : Refusal) (found : Option (List ℕ)) → subject_of refusal ≡ AbsentDatabase → IsTrueHint words refusal found (absent_database_hint (is_some found))
+absent_so : (words : List (List ℕ)) (refusal : Refusal) (found : Option (List ℕ)) → subject_of refusal ≡ AbsentDatabase → IsHintTrueBySubjectFile words refusal found (absent_database_hint (is_some found))
 absent_so words refusal (Some file) s = tt
 absent_so words refusal None s = (s, refl)
 
-absent_package_so : (words : List (List ℕ)) (refusal : Refusal) (found : Option (List ℕ)) (fixes : Bool) → subject_of refusal ≡ Subjects.AbsentPackage → is_fix (command_of words) ≡ fixes → IsTrueHint words refusal found (absent_package_hint fixes)
+absent_package_so : (words : List (List ℕ)) (refusal : Refusal) (found : Option (List ℕ)) (fixes : Bool) → subject_of refusal ≡ Subjects.AbsentPackage → is_fix (command_of words) ≡ fixes → IsHintTrueBySubjectFile words refusal found (absent_package_hint fixes)
 absent_package_so words refusal found true s f = (s, f)
 absent_package_so words refusal found false s f = tt
 
-pub subject_so : (words : List (List ℕ)) (refusal : Refusal) (found : Option (List ℕ)) (subject : Subject) → subject_of refusal ≡ subject → IsTrueHint words refusal found (subject_hint words found subject)
+pub subject_so : (words : List (List ℕ)) (refusal : Refusal) (found : Option (List ℕ)) (subject : Subject) → subject_of refusal ≡ subject → IsHintTrueBySubjectFile words refusal found (subject_hint words found subject)
 subject_so words refusal found (Word place) s = word_so words refusal found place (slice_get words (place - 1)) s refl
 subject_so words refusal found (Information place) s = information_so words refusal found place (slice_get words (place - 1)) s refl
 subject_so words refusal None (Subjects.Repository number) s = tt
@@ -248,16 +248,16 @@ table_is n which h =
     (numbered n 9 Tables.Idb which _ refl
     (numbered n 10 Tables.Intent which _ refl (λ e. absurd (none-some which e))))))))))) h
 
-field_so : (words : List (List ℕ)) (refusal : Refusal) (found : Option (List ℕ)) (place : ℕ) (which : Which) (o : Option Field) → NamesFieldPlace refusal place → table_number which ≡ place / 100 → eqb (place % 100) 0 ≡ false → slice_get (table which) (place % 100 - 1) ≡ o → IsTrueHint words refusal found (field_hint_if_found place which o)
+field_so : (words : List (List ℕ)) (refusal : Refusal) (found : Option (List ℕ)) (place : ℕ) (which : Which) (o : Option Field) → NamesFieldPlace refusal place → table_number which ≡ place / 100 → eqb (place % 100) 0 ≡ false → slice_get (table which) (place % 100 - 1) ≡ o → IsHintTrueBySubjectFile words refusal found (field_hint_if_found place which o)
 field_so words refusal found place which None p s e h = tt
 field_so words refusal found place which (Some field) p s e h =
     let some : place % 100 ≢ 0 = λ none. false≢true (sym e ∙ eq-eqb (place % 100) 0 none) in
     (p, place % 100, omega (arith, s), omega (arith, some), (field, h, refl))
 
-table_so : (words : List (List ℕ)) (refusal : Refusal) (found : Option (List ℕ)) (place : ℕ) (o : Option Which) → NamesFieldPlace refusal place → table_numbered (place / 100) ≡ o → IsTrueHint words refusal found (field_hint place o)
+table_so : (words : List (List ℕ)) (refusal : Refusal) (found : Option (List ℕ)) (place : ℕ) (o : Option Which) → NamesFieldPlace refusal place → table_numbered (place / 100) ≡ o → IsHintTrueBySubjectFile words refusal found (field_hint place o)
 table_so words refusal found place None p h = tt
 table_so words refusal found place (Some which) p h =
-    elim (eqb (place % 100) 0) as (λ b. eqb (place % 100) 0 ≡ b → IsTrueHint words refusal found (cond b Hinted.Nothing (field_hint_if_found place which (slice_get (table which) (place % 100 - 1))))) [
+    elim (eqb (place % 100) 0) as (λ b. eqb (place % 100) 0 ≡ b → IsHintTrueBySubjectFile words refusal found (cond b Hinted.Nothing (field_hint_if_found place which (slice_get (table which) (place % 100 - 1))))) [
       | true ↦ λ e. tt
       | false ↦ λ e. field_so words refusal found place which _ p (table_is (place / 100) which h) e refl
     ] refl
@@ -294,13 +294,13 @@ no_schema Tables.Index n is none = not_of INDEX_WORD n Tables.Index refl is none
 no_schema Tables.Idb n is none = not_of IDB_WORD n Tables.Idb refl is none
 no_schema Tables.Intent n is none = not_of INTENT_WORD n Tables.Intent refl is none
 
-schema_so : (words : List (List ℕ)) (refusal : Refusal) (found : Option (List ℕ)) (schema : ℕ) (o : Option Which) → cause_of refusal ≡ Some (WrongSchema schema) → table_of_schema schema ≡ o → IsTrueHint words refusal found (schema_hint_if_found o)
+schema_so : (words : List (List ℕ)) (refusal : Refusal) (found : Option (List ℕ)) (schema : ℕ) (o : Option Which) → cause_of refusal ≡ Some (WrongSchema schema) → table_of_schema schema ≡ o → IsHintTrueBySubjectFile words refusal found (schema_hint_if_found o)
 schema_so words refusal found schema None c h = (schema, c, λ which is. no_schema which schema is h)
 schema_so words refusal found schema (Some which) c h = (schema, c, schema_is schema which h)
 
 -- ---- the cause
 
-hint_so : (words : List (List ℕ)) (refusal : Refusal) (found : Option (List ℕ)) (cause : Cause) → cause_of refusal ≡ Some cause → IsTrueHint words refusal found (hint_of_cause cause)
+hint_so : (words : List (List ℕ)) (refusal : Refusal) (found : Option (List ℕ)) (cause : Cause) → cause_of refusal ≡ Some cause → IsHintTrueBySubjectFile words refusal found (hint_of_cause cause)
 hint_so words refusal found (BadText place) c = table_so words refusal found place (table_numbered (place / 100)) (BadText place, c, refl) refl
 hint_so words refusal found (Repeated place first second) c = table_so words refusal found place (table_numbered (place / 100)) (Repeated place first second, c, refl) refl
 hint_so words refusal found (WrongSchema schema) c = schema_so words refusal found schema (table_of_schema schema) c refl
@@ -317,7 +317,7 @@ hint_so words refusal found (DataSize expected other) c = tt
 hint_so words refusal found (HashDiffers expected other) c = tt
 hint_so words refusal found (TextLine line) c = tt
 
-file_so : (words : List (List ℕ)) (refusal : Refusal) (found : Option (List ℕ)) (cause : Cause) → cause_of refusal ≡ Some cause → IsTrueHint words refusal found (file_cause_hint cause)
+file_so : (words : List (List ℕ)) (refusal : Refusal) (found : Option (List ℕ)) (cause : Cause) → cause_of refusal ≡ Some cause → IsHintTrueBySubjectFile words refusal found (file_cause_hint cause)
 file_so words refusal found NotAdb c = (NotAdb, c, tt)
 file_so words refusal found Compressed c = (Compressed, c, tt)
 file_so words refusal found (Truncated at) c = (Truncated at, c, tt)
@@ -325,7 +325,7 @@ file_so words refusal found (DataSize expected other) c = (DataSize expected oth
 file_so words refusal found (HashDiffers expected other) c = (HashDiffers expected other, c, tt)
 file_so words refusal found cause c = hint_so words refusal found cause c
 
-pub cause_so : (words : List (List ℕ)) (refusal : Refusal) (found : Option (List ℕ)) → IsTrueHint words refusal found (cause_hint refusal)
+pub cause_so : (words : List (List ℕ)) (refusal : Refusal) (found : Option (List ℕ)) → IsHintTrueBySubjectFile words refusal found (cause_hint refusal)
 cause_so words (IntentBad cause) found = hint_so words (IntentBad cause) found cause refl
 cause_so words (DatabaseBad cause) found = hint_so words (DatabaseBad cause) found cause refl
 cause_so words (FileBad place cause) found = file_so words (FileBad place cause) found cause refl

@@ -15,7 +15,7 @@ use Rattle.report_core.proofs.Fronts.{Chains}
 use Rattle.words_core.specs.Grammar.{command_of}
 use Rattle.hint_core.specs.declared.telling.HintFault.{HintFault}
 use Rattle.hint_core.specs.declared.telling.HintFault.TheVariants.{Disk, Memory, Sink}
-use Rattle.hint_core.specs.Hints.{hints_of, is_explained}
+use Rattle.hint_core.specs.Hints.{hints_by_words_and_subject_file, is_explained}
 use Rattle.hint_core.specs.Lines.{hint_lines, printed_byte, printed_bytes}
 use Rattle.hint_core.specs.Told.{IsFoundIfNamed, IsNotDiskFault, Tells, hint_lines_after_refusal}
 
@@ -50,10 +50,10 @@ pub tells_nothing : {T E : Type 0} (lines : List ℕ) (told : Option (List ℕ))
 tells_nothing lines told before after fault = record { ok = tt; err = record { front = []; rest = lines; whole = refl; added = AddsBytesToSink-none told } }
 
 pub silent : (words : List (List ℕ)) (refusal : Refusal) (found : Option (List ℕ)) → is_explained (command_of words) ≡ false → hint_lines_after_refusal words refusal found ≡ []
-silent words refusal found own = ap (λ b. if b then hint_lines (hints_of words refusal found) else []) own
+silent words refusal found own = ap (λ b. if b then hint_lines (hints_by_words_and_subject_file words refusal found) else []) own
 
-pub told_all : (words : List (List ℕ)) (refusal : Refusal) (found : Option (List ℕ)) → is_explained (command_of words) ≡ true → hint_lines_after_refusal words refusal found ≡ hint_lines (hints_of words refusal found)
-told_all words refusal found own = ap (λ b. if b then hint_lines (hints_of words refusal found) else []) own
+pub told_all : (words : List (List ℕ)) (refusal : Refusal) (found : Option (List ℕ)) → is_explained (command_of words) ≡ true → hint_lines_after_refusal words refusal found ≡ hint_lines (hints_by_words_and_subject_file words refusal found)
+told_all words refusal found own = ap (λ b. if b then hint_lines (hints_by_words_and_subject_file words refusal found) else []) own
 
 -- nothing was to be written
 pub tells_none : {T E : Type 0} (lines : List ℕ) (told : Option (List ℕ)) (before after : Counts) (x : T) → lines ≡ [] → Tells {E = E} lines (Between told before told after) (Ok x)

@@ -18,7 +18,7 @@ use Rattle.pkg_core.specs.Front.{front_payload}
 use Rattle.pkg_core.specs.declared.front.Front.{Front}
 use Rattle.pkg_core.specs.declared.front.FrontFault.{FrontFault}
 use Rattle.pkg_core.specs.declared.front.FrontFault.TheVariants.{Bad, Disk, Memory}
-use Rattle.pkg_core.specs.adb_schema.Soundness.{container_fault_except_contents, payload_fault, payload_in, root_value}
+use Rattle.pkg_core.specs.adb_schema.Soundness.{container_fault_except_contents, payload_fault, payload_in, root_value_of_payload}
 use Rattle.pkg_core.specs.adb_schema.adb_fields.Paths.{path_of}
 use Rattle.pkg_core.specs.adb_schema.adb_fields.Repeated.{name_of}
 use Rattle.report_core.specs.declared.refusal.Refusal.{Refusal}
@@ -98,7 +98,7 @@ lines_unless (Some cause) lines = []
 abbrev pub payload_lines : List ℕ → MixedUp → List ℕ → List ℕ
 payload_lines name mixed payload =
     lines_unless (payload_fault Package payload)
-    (package_lines name mixed (root_value Package payload))
+    (package_lines name mixed (root_value_of_payload Package payload))
 
 -- these lines are those of a package, by the front (its header and first block) that was read; there are none if the
 -- front is absent or bad
@@ -117,7 +117,7 @@ abbrev pub contents_lines : List ℕ → MixedUp → Option (List ℕ) → List 
 contents_lines name mixed None = []
 contents_lines name mixed (Some file) =
     lines_unless (container_fault_except_contents Package file)
-    (package_lines name mixed (root_value Package (payload_in file)))
+    (package_lines name mixed (root_value_of_payload Package (payload_in file)))
 
 -- ---- what is printed
 

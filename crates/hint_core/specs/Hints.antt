@@ -267,8 +267,8 @@ cause_hint refusal = Hinted.Nothing
 -- ---- all hints of a refusal
 
 -- the hints of a refusal of the command line `words`: on what it is about, and on its cause
-abbrev pub hints_of : List (List ℕ) → Refusal → Option (List ℕ) → Hints
-hints_of words refusal found = record {
+abbrev pub hints_by_words_and_subject_file : List (List ℕ) → Refusal → Option (List ℕ) → Hints
+hints_by_words_and_subject_file words refusal found = record {
   subject = subject_hint words found (subject_of refusal);
   cause = cause_hint refusal;
 }

@@ -10,7 +10,7 @@ use Rattle.words_core.specs.Grammar.{command_of}
 use Rattle.hint_core.specs.declared.telling.HintFault.{HintFault}
 use Rattle.hint_core.specs.declared.telling.HintFault.TheVariants.{Disk, Memory, Sink}
 use Rattle.hint_core.specs.declared.hint.Subject.{Subject}
-use Rattle.hint_core.specs.Hints.{hints_of, is_explained, subject_file}
+use Rattle.hint_core.specs.Hints.{hints_by_words_and_subject_file, is_explained, subject_file}
 use Rattle.hint_core.specs.Lines.{hint_lines}
 
 -- a fault of a read, as a fault of the hints
@@ -37,7 +37,8 @@ IsFoundForSubject history subject found = IsFoundIfNamed history (subject_file s
 -- is one
 abbrev pub hint_lines_after_refusal : List (List ℕ) → Refusal → Option (List ℕ) → List ℕ
 hint_lines_after_refusal words refusal found =
-    if is_explained (command_of words) then hint_lines (hints_of words refusal found) else []
+    if is_explained (command_of words) then hint_lines
+    (hints_by_words_and_subject_file words refusal found) else []
 
 -- a call has written these lines to a sink, or a prefix of them if it failed
 pub record Tells {T E : Type 0} (lines : List ℕ) (sink : SinkBeforeAndAfter)

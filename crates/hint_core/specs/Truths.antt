@@ -63,66 +63,66 @@ HasField which number name =
 
 -- a hint is true of the words of a command line, of their refusal, and of the file that the refusal is about, if it was
 -- found
-abbrev pub IsTrueHint : List (List ℕ) → Refusal → Option (List ℕ) → Hint → Type 0
+abbrev pub IsHintTrueBySubjectFile : List (List ℕ) → Refusal → Option (List ℕ) → Hint → Type 0
 -- the word is the one at the place that the refusal names; places count from 1
-IsTrueHint words refusal found (Hinted.Word place word) =
+IsHintTrueBySubjectFile words refusal found (Hinted.Word place word) =
     NamesWord refusal place × (slice_get words (place - 1) ≡ Some word)
 -- the refusal is that the word at this place names no file
-IsTrueHint words refusal found (Hinted.AbsentFile place word) =
+IsHintTrueBySubjectFile words refusal found (Hinted.AbsentFile place word) =
     (subject_of refusal ≡ Subjects.AbsentFile place) × (slice_get words (place - 1) ≡ Some word)
 -- the refusal is that what the word at this place names is not installed, and the words ask which package owns it
-IsTrueHint words refusal found (Hinted.Unowned place word) =
+IsHintTrueBySubjectFile words refusal found (Hinted.Unowned place word) =
     (subject_of refusal ≡ Subjects.NotInstalled place) × (asks_for_owner (command_of words) ≡ true)
     × (slice_get words (place - 1) ≡ Some word)
 -- the refusal is about the information of a package, which is the word at this place
-IsTrueHint words refusal found (Hinted.Information place word) =
+IsHintTrueBySubjectFile words refusal found (Hinted.Information place word) =
     (subject_of refusal ≡ Information place) × (slice_get words (place - 1) ≡ Some word)
 -- the refusal is about the information of a package at this place, which is after the last word
-IsTrueHint words refusal found (Hinted.Missing place) =
+IsHintTrueBySubjectFile words refusal found (Hinted.Missing place) =
     (subject_of refusal ≡ Information place) × (length words ≤ place - 1)
 -- the refusal is about the repository with this number, which has this path, and this line of the list names it
-IsTrueHint words refusal found (Hinted.Repository number line path) =
+IsHintTrueBySubjectFile words refusal found (Hinted.Repository number line path) =
     (subject_of refusal ≡ Subjects.Repository number)
     × (text : List ℕ) × (found ≡ Some text) × RepositoryHasPath text number path × NamesPath text line path
 -- the refusal is about the line with this number, and this is its text in the file
-IsTrueHint words refusal found (Hinted.Line file line text) =
+IsHintTrueBySubjectFile words refusal found (Hinted.Line file line text) =
     (subject_of refusal ≡ Line file line)
     × (whole : List ℕ) × (found ≡ Some whole) × (slice_get (lines_of whole) (line - 1) ≡ Some text)
 -- the refusal is about the database, and the hint says whether its container was found
-IsTrueHint words refusal found (Hinted.Database is_container) =
+IsHintTrueBySubjectFile words refusal found (Hinted.Database is_container) =
     (subject_of refusal ≡ Database) × (is_container ≡ is_some found)
 -- the refusal is that there is no database, and no container was found
-IsTrueHint words refusal found Hinted.AbsentDatabase =
+IsHintTrueBySubjectFile words refusal found Hinted.AbsentDatabase =
     (subject_of refusal ≡ AbsentDatabase) × (found ≡ None)
 -- the refusal is about a path that two packages list
-IsTrueHint words refusal found Hinted.SharedPath = subject_of refusal ≡ SharedPath
+IsHintTrueBySubjectFile words refusal found Hinted.SharedPath = subject_of refusal ≡ SharedPath
 -- the refusal is about the journal
-IsTrueHint words refusal found Hinted.Journal = subject_of refusal ≡ Subjects.Journal
+IsHintTrueBySubjectFile words refusal found Hinted.Journal = subject_of refusal ≡ Subjects.Journal
 -- the refusal is that repositories need `--allow-untrusted`
-IsTrueHint words refusal found Hinted.Untrusted = subject_of refusal ≡ Subjects.Untrusted
+IsHintTrueBySubjectFile words refusal found Hinted.Untrusted = subject_of refusal ≡ Subjects.Untrusted
 -- the refusal is that `fix` finds no file of a package
-IsTrueHint words refusal found Hinted.AbsentPackage =
+IsHintTrueBySubjectFile words refusal found Hinted.AbsentPackage =
     (subject_of refusal ≡ Subjects.AbsentPackage) × (is_fix (command_of words) ≡ true)
 -- the refusal is that the file of a package is another one than its index lists
-IsTrueHint words refusal found Hinted.OtherPackage = subject_of refusal ≡ Subjects.OtherPackage
+IsHintTrueBySubjectFile words refusal found Hinted.OtherPackage = subject_of refusal ≡ Subjects.OtherPackage
 -- the refusal has a cause of a damaged file
-IsTrueHint words refusal found Hinted.Damaged =
+IsHintTrueBySubjectFile words refusal found Hinted.Damaged =
     (cause : Cause) × (cause_of refusal ≡ Some cause) × IsOfDamage cause
 -- the refusal has a cause of a file of another format
-IsTrueHint words refusal found Hinted.Foreign =
+IsHintTrueBySubjectFile words refusal found Hinted.Foreign =
     (cause : Cause) × (cause_of refusal ≡ Some cause) × IsOfFormat cause
 -- the place is 100 times the number of the table plus that of the field
-IsTrueHint words refusal found (Hinted.Field place which name) =
+IsHintTrueBySubjectFile words refusal found (Hinted.Field place which name) =
     NamesFieldPlace refusal place
     × (number : ℕ) × (place ≡ 100 * table_number which + number) × (0 < number)
     × HasField which number name
 -- the cause of the refusal is a schema, which is that of this table
-IsTrueHint words refusal found (Hinted.Schema which) =
+IsHintTrueBySubjectFile words refusal found (Hinted.Schema which) =
     (schema : ℕ) × (cause_of refusal ≡ Some (WrongSchema schema))
     × (schema_word which ≡ Some schema)
 -- the cause of the refusal is a schema, which is that of no table
-IsTrueHint words refusal found Hinted.UnknownSchema =
+IsHintTrueBySubjectFile words refusal found Hinted.UnknownSchema =
     (schema : ℕ) × (cause_of refusal ≡ Some (WrongSchema schema))
     × ((which : Which) → schema_word which ≡ Some schema → ⊥)
 -- this hint says nothing, and is always true
-IsTrueHint words refusal found Hinted.Nothing = Unit {0}
+IsHintTrueBySubjectFile words refusal found Hinted.Nothing = Unit {0}

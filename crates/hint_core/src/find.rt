@@ -5,7 +5,7 @@ ghost use Rattle.std.specs.Prelude.{◌≡◌, IfOk, Ok, Some, map, slice_get};
 ghost use Rattle.std.specs.Option.{option_copied, option_map};
 ghost use Rattle.dep_core.specs.Repositories.{repositories_of};
 ghost use Rattle.dep_core.specs.World.{lines_of};
-ghost use Rattle.hint_core.specs.Hints.{absent_database_hint, absent_file_hint, absent_package_hint, cause_hint, file_cause_hint, hint_of_cause, hints_of, information_hint, line_hint, not_installed_hint, place_hint, repository_hint, schema_hint, subject_hint, word_hint};
+ghost use Rattle.hint_core.specs.Hints.{absent_database_hint, absent_file_hint, absent_package_hint, cause_hint, file_cause_hint, hint_of_cause, hints_by_words_and_subject_file, information_hint, line_hint, not_installed_hint, place_hint, repository_hint, schema_hint, subject_hint, word_hint};
 ghost use Rattle.hint_core.specs.Repositories.{path_alone, repository_at};
 
 use crate::hint::{Hint, HintFile, Hints, Subject, subject_of};
@@ -26,7 +26,7 @@ pub fn hints(
     found: Option<&[u8]>,
 ) -> Result<Hints, AllocError>
     ensures { IfOk result (λ hints. hints
-        ≡ hints_of words.now refusal.now (option_copied found.entry)) }
+        ≡ hints_by_words_and_subject_file words.now refusal.now (option_copied found.entry)) }
 {
     let subject = subject_hint(alloc, words, subject_of(refusal), found)?;
     let cause = cause_hint(refusal);

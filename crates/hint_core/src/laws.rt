@@ -3,8 +3,8 @@
 ghost use Rattle.std.specs.Prelude.{◌≡◌, ℕ, List, [], Contains, Option, Some};
 ghost use Rattle.dep_core.specs.Repositories.{Repository};
 ghost use Rattle.report_core.specs.declared.refusal.Refusal.{Refusal};
-ghost use Rattle.hint_core.specs.Hints.{hints_of};
-ghost use Rattle.hint_core.specs.Truths.{IsTrueHint};
+ghost use Rattle.hint_core.specs.Hints.{hints_by_words_and_subject_file};
+ghost use Rattle.hint_core.specs.Truths.{IsHintTrueBySubjectFile};
 ghost use Rattle.hint_core.specs.Warnings.{unknown_tag_line, warning_if_tag_unknown};
 
 /// Both hints of a refusal, on its subject and on its cause, are true of the words and of the file
@@ -12,10 +12,12 @@ ghost use Rattle.hint_core.specs.Warnings.{unknown_tag_line, warning_if_tag_unkn
 pub fn hints_are_so()
     // The hint on what the refusal is about is true.
     ensures subject { (words : List (List ℕ)) (refusal : Refusal) (found : Option (List ℕ))
-        → IsTrueHint words refusal found (hints_of words refusal found).subject }
+        → IsHintTrueBySubjectFile words refusal found
+        (hints_by_words_and_subject_file words refusal found).subject }
     // The hint on the cause of the refusal is true.
     ensures cause { (words : List (List ℕ)) (refusal : Refusal) (found : Option (List ℕ))
-        → IsTrueHint words refusal found (hints_of words refusal found).cause }
+        → IsHintTrueBySubjectFile words refusal found
+        (hints_by_words_and_subject_file words refusal found).cause }
 {}
 
 /// A tag is warned of if no repository has it, and not if one has it.

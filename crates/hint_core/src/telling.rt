@@ -5,7 +5,7 @@ ghost use Rattle.std.specs.Option.{option_copied};
 ghost use Rattle.base_core.specs.Read.{OnlyReads, bytes_in};
 ghost use Rattle.base_core.specs.Sink.{sink_before_and_after};
 ghost use Rattle.words_core.specs.Grammar.{command_of};
-ghost use Rattle.hint_core.specs.Hints.{asks_for_owner, hint_file_name, hints_of, is_explained, is_fix, subject_file, subject_of};
+ghost use Rattle.hint_core.specs.Hints.{asks_for_owner, hint_file_name, hints_by_words_and_subject_file, is_explained, is_fix, subject_file, subject_of};
 ghost use Rattle.hint_core.specs.Lines.{hint_lines};
 ghost use Rattle.hint_core.specs.Told.{IsFoundForSubject, IsNotDiskFault, Tells, hint_lines_after_refusal};
 
@@ -194,7 +194,8 @@ fn tell<S: Sink>(
     found: Option<&[u8]>,
     sink: &mut S,
 ) -> Result<(), HintFault>
-    ensures told { Tells (hint_lines (hints_of words.now refusal.now (option_copied found.entry)))
+    ensures told { Tells (hint_lines (hints_by_words_and_subject_file words.now refusal.now
+        (option_copied found.entry)))
         (sink_before_and_after S.bytes S.counts sink.old sink.new) result }
     // No tree failed.
     ensures failed { IfErr result IsNotDiskFault }

@@ -12,7 +12,7 @@ use Rattle.base_core.proofs.Texts.{joined}
 use Rattle.candidate_core.proofs.adb_fields.Listed.{next_listed}
 use Rattle.dep_core.specs.Dependency.{Dependency}
 use Rattle.dep_core.specs.DependencyText.{dep_text}
-use Rattle.candidate_core.specs.Candidates.{dependencies_of, dependency_in}
+use Rattle.candidate_core.specs.Candidates.{dependencies_among_values, dependency_in}
 use Rattle.report_core.specs.Reports.{report_line, report_lines}
 
 pub append_nothing : {X : Type 0} (xs : List X) → xs ++ [] ≡ xs
@@ -95,6 +95,6 @@ dependency_left vs i h =
     ap dependency_lines (next_listed vs i h)
     ∙ one_dependency (dependency_in (nth vs i)) (filter_map dependency_in (drop (i + 1) (list_of vs)))
 
-pub dependencies_listed : (vs : Plains) → filter_map dependency_in (list_of vs) ≡ dependencies_of vs
+pub dependencies_listed : (vs : Plains) → filter_map dependency_in (list_of vs) ≡ dependencies_among_values vs
 dependencies_listed none = refl
 dependencies_listed (more v vs) = ap (cons_option (dependency_in v)) (dependencies_listed vs)

@@ -14,7 +14,7 @@ use Rattle.dep_core.specs.LeadingSlash.{without_slash}
 use Rattle.file_owners.specs.Replaces.{package_version_text}
 use Rattle.base_core.specs.ByteOrder.{bytes_cmp}
 use Rattle.base_core.specs.Sorted.{sorted_by}
-use Rattle.candidate_core.specs.Candidates.{dependencies_in}
+use Rattle.candidate_core.specs.Candidates.{dependencies_in_list_value}
 use Rattle.report_core.specs.Reports.{contents_section, depends_section, description_section, owner_text, report_line, report_lines}
 use Rattle.report_core.specs.declared.refusal.Refusal.{Refusal}
 use Rattle.report_core.specs.declared.refusal.Refusal.TheVariants.{NotInstalled}
@@ -33,15 +33,15 @@ description_section_of pkg =
     (text_in (entry_in (entry_in pkg PACKAGE_INFO) INFO_DESCRIPTION))
 
 -- the section with the paths that a package lists, folder by folder
-abbrev pub contents_text : Plain → List ℕ
-contents_text pkg =
+abbrev pub contents_section_of : Plain → List ℕ
+contents_section_of pkg =
     contents_section (package_name pkg) (package_version_text pkg) (paths_of_package_files pkg)
 
 -- the section with the dependencies of a package
-abbrev pub depends_text : Plain → List ℕ
-depends_text pkg =
+abbrev pub depends_section_of : Plain → List ℕ
+depends_section_of pkg =
     depends_section (package_name pkg) (package_version_text pkg)
-    (map dep_text (dependencies_in (entry_in (entry_in pkg PACKAGE_INFO) INFO_DEPENDS)))
+    (map dep_text (dependencies_in_list_value (entry_in (entry_in pkg PACKAGE_INFO) INFO_DEPENDS)))
 
 -- the line that says that a package owns a path
 abbrev pub owner_line : List ℕ → Plain → List ℕ
@@ -49,19 +49,20 @@ owner_line path pkg = report_line (owner_text path (package_name pkg) (package_v
 
 -- the report of a form on the package that an operand means; the second argument is the operand's text, a name or a
 -- path
-abbrev pub package_info : Form → List ℕ → Plain → List ℕ
-package_info Description name pkg = description_section_of pkg
-package_info Contents name pkg = contents_text pkg
-package_info Depends name pkg = depends_text pkg
-package_info Installed name pkg = report_line name
-package_info Owner path pkg = owner_line (without_slash path) pkg
+abbrev pub package_info_for_operand_text : Form → List ℕ → Plain → List ℕ
+package_info_for_operand_text Description name pkg = description_section_of pkg
+package_info_for_operand_text Contents name pkg = contents_section_of pkg
+package_info_for_operand_text Depends name pkg = depends_section_of pkg
+package_info_for_operand_text Installed name pkg = report_line name
+package_info_for_operand_text Owner path pkg = owner_line (without_slash path) pkg
 
 -- ---- of operands
 
 -- the report of a form on one operand; empty if its package is not installed
 abbrev pub operand_info : Form → List Plain → Operand → List ℕ
 operand_info form packages o =
-    option_map_or (package_info form o.text) (package_meant_by_operand_text form packages o.text) []
+    option_map_or (package_info_for_operand_text form o.text)
+    (package_meant_by_operand_text form packages o.text) []
 
 -- the report of a form on all operands, in the order given
 abbrev pub operands_info : Form → List Plain → List Operand → List ℕ

@@ -2,7 +2,7 @@
 //! operand means. `telling` calls the reports. The rules are in `docs/commands.md`, "`info`".
 
 ghost use Rattle.file_owners.specs.db_core.Seen.{packages_of};
-ghost use Rattle.installed_info.specs.Info.{report_and_refusal, info_refusal, info_unless_refused, operands_info, package_info};
+ghost use Rattle.installed_info.specs.Info.{report_and_refusal, info_refusal, info_unless_refused, operands_info, package_info_for_operand_text};
 ghost use Rattle.installed_info.specs.Packages.{package_meant_by_operand_text, package_named, path_owner};
 ghost use Rattle.report_core.specs.declared.refusal.Refusal.TheVariants.{NotInstalled};
 ghost use Rattle.std.specs.Option.{option_map_or, option_or, option_and_then};
@@ -102,7 +102,7 @@ fn push_operand(
         (packages_of db.now) text.now)) }
     // What the operand asks for is appended, if the package is installed.
     ensures told { IfOk result (λ _. report.new.items ≡ report.old.items
-        ++ option_map_or (package_info form text.now)
+        ++ option_map_or (package_info_for_operand_text form text.now)
         (package_meant_by_operand_text form (packages_of db.now) text.now) []) }
 {
     match place_asked(alloc, form, db, text)? {

@@ -5,14 +5,14 @@ ghost use Rattle.candidate_core.specs.adb_fields.Repeated.{package_name};
 ghost use Rattle.candidate_core.specs.adb_schema.Views.{package_value, dependency_value};
 ghost use Rattle.file_owners.specs.db_core.Seen.{packages_of};
 ghost use Rattle.file_owners.specs.Replaces.{package_version_text};
-ghost use Rattle.installed_info.specs.Info.{contents_text, depends_text, description_section_of, owner_line, package_info};
+ghost use Rattle.installed_info.specs.Info.{contents_section_of, depends_section_of, description_section_of, owner_line, package_info_for_operand_text};
 ghost use Rattle.report_core.specs.Reports.{name_dash_version, report_line, report_lines};
 ghost use Rattle.std.specs.Option.{option_map_or, option_map};
 ghost use Rattle.std.specs.Prelude.{◌≡◌, ◌<◌, ◌++◌, [], length, slice_get, OnOk, map};
 ghost use Rattle.candidate_core.specs.adb_fields.ListValue.{list_value};
 ghost use Rattle.dep_core.specs.DependencyText.{dep_text};
 ghost use Rattle.dep_core.specs.Meets.{dependency};
-ghost use Rattle.candidate_core.specs.Candidates.{dependencies_in, dependency_in};
+ghost use Rattle.candidate_core.specs.Candidates.{dependencies_in_list_value, dependency_in};
 
 use crate::paths::push_paths;
 use crate::telling::Form;
@@ -38,7 +38,8 @@ pub(crate) fn push_package<'a>(
     requires { place < length (packages_of db.now) }
     // The report on the package at this place is appended.
     ensures { OnOk result (report.new.items ≡ report.old.items
-        ++ option_map_or (package_info form text.now) (slice_get (packages_of db.now) place) []) }
+        ++ option_map_or (package_info_for_operand_text form text.now) (slice_get
+        (packages_of db.now) place) []) }
 {
     let pkg = db.package(place);
     push_info(alloc, report, form, &pkg, text)
@@ -54,7 +55,7 @@ fn push_info(
     text: &[u8],
 ) -> Result<(), AllocError>
     ensures { OnOk result (report.new.items
-        ≡ report.old.items ++ package_info form text.now (package_value pkg.now)) }
+        ≡ report.old.items ++ package_info_for_operand_text form text.now (package_value pkg.now)) }
 {
     match form {
         Form::Description => push_description(report, pkg),
@@ -79,7 +80,7 @@ fn push_description(report: &mut Vec<u8>, pkg: &PackageView<'_>) -> Result<(), A
 // Appends the section with the paths that a package lists.
 fn push_contents(report: &mut Vec<u8>, pkg: &PackageView<'_>) -> Result<(), AllocError>
     ensures { OnOk result (report.new.items
-        ≡ report.old.items ++ contents_text (package_value pkg.now)) }
+        ≡ report.old.items ++ contents_section_of (package_value pkg.now)) }
 {
     push_heading(report, pkg, b" contains:")?;
     push_paths(report, &pkg.paths())?;
@@ -94,7 +95,7 @@ fn push_depends(
     pkg: &PackageView<'_>,
 ) -> Result<(), AllocError>
     ensures { OnOk result (report.new.items
-        ≡ report.old.items ++ depends_text (package_value pkg.now)) }
+        ≡ report.old.items ++ depends_section_of (package_value pkg.now)) }
 {
     push_heading(report, pkg, b" depends on:")?;
     push_dependencies(alloc, report, &pkg.info().depends())?;
@@ -136,7 +137,7 @@ pub(crate) fn push_dependencies<'a>(
     depends: &List<'a, DepView<'a>>,
 ) -> Result<(), AllocError>
     ensures { OnOk result (report.new.items ≡ report.old.items
-        ++ report_lines (map dep_text (dependencies_in (list_value depends.now)))) }
+        ++ report_lines (map dep_text (dependencies_in_list_value (list_value depends.now)))) }
 {
     for i in 0..depends.len() {
         push_entry(alloc, report, &depends.get(i + 1))?;

@@ -8,7 +8,7 @@ use Rattle.base_core.specs.Tree.{files_of}
 use Rattle.journal_core.specs.Acting.{IsDuringActions}
 use Rattle.journal_core.specs.Quiet.{StateIsUnchanged}
 use Rattle.journal_core.specs.Recovery.{EachCrashLeavesStateOf, StateDependsOn, intent_name}
-use Rattle.journal_core.specs.Staged.{AreJournalPathsFree, IsCarryingOutActions, Staging}
+use Rattle.journal_core.specs.Staged.{AreIntentAndStagedPathsFree, IsCarryingOutActions, Staging}
 use Rattle.journal_core.proofs.Chain.{by_now}
 use Rattle.journal_core.proofs.History.{History, observable_map}
 use Rattle.journal_core.proofs.Rowing.{Rowed, proper_done, rowed_called, rowed_done, rowed_start}
@@ -36,6 +36,6 @@ module _ (first next : Staging) (old mid new : History)
       by_now mid (IsCarryingOutActions next files) (OnOk r (HoldsNow new (λ w. (files_of w ≡ files) × (w.names intent_name ≡ None)))) (a files at)
       (observable_map mid _ (λ u. IsCarryingOutActions next files u → OnOk r (HoldsNow new (λ w. (files_of w ≡ files) × (w.names intent_name ≡ None)))) last (λ u t. t files)))
 
-  pub end_proper : (a b c : ℕ) → IfObservable old (λ v. (files : Files) → IsCarryingOutActions first files v → AreJournalPathsFree files → b ≡ a) → IfObservable mid (λ u. c ≡ b)
-      → IfObservable old (λ v. (files : Files) → IsCarryingOutActions first files v → AreJournalPathsFree files → c ≡ a)
+  pub end_proper : (a b c : ℕ) → IfObservable old (λ v. (files : Files) → IsCarryingOutActions first files v → AreIntentAndStagedPathsFree files → b ≡ a) → IfObservable mid (λ u. c ≡ b)
+      → IfObservable old (λ v. (files : Files) → IsCarryingOutActions first files v → AreIntentAndStagedPathsFree files → c ≡ a)
   end_proper a b c proper last = proper_done first next old mid a b c acting proper (observable_map mid _ _ last (λ u same files acts room. same))

@@ -9,20 +9,20 @@ use Rattle.base_core.specs.Tree.{TreeState, File, bytes_of_file_number, files_of
 use Rattle.journal_core.specs.Kept.{HasOldOrNewBytesOutsideJournal, IsRestoredByNoCrash, KeepsFilesExcept, KeepsCrashMapsExcept, KeepsOldOrNewBytes, RecoversTo, NamesOutsideJournalAreDurable}
 use Rattle.journal_core.specs.Quiet.{StateIsUnchanged}
 use Rattle.journal_core.specs.Recovery.{Intent, EachCrashLeavesStateOf, StateDependsOn, files_after_actions, intent_in_file, intent_name, stage_name}
-use Rattle.journal_core.specs.Staged.{HasMomentOfPublishedIntentForFiles, IsCarryingOutActions, HasNoStagedNames, IsOldUntilCommit, HasStagedContents, IsHistoryThatCommitsFiles, Staging}
+use Rattle.journal_core.specs.Staged.{HasMomentOfIntentPublishedSinceForFiles, IsCarryingOutActions, HasNoStagedNames, IsOldUntilCommit, HasStagedContents, IsHistoryThatCommitsFiles, Staging}
 use Rattle.journal_core.proofs.Between.{no_intent_read}
 use Rattle.journal_core.proofs.Chain.{by_now, now_both}
 use Rattle.journal_core.proofs.History.{History, now_map, now_since, observable_at, observable_map, on_observable, since_on, since_weaker}
 use Rattle.journal_core.proofs.Lasting.{some_none}
 use Rattle.journal_core.proofs.OnTheWay.{way_after}
 use Rattle.journal_core.specs.journal_intent.FreeNames.{HasFreeDistinctNames}
-use Rattle.journal_commit.specs.StageRun.{IsStateDuringChangeToNewFromOld, IsRunOfStagedChange, IsStagedChangeComplete, IsRunThatStagedContents, NamesAreDurableWithoutIntent}
+use Rattle.journal_commit.specs.StageRun.{IsStateDuringChangeToNewFromOld, IsRunOfStagedChange, IsStagedChangeComplete, IsRunThatStagedContents, NamesOutsideJournalAreDurableIfNoIntent}
 use Rattle.journal_commit.proofs.Empty.{change_empties}
 use Rattle.journal_commit.proofs.Joins.{now_of, since_and}
 use Rattle.journal_commit.proofs.Waits.{none_entering, shown_last}
 use Rattle.journal_commit.proofs.Ways.{G, Lasts, Reads, Waits, Way, entered_bytes, append_file_to, read_entering, run_led, same_files, still_now}
 
-way_now : (ignored : List ℕ → Bool) (files : Files) (u : TreeState) (added old : History) → HasMomentOfPublishedIntentForFiles ignored files u.made added → EachMoment (IsOldUntilCommit ignored files u) added → HoldsNow (added ++ old) (λ x. IsDurable (StateDependsOn ignored) x × (u.made ≤ x.made))
+way_now : (ignored : List ℕ → Bool) (files : Files) (u : TreeState) (added old : History) → HasMomentOfIntentPublishedSinceForFiles ignored files u.made added → EachMoment (IsOldUntilCommit ignored files u) added → HoldsNow (added ++ old) (λ x. IsDurable (StateDependsOn ignored) x × (u.made ≤ x.made))
 way_now ignored files u [] old published each = absurd published
 way_now ignored files u (w ∷ added) old published each = (each.0.is_durable, each.0.made)
 
@@ -75,8 +75,8 @@ module _ (stage : Staging) (contents : List (List ℕ)) (v : TreeState) (first m
         (since_and (KeepsFilesExcept (λ q. (q ≡ intent_name) ⊎ (q ≡ stage_name 0)) u) (λ w. IsSome (w.names intent_name) → RecoversTo H w) mid now keeps recovers))
 
     publish_lasts : PublishMaps → Lasts stage contents v first mid s now
-    publish_lasts maps = observable_map mid _ (λ u. W u → NamesOutsideJournalAreDurable u → Since NamesAreDurableWithoutIntent mid now) maps (λ u t waits last.
-        since_weaker (KeepsCrashMapsExcept (intent_name ∷ stage_name 0 ∷ []) u) NamesAreDurableWithoutIntent mid now (λ w keeps none. shown_last (intent_name ∷ stage_name 0 ∷ []) none_entering u w keeps last) t)
+    publish_lasts maps = observable_map mid _ (λ u. W u → NamesOutsideJournalAreDurable u → Since NamesOutsideJournalAreDurableIfNoIntent mid now) maps (λ u t waits last.
+        since_weaker (KeepsCrashMapsExcept (intent_name ∷ stage_name 0 ∷ []) u) NamesOutsideJournalAreDurableIfNoIntent mid now (λ w keeps none. shown_last (intent_name ∷ stage_name 0 ∷ []) none_entering u w keeps last) t)
 
     pub publish_run : IsCommittedFor → PublishReads → PublishOthers → PublishMaps → IsRunOfStagedChange H v first now
     publish_run moments reads others maps = run_led stage contents v first mid s now (publish_way moments) (publish_reads reads others) (publish_lasts maps)
@@ -145,7 +145,7 @@ module _ (stage : Staging) (contents : List (List ℕ)) (v : TreeState) (first m
           (since_and (RecoversTo H) (HasOldOrNewBytesOutsideJournal (files_of u) H) now new (k H q.0) (b H q.0 (files_of u) (entered_bytes H u x q.1)))))))
 
       abbrev pub EnactLasts : Type 0
-      EnactLasts = IfObservable now (λ x. IsSome (x.names intent_name) → Since NamesAreDurableWithoutIntent now new)
+      EnactLasts = IfObservable now (λ x. IsSome (x.names intent_name) → Since NamesOutsideJournalAreDurableIfNoIntent now new)
 
       has_intent : (x : TreeState) → Acts x → IsSome (x.names intent_name)
       has_intent x acts = names_some x.files (x.names intent_name) stage_intent acts.located
@@ -153,11 +153,11 @@ module _ (stage : Staging) (contents : List (List ℕ)) (v : TreeState) (first m
           stage_intent : Intent
           stage_intent = next.intent
 
-      more_lasts : EnactLasts → Since NamesAreDurableWithoutIntent now new
-      more_lasts more = by_now now Acts (Since NamesAreDurableWithoutIntent now new) acts_now (observable_map now _ (λ x. Acts x → Since NamesAreDurableWithoutIntent now new) more (λ x k acts. k (has_intent x acts)))
+      more_lasts : EnactLasts → Since NamesOutsideJournalAreDurableIfNoIntent now new
+      more_lasts more = by_now now Acts (Since NamesOutsideJournalAreDurableIfNoIntent now new) acts_now (observable_map now _ (λ x. Acts x → Since NamesOutsideJournalAreDurableIfNoIntent now new) more (λ x k acts. k (has_intent x acts)))
 
       enact_lasts : PublishMaps → EnactLasts → Lasts stage contents v first mid s new
-      enact_lasts maps more = observable_map mid _ (λ u. W u → NamesOutsideJournalAreDurable u → Since NamesAreDurableWithoutIntent mid new) (publish_lasts maps) (λ u t waits last. since_on NamesAreDurableWithoutIntent mid now new (t waits last) (more_lasts more))
+      enact_lasts maps more = observable_map mid _ (λ u. W u → NamesOutsideJournalAreDurable u → Since NamesOutsideJournalAreDurableIfNoIntent mid new) (publish_lasts maps) (λ u t waits last. since_on NamesOutsideJournalAreDurableIfNoIntent mid now new (t waits last) (more_lasts more))
 
       pub enact_run : PublishReads → PublishOthers → PublishMaps → EnactMoments → EnactReads → EnactBytes → EnactLasts → IsRunOfStagedChange H v first new
       enact_run reads others maps moments more bytes lasts = run_led stage contents v first mid s new (enact_way moments) (enact_reads reads others more bytes) (enact_lasts maps lasts)
@@ -166,12 +166,12 @@ module _ (stage : Staging) (contents : List (List ℕ)) (v : TreeState) (first m
 
       -- at the end no intent is read, so the names last
       end_lasts : EnactLasts → HoldsNow new (λ w. (files_of w ≡ H) × (w.names intent_name ≡ None)) → HoldsNow new NamesOutsideJournalAreDurable
-      end_lasts lasts reads = now_map new (λ w. NamesAreDurableWithoutIntent w × ((files_of w ≡ H) × (w.names intent_name ≡ None))) NamesOutsideJournalAreDurable
-          (now_both new NamesAreDurableWithoutIntent (λ w. (files_of w ≡ H) × (w.names intent_name ≡ None)) (by now acts_now (more_lasts lasts)) reads) (λ w q. q.0 q.1.1)
+      end_lasts lasts reads = now_map new (λ w. NamesOutsideJournalAreDurableIfNoIntent w × ((files_of w ≡ H) × (w.names intent_name ≡ None))) NamesOutsideJournalAreDurable
+          (now_both new NamesOutsideJournalAreDurableIfNoIntent (λ w. (files_of w ≡ H) × (w.names intent_name ≡ None)) (by now acts_now (more_lasts lasts)) reads) (λ w q. q.0 q.1.1)
         where
-          by : (h : History) → HoldsNow h Acts → Since NamesAreDurableWithoutIntent h new → HoldsNow new NamesAreDurableWithoutIntent
+          by : (h : History) → HoldsNow h Acts → Since NamesOutsideJournalAreDurableIfNoIntent h new → HoldsNow new NamesOutsideJournalAreDurableIfNoIntent
           by [] acts since = absurd acts
-          by (x ∷ h) acts since = now_since NamesAreDurableWithoutIntent (x ∷ h) new x h refl (λ none. absurd (some_none (x.names intent_name) none (has_intent x acts))) since
+          by (x ∷ h) acts since = now_since NamesOutsideJournalAreDurableIfNoIntent (x ∷ h) new x h refl (λ none. absurd (some_none (x.names intent_name) none (has_intent x acts))) since
 
       module _ {T E : Type 0} where
         abbrev pub EnactFiles : Result T E → Type 0

@@ -19,7 +19,7 @@ use Rattle.journal_core.proofs.Published.{since_by, still_on_the_way}
 use Rattle.journal_core.proofs.Waiting.{still_self}
 use Rattle.journal_core.proofs.Cleaned.{none_recovered}
 use Rattle.journal_core.proofs.journal_intent.StageNames.{stage_name_staged}
-use Rattle.journal_commit.specs.StageRun.{HasSameFilesExceptStaged, IsStateDuringChangeToNewFromOld, IsRunOfStagedChange, IsRunThatStagedContents, IsStagingRun, NamesAreDurableWithoutIntent}
+use Rattle.journal_commit.specs.StageRun.{HasSameFilesExceptStaged, IsStateDuringChangeToNewFromOld, IsRunOfStagedChange, IsRunThatStagedContents, IsStagingRun, NamesOutsideJournalAreDurableIfNoIntent}
 use Rattle.journal_commit.proofs.Joins.{so_far_now}
 use Rattle.journal_commit.proofs.Waits.{shown_off}
 
@@ -45,7 +45,7 @@ pub staging_leads : (G : Files) (v : TreeState) (first now : History) → IsStag
 staging_leads G v first now run = record {
   moments = λ ignored is_durable. still_way ignored G v first now (run.moments ignored is_durable);
   reads = since_weaker (HasSameFilesExceptStaged (files_of v)) (IsStateDuringChangeToNewFromOld G (files_of v)) first now (λ w reads. inl reads) run.reads;
-  last = λ last. since_weaker NamesOutsideJournalAreDurable NamesAreDurableWithoutIntent first now (λ w lasts none. lasts) (run.last last);
+  last = λ last. since_weaker NamesOutsideJournalAreDurable NamesOutsideJournalAreDurableIfNoIntent first now (λ w lasts none. lasts) (run.last last);
 }
 
 -- ---- what is read
@@ -117,7 +117,7 @@ module _ (stage : Staging) (contents : List (List ℕ)) (v : TreeState) (first m
     Reads = IfObservable mid (λ u. Waits u → Since (IsStateDuringChangeToNewFromOld G (files_of u)) mid new)
 
     abbrev pub Lasts : Type 0
-    Lasts = IfObservable mid (λ u. Waits u → NamesOutsideJournalAreDurable u → Since NamesAreDurableWithoutIntent mid new)
+    Lasts = IfObservable mid (λ u. Waits u → NamesOutsideJournalAreDurable u → Since NamesOutsideJournalAreDurableIfNoIntent mid new)
 
     pub still_now : (ignored : List ℕ → Bool) → IsDurable (StateDependsOn ignored) v → HoldsNow mid (StateIsUnchanged ignored v)
     still_now ignored is_durable = so_far_now (StateIsUnchanged ignored v) Waits v first mid mid s.start (still_self ignored v is_durable) (s.run.moments ignored is_durable)
@@ -136,9 +136,9 @@ module _ (stage : Staging) (contents : List (List ℕ)) (v : TreeState) (first m
           (observable_map mid _ (λ u. HasSameFilesExceptStaged (files_of v) u × Waits u → Since (IsStateDuringChangeToNewFromOld G (files_of v)) mid new) reads (λ u t q.
           since_weaker (IsStateDuringChangeToNewFromOld G (files_of u)) (IsStateDuringChangeToNewFromOld G (files_of v)) mid new (λ w. read_from G (files_of v) u w q.0) (t q.1))));
       last = λ last.
-          since_on NamesAreDurableWithoutIntent first mid new
-          (since_weaker NamesOutsideJournalAreDurable NamesAreDurableWithoutIntent first mid (λ w lasts none. lasts) (s.run.last last))
-          (by_now mid (λ u. NamesOutsideJournalAreDurable u × Waits u) (Since NamesAreDurableWithoutIntent mid new)
+          since_on NamesOutsideJournalAreDurableIfNoIntent first mid new
+          (since_weaker NamesOutsideJournalAreDurable NamesOutsideJournalAreDurableIfNoIntent first mid (λ w lasts none. lasts) (s.run.last last))
+          (by_now mid (λ u. NamesOutsideJournalAreDurable u × Waits u) (Since NamesOutsideJournalAreDurableIfNoIntent mid new)
           (now_both mid NamesOutsideJournalAreDurable Waits (so_far_now NamesOutsideJournalAreDurable Waits v first mid mid s.start last (s.run.last last)) s.waiting)
-          (observable_map mid _ (λ u. NamesOutsideJournalAreDurable u × Waits u → Since NamesAreDurableWithoutIntent mid new) lasts (λ u t q. t q.1 q.0)));
+          (observable_map mid _ (λ u. NamesOutsideJournalAreDurable u × Waits u → Since NamesOutsideJournalAreDurableIfNoIntent mid new) lasts (λ u t q. t q.1 q.0)));
     }

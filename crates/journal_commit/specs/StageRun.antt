@@ -36,8 +36,8 @@ IsStateDuringChangeToNewFromOld new old w =
     HasSameFilesExceptStaged old w ⊎ (RecoversToNewByIntentFromOld new old w ⊎ (files_of w ≡ new))
 
 -- if no intent is read, no crash undoes a change of a name outside the staging area (and other than the intent's)
-abbrev pub NamesAreDurableWithoutIntent : TreeState → Type 0
-NamesAreDurableWithoutIntent w = w.names intent_name ≡ None → NamesOutsideJournalAreDurable w
+abbrev pub NamesOutsideJournalAreDurableIfNoIntent : TreeState → Type 0
+NamesOutsideJournalAreDurableIfNoIntent w = w.names intent_name ≡ None → NamesOutsideJournalAreDurable w
 
 -- ---- a change
 
@@ -53,7 +53,7 @@ pub record IsRunOfStagedChange (files : Files) (v : TreeState) (old now : List T
   pub reads : Since (IsStateDuringChangeToNewFromOld files (files_of v)) old now
   -- if at the start no crash could undo a change of a name outside the journal, the same holds at each moment at
   -- which no intent is read
-  pub last : NamesOutsideJournalAreDurable v → Since NamesAreDurableWithoutIntent old now
+  pub last : NamesOutsideJournalAreDurable v → Since NamesOutsideJournalAreDurableIfNoIntent old now
 
 -- A change that leads to `files` is complete in the newest state of the history `now`; it began at the tree `v`. No
 -- intent is read, and no crash restores one, or undoes a change of a name outside the journal.

@@ -7,7 +7,7 @@ use Rattle.std.specs.Prelude.{◌≡◌, ◌+◌, ◌++◌, ◌∷◌, [], ℕ, 
 use Rattle.base_core.specs.Faults.{Counts}
 use Rattle.base_core.specs.Tree.{TreeState, files_of}
 use Rattle.journal_core.specs.CallCounts.{IsResultExplainedByCounts}
-use Rattle.journal_core.specs.Staged.{Staging, AreJournalPathsFree}
+use Rattle.journal_core.specs.Staged.{Staging, AreIntentAndStagedPathsFree}
 use Rattle.journal_commit.specs.StageRun.{IsRunThatStagedContents, IsStagingRun}
 
 -- how a call changes the tree and its counts, if before it no staged file is begun and not yet ended
@@ -20,7 +20,7 @@ pub record ChangesOnlyStagedFiles {T E : Type 0} (stage : Staging) (old now : Li
   pub counts : IsResultExplainedByCounts before after result
   -- no call on the tree is a misuse, if the paths of the intent and of the staged files were free at the start
   pub proper : (contents : List (List ℕ)) (v : TreeState) (first : List TreeState)
-      → IsRunThatStagedContents stage contents None v first old → AreJournalPathsFree (files_of v)
+      → IsRunThatStagedContents stage contents None v first old → AreIntentAndStagedPathsFree (files_of v)
       → after.misuses ≡ before.misuses
 
 -- how a call changes the tree and its counts, if before it a staged file is begun and has the bytes `so_far`; no

@@ -12,8 +12,8 @@ ghost use Rattle.journal_core.specs.Acting.{CarriesOutActions};
 ghost use Rattle.journal_core.specs.CallCounts.{IsResultExplainedByCounts};
 ghost use Rattle.journal_core.specs.Kept.{IsRestoredByNoCrash};
 ghost use Rattle.journal_core.specs.Recovery.{EachCrashLeavesStateOf, StateDependsOn, files_after_actions, intent_name};
-ghost use Rattle.journal_core.specs.Staged.{AreJournalPathsFree, IsCarryingOutActions, action_count, files_with_staged};
-ghost use Rattle.journal_commit.specs.StageRun.{IsRunOfStagedChange, IsStagedChangeComplete, IsRunThatStagedContents, NamesAreDurableWithoutIntent};
+ghost use Rattle.journal_core.specs.Staged.{AreIntentAndStagedPathsFree, IsCarryingOutActions, action_count, files_with_staged};
+ghost use Rattle.journal_commit.specs.StageRun.{IsRunOfStagedChange, IsStagedChangeComplete, IsRunThatStagedContents, NamesOutsideJournalAreDurableIfNoIntent};
 
 use base_core::{Disk, Tree};
 use journal_core::{Stage, apply_all};
@@ -50,8 +50,9 @@ pub fn carry_through<T: Tree>(stage: &mut Stage, tree: &mut T) -> Result<(), Dis
     // files before the staging, and among the files after all actions.
     ensures proper { (contents : List (List ℕ)) (v : TreeState) (first : List TreeState)
         → IsRunThatStagedContents stage.old contents None v first (T.history tree.old)
-        → AreJournalPathsFree (files_of v)
-        → AreJournalPathsFree (files_after_actions stage.old.intent (files_with_staged 1 contents
+        → AreIntentAndStagedPathsFree (files_of v)
+        → AreIntentAndStagedPathsFree (files_after_actions stage.old.intent
+        (files_with_staged 1 contents
         (files_of v)))
         → (T.counts tree.new).misuses ≡ (T.counts tree.old).misuses }
 {
@@ -74,7 +75,7 @@ fn enact<T: Tree>(stage: &mut Stage, tree: &mut T) -> Result<(), Disk>
     // If an intent is read at the call: as soon as none is read, no crash undoes a change of a name
     // outside the journal.
     ensures last { IfObservable (T.history tree.old) (λ v. IsSome (v.names intent_name)
-        → Since NamesAreDurableWithoutIntent (T.history tree.old) (T.history tree.new)) }
+        → Since NamesOutsideJournalAreDurableIfNoIntent (T.history tree.old) (T.history tree.new)) }
     // Once Ok is returned, each crash leaves the state of `files`, which recovery yields at the
     // call.
     ensures settled { IfObservable (T.history tree.old) (λ v. (ignored : List ℕ → Bool)
@@ -93,7 +94,7 @@ fn enact<T: Tree>(stage: &mut Stage, tree: &mut T) -> Result<(), Disk>
     // No call is a misuse, if the paths of the intent and of the staged files are free among
     // `files`.
     ensures proper { IfObservable (T.history tree.old) (λ v. (files : Files)
-        → IsCarryingOutActions stage.old files v → AreJournalPathsFree files
+        → IsCarryingOutActions stage.old files v → AreIntentAndStagedPathsFree files
         → (T.counts tree.new).misuses ≡ (T.counts tree.old).misuses) }
 {
     apply_all(stage, tree)?;

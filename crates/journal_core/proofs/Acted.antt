@@ -9,7 +9,7 @@ use Rattle.journal_core.specs.Recovery.{Intent, StateDependsOn, stage_name}
 use Rattle.journal_intent.specs.FreeNames.{HasFreeDistinctNames}
 use Rattle.journal_core.specs.Kept.{RecoversTo}
 use Rattle.journal_core.specs.Quiet.{StateIsUnchanged}
-use Rattle.journal_core.specs.Staged.{Staging, IsCarryingOutActions, AreJournalPathsFree}
+use Rattle.journal_core.specs.Staged.{Staging, IsCarryingOutActions, AreIntentAndStagedPathsFree}
 use Rattle.journal_core.specs.Acting.{stage_with_actions_done, MovesIfPresent}
 use Rattle.journal_core.proofs.History.{History, none_since, one_more, no_more, on_observable, observable_at}
 use Rattle.journal_core.proofs.OneCall.{one_called, now_done, now_is}
@@ -78,6 +78,6 @@ module _ (laws : CrashLaws) (intent : Intent) (free : HasFreeDistinctNames inten
     move_reads (Err e) moves = on_observable old _ (λ v rest is files acting. move_reads_at v rest is files acting
         (observable_at old v rest is (λ u. (new ≡ old) ⊎ (new ≡ after_rename place name u ∷ old)) moves.err))
 
-    pub move_proper : (a b : ℕ) → IfObservable old (λ v. (IsSome (v.names place) → CanRename place name v) → b ≡ a) → IfObservable old (λ v. (files : Files) → IsCarryingOutActions before files v → AreJournalPathsFree files → b ≡ a)
+    pub move_proper : (a b : ℕ) → IfObservable old (λ v. (IsSome (v.names place) → CanRename place name v) → b ≡ a) → IfObservable old (λ v. (files : Files) → IsCarryingOutActions before files v → AreIntentAndStagedPathsFree files → b ≡ a)
     move_proper a b told = on_observable old _ (λ v rest is files acting room.
         observable_at old v rest is (λ u. (IsSome (u.names place) → CanRename place name u) → b ≡ a) told (λ there. can_move before files v place name j (j + 1) acting proper place_is refl at within behind room there))

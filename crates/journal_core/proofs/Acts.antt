@@ -5,7 +5,7 @@ use Rattle.std.specs.List.{list_any}
 use Rattle.std.specs.Str.{bytes_eq}
 use Rattle.std.proofs.lemmas.Bool.{or_right}
 use Rattle.base_core.specs.Files.{Files, NameMap, drop_name, move_name}
-use Rattle.base_core.specs.Tree.{TreeState, File, bytes_of_file_number, files_under_map, files_of, with_names, with_file_moved, with_name_removed, after_remove, after_rename, after_sync_names}
+use Rattle.base_core.specs.Tree.{TreeState, File, bytes_of_file_number, files_under_map, files_of, with_newer_name_map, with_file_moved, with_name_removed, after_remove, after_rename, after_sync_names}
 use Rattle.base_core.specs.Undone.{IsDurable, IsCrashImage, IsCrashMap, with_change_replayed}
 use Rattle.base_core.proofs.Undone.{change_whole, left_only, read_may_be_left}
 use Rattle.base_core.proofs.AtName.{same_name, name_cases, off_name}
@@ -30,21 +30,21 @@ state_same ignored F G same i q = cond (is_hidden ignored q) None (same i q)
 pub still_more : CrashLaws → (ignored : List ℕ → Bool) (v : TreeState) (m : NameMap) → IsDurable (StateDependsOn ignored) v
     → ((kept : NameMap) → IsCrashMap v kept → recovered_files (files_under_map v (with_change_replayed v.names m kept)) ≡ recovered_files (files_under_map v kept))
     → ((kept : NameMap) → IsCrashMap v kept → (q : List ℕ) (n : ℕ) → StateDependsOn ignored (files_under_map v (with_change_replayed v.names m kept)) q → with_change_replayed v.names m kept q ≡ Some n → (v.files n).synced ≡ true)
-    → StateIsUnchanged ignored v (with_names v m)
+    → StateIsUnchanged ignored v (with_newer_name_map v m)
 still_more laws ignored v m was same synced =
-    let is_durable : IsDurable (StateDependsOn ignored) (with_names v m) = record { each = each } in
+    let is_durable : IsDurable (StateDependsOn ignored) (with_newer_name_map v m) = record { each = each } in
     record {
       is_durable = is_durable;
-      quiet = quiet_by_maps laws ignored v (with_names v m) is_durable states;
+      quiet = quiet_by_maps laws ignored v (with_newer_name_map v m) is_durable states;
       reads = state_same ignored (files_under_map v m) (files_of v) (ap (λ (x : NameMap). recovered_files (files_under_map v x)) (sym (change_whole v.names m)) ∙ same v.names (read_may_be_left v));
       made = omega arith;
     }
   where
-    each : (x : NameMap) → IsCrashMap (with_names v m) x → (q : List ℕ) (n : ℕ) → StateDependsOn ignored (files_under_map v x) q → x q ≡ Some n → (v.files n).synced ≡ true
+    each : (x : NameMap) → IsCrashMap (with_newer_name_map v m) x → (q : List ℕ) (n : ℕ) → StateDependsOn ignored (files_under_map v x) q → x q ≡ Some n → (v.files n).synced ≡ true
     each x (inl (kept, left, new)) q n rests at = synced kept left q n (subst (λ (y : NameMap). StateDependsOn ignored (files_under_map v y) q) new rests) (sym (ap (λ (y : NameMap). y q) new) ∙ at)
     each x (inr old) q n rests at = was.each x old q n rests at
 
-    states : (x : NameMap) → IsCrashMap (with_names v m) x → (before : Files) × IsCrashImage v before × (state_of ignored (files_under_map v x) ≡ state_of ignored before)
+    states : (x : NameMap) → IsCrashMap (with_newer_name_map v m) x → (before : Files) × IsCrashImage v before × (state_of ignored (files_under_map v x) ≡ state_of ignored before)
     states x (inl (kept, left, new)) = (
       files_under_map v kept,
       laws.left v kept left,
@@ -54,7 +54,7 @@ still_more laws ignored v m was same synced =
 
 -- the same where there was one map
 pub still_one : CrashLaws → (ignored : List ℕ → Bool) (v : TreeState) (m : NameMap) → v.older ≡ [] → IsDurable (StateDependsOn ignored) v → recovered_files (files_under_map v m) ≡ recovered_files (files_of v)
-    → ((q : List ℕ) (n : ℕ) → StateDependsOn ignored (files_under_map v m) q → m q ≡ Some n → (v.files n).synced ≡ true) → StateIsUnchanged ignored v (with_names v m)
+    → ((q : List ℕ) (n : ℕ) → StateDependsOn ignored (files_under_map v m) q → m q ≡ Some n → (v.files n).synced ≡ true) → StateIsUnchanged ignored v (with_newer_name_map v m)
 still_one laws ignored v m one was same synced =
     still_more laws ignored v m was
     (λ kept left. ap (λ (x : NameMap). recovered_files (files_under_map v x)) (to kept left) ∙ same ∙ sym (ap (λ (x : NameMap). recovered_files (files_under_map v x)) (left_only v one kept left)))

@@ -1,7 +1,7 @@
 -- A state shows a bad intent, and no other.
 use Rattle.std.proofs.Common.{◌≡◌, ℕ, Bool, true, false, List, Option, None, Some, refl, sym, ap, ◌∙◌}
 use Rattle.std.proofs.lemmas.Bool.{or_right}
-use Rattle.journal_intent.specs.adb_schema.Soundness.{container_fault_except_contents, payload_in, root_value}
+use Rattle.journal_intent.specs.adb_schema.Soundness.{container_fault_except_contents, payload_in, root_value_of_payload}
 use Rattle.adb_view.specs.declared.tables.Which.TheVariants.{Intent as IntentTable}
 use Rattle.base_core.specs.Files.{Files}
 use Rattle.base_core.specs.declared.cause.Cause.{Cause}
@@ -9,7 +9,7 @@ use Rattle.journal_core.specs.Recovery.{Intent, intent_in_file, intent_of_value,
 use Rattle.journal_core.specs.Staged.{IsIntentFault}
 use Rattle.journal_core.proofs.Contents.{hidden_state, shown_state}
 
-module _ (sound : (file : List ℕ) → container_fault_except_contents IntentTable file ≡ None → read_intent file ≡ Some (intent_of_value (root_value IntentTable (payload_in file))))
+module _ (sound : (file : List ℕ) → container_fault_except_contents IntentTable file ≡ None → read_intent file ≡ Some (intent_of_value (root_value_of_payload IntentTable (payload_in file))))
     (other : (file : List ℕ) (cause : Cause) → container_fault_except_contents IntentTable file ≡ Some cause → read_intent file ≡ None) where
   -- a file that fails a test stays where it is
   stays : (files : Files) (file : List ℕ) (cause : Cause) → files intent_name ≡ Some file → container_fault_except_contents IntentTable file ≡ Some cause → recovered_files files intent_name ≡ Some file

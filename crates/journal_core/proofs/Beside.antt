@@ -5,12 +5,12 @@ use Rattle.base_core.specs.Files.{Files, HasNoFileAsFolder, put_name}
 use Rattle.base_core.specs.Tree.{TreeState, File, bytes_of_file_number, CanCreate}
 use Rattle.base_core.proofs.AtName.{name_cases, off_name}
 use Rattle.journal_core.specs.Recovery.{stage_name}
-use Rattle.journal_core.specs.Staged.{Staging, IsPresentOrOfJournal, AreJournalPathsFree, AreStagingPathsFree, HasStagedContents, files_with_staged}
+use Rattle.journal_core.specs.Staged.{Staging, IsPresentOrOfJournal, AreIntentAndStagedPathsFree, HasEmptyStageAndFreeJournalPaths, HasStagedContents, files_with_staged}
 use Rattle.journal_intent.proofs.AtName.{put_name-off}
 use Rattle.journal_intent.proofs.StageNames.{stage_names_apart}
 
 -- names that are all stage_with_actions_done are folder-like
-pub held_like : {A : Type 0} (files : Files) → AreJournalPathsFree files → (m : List ℕ → Option A) → ((q : List ℕ) → IsSome (m q) → IsPresentOrOfJournal files q) → HasNoFileAsFolder m
+pub held_like : {A : Type 0} (files : Files) → AreIntentAndStagedPathsFree files → (m : List ℕ → Option A) → ((q : List ℕ) → IsSome (m q) → IsPresentOrOfJournal files q) → HasNoFileAsFolder m
 held_like files room m stage_with_actions_done p q folder has_p has_q = room.folders p q folder (stage_with_actions_done p has_p) (stage_with_actions_done q has_q)
 
 pub as_read : (files : ℕ → File) (n : Option ℕ) → IsSome n → IsSome (bytes_of_file_number files n)
@@ -35,7 +35,7 @@ module _ (stage : Staging) (contents : List (List ℕ)) (base : Files) (v : Tree
   read_held q some = staged_held contents 1 base base (λ r has. inl has) q (subst (λ (F : Files). IsSome (F q)) staged.reads (as_read v.files (v.names q) some))
 
   -- behind the last there is place for one more
-  pub next_absent : AreStagingPathsFree base → (k : ℕ) → ((j : ℕ) → 1 ≤ j → j < 1 + length contents → stage_name k ≢ stage_name j) → v.names (stage_name k) ≡ None
+  pub next_absent : HasEmptyStageAndFreeJournalPaths base → (k : ℕ) → ((j : ℕ) → 1 ≤ j → j < 1 + length contents → stage_name k ≢ stage_name j) → v.names (stage_name k) ≡ None
   next_absent room k apart =
       absent_read v.files (v.names (stage_name k)) (ap (λ (F : Files). F (stage_name k)) staged.reads ∙ below contents 1 base (λ j from until. apart j from until) ∙ room.empty (stage_name k) refl)
     where
@@ -43,7 +43,7 @@ module _ (stage : Staging) (contents : List (List ℕ)) (base : Files) (v : Tree
       below [] j F off = refl
       below (c ∷ cs) j F off = below cs (j + 1) (put_name F (stage_name j) c) (λ i from until. off i (omega (arith, from)) (omega (arith, until))) ∙ put_name-off F (stage_name j) c (stage_name k) (off j (omega arith) (omega arith))
 
-  pub can_make : AreStagingPathsFree base → (k : ℕ) → ((j : ℕ) → 1 ≤ j → j < 1 + length contents → stage_name k ≢ stage_name j) → CanCreate (stage_name k) v
+  pub can_make : HasEmptyStageAndFreeJournalPaths base → (k : ℕ) → ((j : ℕ) → 1 ≤ j → j < 1 + length contents → stage_name k ≢ stage_name j) → CanCreate (stage_name k) v
   can_make room k apart = record {
     absent = next_absent room k apart;
     folders = held_like base room.beside (put_name v.names (stage_name k) v.made) (λ q has. at q has (name_cases q (stage_name k)));
@@ -53,7 +53,7 @@ module _ (stage : Staging) (contents : List (List ℕ)) (base : Files) (v : Tree
       at q has (inl is) = inr (inr (k, is))
       at q has (inr off) = read_held q (subst IsSome (put_name-off v.names (stage_name k) v.made q (off_name q (stage_name k) off)) has)
 
-  pub can_begin : (name : List ℕ) → name ≡ stage_name (1 + length contents) → AreStagingPathsFree base → CanCreate name v
+  pub can_begin : (name : List ℕ) → name ≡ stage_name (1 + length contents) → HasEmptyStageAndFreeJournalPaths base → CanCreate name v
   can_begin name is room =
       subst (λ (n : List ℕ). CanCreate n v) (sym is)
       (can_make room (1 + length contents) (λ j from until e. absurd (let same = stage_names_apart (1 + length contents) j few (omega (arith, few, until)) e in omega (arith, until, same))))

@@ -2,7 +2,7 @@
 use Rattle.std.proofs.Common.{◌≡◌, ◌⊎◌, ◌≢◌, inl, inr, ⊎_elim, ℕ, Bool, false, List, [], Option, None, Some, refl, sym, ap, subst, ◌∙◌}
 use Rattle.std.specs.Str.{bytes_eq}
 use Rattle.base_core.specs.Files.{NameMap, drop_name, move_name, put_name}
-use Rattle.base_core.specs.Tree.{TreeState, after_create, after_sync_names, with_name_removed, with_names}
+use Rattle.base_core.specs.Tree.{TreeState, after_create, after_sync_names, with_name_removed, with_newer_name_map}
 use Rattle.base_core.specs.Undone.{IsCrashMap, with_change_replayed}
 use Rattle.base_core.proofs.Undone.{change_here, change_off, change_on, change_whole, left_only, read_may_be_left}
 use Rattle.base_core.proofs.AtName.{name_cases, off_name}
@@ -57,7 +57,7 @@ pub synced_left : (v : TreeState) (m : NameMap) → IsCrashMap (after_sync_names
 synced_left v m is = subst (IsCrashMap v) (sym is) (read_may_be_left v)
 
 -- behind one change there are two maps
-pub one_change : (v : TreeState) (names : NameMap) → v.older ≡ [] → (m : NameMap) → IsCrashMap (with_names v names) m → (m ≡ names) ⊎ (m ≡ v.names)
+pub one_change : (v : TreeState) (names : NameMap) → v.older ≡ [] → (m : NameMap) → IsCrashMap (with_newer_name_map v names) m → (m ≡ names) ⊎ (m ≡ v.names)
 one_change v names none m (inl (kept, left, is)) = inl (is ∙ ap (with_change_replayed v.names names) (left_only v none kept left) ∙ change_whole v.names names)
 one_change v names none m (inr left) = inr (left_only v none m left)
 

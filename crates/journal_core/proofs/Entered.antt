@@ -3,7 +3,7 @@ use Rattle.std.proofs.Common.{◌≡◌, ◌≢◌, ◌⊎◌, ◌||◌, inl, in
 use Rattle.std.specs.List.{list_any}
 use Rattle.std.specs.Str.{bytes_eq}
 use Rattle.base_core.specs.Files.{Files, NameMap, put_name, drop_name, move_name}
-use Rattle.base_core.specs.Tree.{TreeState, File, bytes_of_file_number, files_under_map, files_of, with_names, after_rename, with_file_moved, after_sync_names, unchanged_after_failed_call, IsAlwaysAllowed, CanRename}
+use Rattle.base_core.specs.Tree.{TreeState, File, bytes_of_file_number, files_under_map, files_of, with_newer_name_map, after_rename, with_file_moved, after_sync_names, unchanged_after_failed_call, IsAlwaysAllowed, CanRename}
 use Rattle.base_core.specs.Calls.{HoldsNow, ChangesHistory}
 use Rattle.base_core.specs.Crash.{Since}
 use Rattle.base_core.specs.Undone.{IsDurable, IsCrashImage, IsCrashMap}
@@ -12,7 +12,7 @@ use Rattle.journal_core.specs.Acting.{stage_with_actions_done}
 use Rattle.journal_core.specs.Recovery.{Intent, IsStagedNameOf, StateDependsOn, files_after_actions, intent_name, intent_in_file, intent_of, is_staged, read_intent, recovered_files, files_after_intent, stage_name, state_of, files_after_staged_moves_from, files_without_names}
 use Rattle.journal_core.specs.Kept.{RecoversTo}
 use Rattle.journal_core.specs.Quiet.{StateIsUnchanged}
-use Rattle.journal_core.specs.Staged.{IsCarryingOutActions, HasPublishedIntentForFiles}
+use Rattle.journal_core.specs.Staged.{IsCarryingOutActions, HasIntentPublishedSinceForFiles}
 use Rattle.journal_core.proofs.Agree.{agree-without, agree-unstaged}
 use Rattle.journal_intent.proofs.AtName.{put_name-at, put_name-off, drop_name-at, drop_name-off}
 use Rattle.base_core.proofs.Undone.{read_may_be_left}
@@ -96,7 +96,7 @@ module _ (intent : Intent) (base : Files) (made : ℕ) (v : TreeState) (ready : 
   located = ap intent_of files ∙ has base intent ready.bytes ready.spells proper none
 
   -- all actions are left
-  acting_at : IsReadActing (stage_with_actions_done intent 0) (files_after_actions intent base) (with_names v entered_map)
+  acting_at : IsReadActing (stage_with_actions_done intent 0) (files_after_actions intent base) (with_newer_name_map v entered_map)
   acting_at = record {
     located = located;
     reads = ap recovered_files files ∙ recovered_published base intent ready.bytes ready.spells proper none;
@@ -136,10 +136,10 @@ module _ (intent : Intent) (base : Files) (made : ℕ) (v : TreeState) (ready : 
     synced q n (inr (inl shown)) is = ⊎_elim (λ at. at_intent q n at is) (λ off. shown_synced q n shown off is) (name_cases q intent_name)
     synced q n (inr (inr place)) is = place_synced q n (subst (λ o. IsStagedNameOf o q) located place) is
 
-    durable_at : IsDurable (StateDependsOn ignored) (with_names v entered_map)
+    durable_at : IsDurable (StateDependsOn ignored) (with_newer_name_map v entered_map)
     durable_at = record { each = each }
       where
-        each : (x : NameMap) → IsCrashMap (with_names v entered_map) x → (q : List ℕ) (n : ℕ) → StateDependsOn ignored (files_under_map v x) q → x q ≡ Some n → (v.files n).synced ≡ true
+        each : (x : NameMap) → IsCrashMap (with_newer_name_map v entered_map) x → (q : List ℕ) (n : ℕ) → StateDependsOn ignored (files_under_map v x) q → x q ≡ Some n → (v.files n).synced ≡ true
         each x left q n rests at = ⊎_elim
             (λ new. synced q n (subst (λ (y : NameMap). StateDependsOn ignored (files_under_map v y) q) new rests) (sym (ap (λ (y : NameMap). y q) new) ∙ at))
             (λ old. is_durable.each x (subst (IsCrashMap v) (sym old) (read_may_be_left v)) q n rests at)
@@ -189,19 +189,19 @@ module _ (laws : CrashLaws) (ignored : List ℕ → Bool) (intent : Intent) (bas
     is_durable : IsDurable (StateDependsOn ignored) w
     moment : P w
     state : state_of ignored (files_of w) ≡ state_of ignored G
-    publishes : HasPublishedIntentForFiles ignored G made w
+    publishes : HasIntentPublishedSinceForFiles ignored G made w
 
-  behind_at : (v : TreeState) (b : Before v) → v.older ≡ [] → Behind (with_names v (entered_map intent base made v b.ready))
+  behind_at : (v : TreeState) (b : Before v) → v.older ≡ [] → Behind (with_newer_name_map v (entered_map intent base made v b.ready))
   behind_at v b one =
       let is_durable = durable_at intent base made v b.ready ignored one b.is_unchanged.is_durable in
       let new_state = state_new intent base made v b.ready ignored one b.is_unchanged.is_durable in
       let (n, at, later) = entered_at intent base made v b.ready in
-      let publishes : HasPublishedIntentForFiles ignored G made (with_names v (entered_map intent base made v b.ready)) = (n, at, later, new_state) in
+      let publishes : HasIntentPublishedSinceForFiles ignored G made (with_newer_name_map v (entered_map intent base made v b.ready)) = (n, at, later, new_state) in
       record {
         is_durable = is_durable;
         moment = record {
           is_durable = is_durable;
-          old_or_new = old_or_new_by_maps laws ignored start G (with_names v (entered_map intent base made v b.ready)) is_durable (states new_state);
+          old_or_new = old_or_new_by_maps laws ignored start G (with_newer_name_map v (entered_map intent base made v b.ready)) is_durable (states new_state);
           unpublished = λ unled. absurd (unled publishes);
           made = b.is_unchanged.made;
         };
@@ -209,7 +209,7 @@ module _ (laws : CrashLaws) (ignored : List ℕ → Bool) (intent : Intent) (bas
         publishes = publishes;
       }
     where
-      states : state_of ignored (files_under_map v (entered_map intent base made v b.ready)) ≡ state_of ignored G → (x : NameMap) → IsCrashMap (with_names v (entered_map intent base made v b.ready)) x
+      states : state_of ignored (files_under_map v (entered_map intent base made v b.ready)) ≡ state_of ignored G → (x : NameMap) → IsCrashMap (with_newer_name_map v (entered_map intent base made v b.ready)) x
           → ((was : Files) × IsCrashImage start was × (state_of ignored (files_under_map v x) ≡ state_of ignored was)) ⊎ (state_of ignored (files_under_map v x) ≡ state_of ignored G)
       states is x left = ⊎_elim
           (λ new. inr (ap (λ (y : NameMap). state_of ignored (files_under_map v y)) new ∙ is))

@@ -10,7 +10,7 @@ use Rattle.base_core.specs.Undone.{IsDurable}
 use Rattle.journal_core.specs.Kept.{IsRestoredByNoCrash, KeepsFilesExcept}
 use Rattle.journal_core.specs.Recovery.{Intent, StateDependsOn, intent_name, stage_name}
 use Rattle.journal_core.specs.Quiet.{StateIsUnchanged}
-use Rattle.journal_core.specs.Staged.{Staging, HasStagedContents, AreStagingPathsFree}
+use Rattle.journal_core.specs.Staged.{Staging, HasStagedContents, HasEmptyStageAndFreeJournalPaths}
 use Rattle.journal_core.specs.Acting.{IsNextStagedName}
 use Rattle.journal_core.proofs.Acts.{still_on, sync_still}
 use Rattle.journal_core.proofs.Chain.{by_now, now_both}
@@ -48,7 +48,7 @@ module _ (laws : CrashLaws) {T E : Type 0} (old new : History) (name : List ℕ)
         one_called old new v rest is (StateIsUnchanged ignored v) r moves is_unchanged (λ may. is_unchanged))
 
   pub begin_proper : (before now : Counts) → IsCounted (CanCreate name) old before now r
-      → IfObservable old (λ v. (contents : List (List ℕ)) (base : Files) → HasStagedContents stage contents None base v → AreStagingPathsFree base → now.misuses ≡ before.misuses)
+      → IfObservable old (λ v. (contents : List (List ℕ)) (base : Files) → HasStagedContents stage contents None base v → HasEmptyStageAndFreeJournalPaths base → now.misuses ≡ before.misuses)
   begin_proper before now counted = on_observable old _ (λ v rest is contents base staged room.
       one_proper old v rest is before now r counted (can_begin stage contents base v (few_is name stage next contents staged.count) staged name (name_is name stage next contents staged.count) room))
 
@@ -160,8 +160,8 @@ module _ (stage : Staging) (old mid new : History) where
       by_now mid (IsToBegin stage contents base) (HoldsNow new (HasStagedContents now contents (Some []) base)) (t contents base staged)
       (observable_map mid _ (λ u. IsToBegin stage contents base u → HoldsNow new (HasStagedContents now contents (Some []) base)) then (λ u f. f contents base)))
 
-  pub both_proper : (a b c : ℕ) → IfObservable old (λ v. b ≡ a) → IsBegunLater stage old mid → IfObservable mid (λ u. (contents : List (List ℕ)) (base : Files) → HasStagedContents stage contents None base u → AreStagingPathsFree base → c ≡ b)
-      → IfObservable old (λ v. (contents : List (List ℕ)) (base : Files) → HasStagedContents stage contents None base v → AreStagingPathsFree base → c ≡ a)
+  pub both_proper : (a b c : ℕ) → IfObservable old (λ v. b ≡ a) → IsBegunLater stage old mid → IfObservable mid (λ u. (contents : List (List ℕ)) (base : Files) → HasStagedContents stage contents None base u → HasEmptyStageAndFreeJournalPaths base → c ≡ b)
+      → IfObservable old (λ v. (contents : List (List ℕ)) (base : Files) → HasStagedContents stage contents None base v → HasEmptyStageAndFreeJournalPaths base → c ≡ a)
   both_proper a b c first ready then = on_observable old _ (λ v rest is contents base staged room.
       by_now mid (IsToBegin stage contents base) (c ≡ b)
       (observable_at old v rest is (λ u. (cs : List (List ℕ)) (F : Files) → HasStagedContents stage cs None F u → HoldsNow mid (IsToBegin stage cs F)) ready contents base staged)
@@ -175,5 +175,5 @@ pub first_only : (stage : Staging) (old mid : History) → IfObservable old (λ 
     → IfObservable old (λ v. (ignored : List ℕ → Bool) (contents : List (List ℕ)) (base : Files) → IsDurable (StateDependsOn ignored) v → HasStagedContents stage contents None base v → Since (StateIsUnchanged ignored v) old mid)
 first_only stage old mid told = observable_map old _ _ told (λ v t ignored contents base is_durable staged. t ignored is_durable)
 
-pub first_only_proper : (stage : Staging) (old : History) (a b : ℕ) → IfObservable old (λ v. b ≡ a) → IfObservable old (λ v. (contents : List (List ℕ)) (base : Files) → HasStagedContents stage contents None base v → AreStagingPathsFree base → b ≡ a)
+pub first_only_proper : (stage : Staging) (old : History) (a b : ℕ) → IfObservable old (λ v. b ≡ a) → IfObservable old (λ v. (contents : List (List ℕ)) (base : Files) → HasStagedContents stage contents None base v → HasEmptyStageAndFreeJournalPaths base → b ≡ a)
 first_only_proper stage old a b told = observable_map old _ _ told (λ v same contents base staged room. same)

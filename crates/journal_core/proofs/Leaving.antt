@@ -152,25 +152,25 @@ waiting_none old new same = on_observable old _ (λ v rest is. no_more (JournalO
 
 -- ---- the names last
 
-abbrev pub NamesAreDurableWithoutIntent : TreeState → Type 0
-NamesAreDurableWithoutIntent w = w.names intent_name ≡ None → NamesOutsideJournalAreDurable w
+abbrev pub NamesOutsideJournalAreDurableIfNoIntent : TreeState → Type 0
+NamesOutsideJournalAreDurableIfNoIntent w = w.names intent_name ≡ None → NamesOutsideJournalAreDurable w
 
 abbrev pub Lasts : History → History → Type 0
-Lasts old new = IfObservable old (λ v. IsSome (v.names intent_name) → Since NamesAreDurableWithoutIntent old new)
+Lasts old new = IfObservable old (λ v. IsSome (v.names intent_name) → Since NamesOutsideJournalAreDurableIfNoIntent old new)
 
-kept_lasts : (v w : TreeState) → IsSome (v.names intent_name) → KeepsIntentWhileStageShrinks v w → NamesAreDurableWithoutIntent w
+kept_lasts : (v w : TreeState) → IsSome (v.names intent_name) → KeepsIntentWhileStageShrinks v w → NamesOutsideJournalAreDurableIfNoIntent w
 kept_lasts v w some keeps none = absurd (some_none (v.names intent_name) (sym keeps.intent ∙ none) some)
 
 pub act_lasts : (old new : History) → IfObservable old (λ v. Since (KeepsIntentWhileStageShrinks v) old new) → Lasts old new
-act_lasts old new told = observable_map old _ _ told (λ v t some. since_weaker (KeepsIntentWhileStageShrinks v) NamesAreDurableWithoutIntent old new (λ w k. kept_lasts v w some k) t)
+act_lasts old new told = observable_map old _ _ told (λ v t some. since_weaker (KeepsIntentWhileStageShrinks v) NamesOutsideJournalAreDurableIfNoIntent old new (λ w k. kept_lasts v w some k) t)
 
 pub end_lasts : (old mid new : History) → IfObservable old (λ v. Since (KeepsIntentWhileStageShrinks v) old mid) → IfObservable mid (λ u. IsSome (u.names intent_name) → Since (λ w. w.names intent_name ≡ None → NamesAreDurableExcept (intent_name ∷ []) w) mid new) → Lasts old new
 end_lasts old mid new told last = on_observable old _ (λ v rest is some.
     let since = observable_at old v rest is (λ u. Since (KeepsIntentWhileStageShrinks u) old mid) told in
-    since_on NamesAreDurableWithoutIntent old mid new (since_weaker (KeepsIntentWhileStageShrinks v) NamesAreDurableWithoutIntent old mid (λ w k. kept_lasts v w some k) since)
-    (by_now mid (KeepsIntentWhileStageShrinks v) (Since NamesAreDurableWithoutIntent mid new) (now_since (KeepsIntentWhileStageShrinks v) old mid v rest is (keeps_same v) since)
-    (observable_map mid _ (λ u. KeepsIntentWhileStageShrinks v u → Since NamesAreDurableWithoutIntent mid new) last (λ u t k.
-    since_weaker (λ w. w.names intent_name ≡ None → NamesAreDurableExcept (intent_name ∷ []) w) NamesAreDurableWithoutIntent mid new (λ w p none map among q off unstaged. p none map among q (none_of q off)) (t (subst IsSome (sym k.intent) some))))))
+    since_on NamesOutsideJournalAreDurableIfNoIntent old mid new (since_weaker (KeepsIntentWhileStageShrinks v) NamesOutsideJournalAreDurableIfNoIntent old mid (λ w k. kept_lasts v w some k) since)
+    (by_now mid (KeepsIntentWhileStageShrinks v) (Since NamesOutsideJournalAreDurableIfNoIntent mid new) (now_since (KeepsIntentWhileStageShrinks v) old mid v rest is (keeps_same v) since)
+    (observable_map mid _ (λ u. KeepsIntentWhileStageShrinks v u → Since NamesOutsideJournalAreDurableIfNoIntent mid new) last (λ u t k.
+    since_weaker (λ w. w.names intent_name ≡ None → NamesAreDurableExcept (intent_name ∷ []) w) NamesOutsideJournalAreDurableIfNoIntent mid new (λ w p none map among q off unstaged. p none map among q (none_of q off)) (t (subst IsSome (sym k.intent) some))))))
   where
     none_of : (q : List ℕ) → q ≢ intent_name → list_any (bytes_eq q) (intent_name ∷ []) ≡ false
     none_of q off = ap (λ b. b || false) (other_name q intent_name off)
@@ -179,7 +179,7 @@ pub lasts_back : (old mid new : History) → mid ≡ old → Lasts mid new → L
 lasts_back old mid new same told = subst (λ (l : History). Lasts l new) same told
 
 pub lasts_none : (old new : History) → new ≡ old → Lasts old new
-lasts_none old new same = on_observable old _ (λ v rest is some. no_more NamesAreDurableWithoutIntent old old new (none_since NamesAreDurableWithoutIntent old) same)
+lasts_none old new same = on_observable old _ (λ v rest is some. no_more NamesOutsideJournalAreDurableIfNoIntent old old new (none_since NamesOutsideJournalAreDurableIfNoIntent old) same)
 
 -- what waits is taken away behind it
 shown_removed_at : (name : List ℕ) → is_staged name ≡ true → (v : TreeState) (o : Option ℕ) → NamesOutsideJournalAreDurable v → NamesOutsideJournalAreDurable (with_name_removed name v o)
@@ -220,14 +220,14 @@ empty_lasts_none old new same = on_observable old _ (λ v rest is last. no_more 
 -- both
 pub all_lasts : (old mid new : History) → Lasts old mid → IfObservable old (λ v. HoldsNow mid (IsIntentReplayed v)) → EmptyLasts mid new → Lasts old new
 all_lasts old mid new lasts replayed empties = on_observable old _ (λ v rest is some.
-    let since = observable_at old v rest is (λ u. IsSome (u.names intent_name) → Since NamesAreDurableWithoutIntent old mid) lasts some in
-    let here = now_since NamesAreDurableWithoutIntent old mid v rest is (λ none. absurd (some_none (v.names intent_name) none some)) since in
-    since_on NamesAreDurableWithoutIntent old mid new since
-    (by_now mid (IsIntentReplayed v) (Since NamesAreDurableWithoutIntent mid new) (observable_at old v rest is (λ u. HoldsNow mid (IsIntentReplayed u)) replayed)
+    let since = observable_at old v rest is (λ u. IsSome (u.names intent_name) → Since NamesOutsideJournalAreDurableIfNoIntent old mid) lasts some in
+    let here = now_since NamesOutsideJournalAreDurableIfNoIntent old mid v rest is (λ none. absurd (some_none (v.names intent_name) none some)) since in
+    since_on NamesOutsideJournalAreDurableIfNoIntent old mid new since
+    (by_now mid (IsIntentReplayed v) (Since NamesOutsideJournalAreDurableIfNoIntent mid new) (observable_at old v rest is (λ u. HoldsNow mid (IsIntentReplayed u)) replayed)
     (then v mid refl here)))
   where
-    then : (v : TreeState) (m : History) → m ≡ mid → HoldsNow m NamesAreDurableWithoutIntent → IfObservable m (λ u. IsIntentReplayed v u → Since NamesAreDurableWithoutIntent mid new)
+    then : (v : TreeState) (m : History) → m ≡ mid → HoldsNow m NamesOutsideJournalAreDurableIfNoIntent → IfObservable m (λ u. IsIntentReplayed v u → Since NamesOutsideJournalAreDurableIfNoIntent mid new)
     then v [] is here = absurd here
     then v (u ∷ m) is here = λ replay.
-        since_weaker NamesOutsideJournalAreDurable NamesAreDurableWithoutIntent mid new (λ w k none. k)
+        since_weaker NamesOutsideJournalAreDurable NamesOutsideJournalAreDurableIfNoIntent mid new (λ w k none. k)
         (observable_at mid u m (sym is) (λ w. NamesOutsideJournalAreDurable w → Since NamesOutsideJournalAreDurable mid new) empties (here replay.absent))

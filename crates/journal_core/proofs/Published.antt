@@ -17,7 +17,7 @@ use Rattle.journal_core.specs.Recovery.{Intent, EachCrashLeavesStateOf, StateDep
 use Rattle.journal_core.specs.Kept.{RecoversTo}
 use Rattle.journal_core.specs.Quiet.{StateIsUnchanged}
 use Rattle.journal_intent.specs.FreeNames.{HasFreeDistinctNames}
-use Rattle.journal_core.specs.Staged.{Staging, HasMomentOfPublishedIntentForFiles, AreStagingPathsFree, IsCarryingOutActions, IsPresentOrOfJournal, IsOldUntilCommit, HasStagedContents, IsHistoryThatCommitsFiles, HasPublishedIntentForFiles}
+use Rattle.journal_core.specs.Staged.{Staging, HasMomentOfIntentPublishedSinceForFiles, HasEmptyStageAndFreeJournalPaths, IsCarryingOutActions, IsPresentOrOfJournal, IsOldUntilCommit, HasStagedContents, IsHistoryThatCommitsFiles, HasIntentPublishedSinceForFiles}
 use Rattle.journal_core.proofs.Again.{acting_as}
 use Rattle.journal_intent.proofs.AtName.{put_name-off, drop_name-off}
 use Rattle.journal_core.proofs.Beside.{can_make, held_like, read_held}
@@ -146,10 +146,10 @@ module _ (stage : Staging) (contents : List (List ℕ)) (base : Files) (v : Tree
           by (Ok x) now = now_map new (HasCommittedIntent ignored G v.made) (EachCrashLeavesStateOf ignored G) now (λ w e. e.settled)
           by (Err e) now = tt
 
-      unled : HasPublishedIntentForFiles ignored G v.made v → ⊥
+      unled : HasIntentPublishedSinceForFiles ignored G v.made v → ⊥
       unled (n, at, from, same) = let none = absent_read v.files (v.names intent_name) none_read in absurd (cc (none, at))
 
-      led : (added : History) → HoldsNow (added ++ v ∷ rest) (HasCommittedIntent ignored G v.made) → HasMomentOfPublishedIntentForFiles ignored G v.made added
+      led : (added : History) → HoldsNow (added ++ v ∷ rest) (HasCommittedIntent ignored G v.made) → HasMomentOfIntentPublishedSinceForFiles ignored G v.made added
       led [] now = absurd (unled now.publishes)
       led (w ∷ added) now = inl now.publishes
 
@@ -200,7 +200,7 @@ module _ (stage : Staging) (contents : List (List ℕ)) (base : Files) (v : Tree
         (observable_map mid _ (λ u. IsReadyToPublish stage.intent (files_of v) v.made u → Since R mid new) reads (λ u t ready. t stage.intent (files_of v) v.made ready)))
 
     -- ---- no misuse
-    module _ (room : AreStagingPathsFree base) where
+    module _ (room : HasEmptyStageAndFreeJournalPaths base) where
       pub write_may : CanCreate place v
       write_may = subst (λ (n : List ℕ). CanCreate n v) (sym place_is)
           (can_make stage contents base v (let count = staged.count in omega (arith, count, all, few)) staged room 0

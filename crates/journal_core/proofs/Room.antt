@@ -6,7 +6,7 @@ use Rattle.base_core.specs.Files.{Files, put_name, drop_name}
 use Rattle.base_core.specs.Tree.{TreeState, files_of, CanRename}
 use Rattle.base_core.proofs.AtName.{name_cases, off_name}
 use Rattle.journal_core.specs.Recovery.{Intent, intent_name, intent_in_file, intent_of, move_if_present, recovered_files, files_after_intent, stage_name, files_after_staged_moves_from, files_without_names}
-use Rattle.journal_core.specs.Staged.{Staging, IsCarryingOutActions, IsPresentOrOfJournal, AreJournalPathsFree}
+use Rattle.journal_core.specs.Staged.{Staging, IsCarryingOutActions, IsPresentOrOfJournal, AreIntentAndStagedPathsFree}
 use Rattle.journal_intent.proofs.AtName.{put_name-at, put_name-off, drop_name-off}
 use Rattle.journal_intent.proofs.StageNames.{stage_name_no_intent}
 use Rattle.journal_core.proofs.Beside.{held_like, as_read}
@@ -48,7 +48,7 @@ recovered_held F intent q has out some = ⊎_elim
 
 module _ (stage : Staging) (files : Files) (v : TreeState) (place name : List ℕ) (j k : ℕ) (acting : IsCarryingOutActions stage files v) (proper : IsProper stage.intent)
     (place_is : place ≡ stage_name k) (number : k ≡ j + 1) (at : slice_get stage.intent.writes j ≡ Some name) (within : j < length stage.intent.writes)
-    (behind : stage.acted ≡ length stage.intent.removals + j) (room : AreJournalPathsFree files) (there : IsSome (v.names place)) where
+    (behind : stage.acted ≡ length stage.intent.removals + j) (room : AreIntentAndStagedPathsFree files) (there : IsSome (v.names place)) where
   open_name : IsFreeName name
   open_name = free_at stage.intent.writes j name proper.writes at
 

@@ -9,7 +9,7 @@ use Rattle.base_core.specs.Undone.{IsDurable}
 use Rattle.journal_core.specs.Recovery.{StateDependsOn}
 use Rattle.journal_core.specs.Kept.{RecoversTo}
 use Rattle.journal_core.specs.Quiet.{StateIsUnchanged}
-use Rattle.journal_core.specs.Staged.{Staging, AreJournalPathsFree, IsCarryingOutActions, action_count}
+use Rattle.journal_core.specs.Staged.{Staging, AreIntentAndStagedPathsFree, IsCarryingOutActions, action_count}
 use Rattle.journal_core.specs.Acting.{IsDuringActions}
 use Rattle.journal_core.proofs.Acts.{still_on}
 use Rattle.journal_core.proofs.Chain.{Runs, by_now, now_both, run_begun}
@@ -24,7 +24,7 @@ abbrev pub ActsOn : Staging → Staging → History → History → Type 0
 ActsOn first now old h = IfObservable old (λ v. (files : Files) → IsCarryingOutActions first files v → HoldsNow h (IsCarryingOutActions now files))
 
 abbrev pub Proper : Staging → History → ℕ → ℕ → Type 0
-Proper first old a b = IfObservable old (λ v. (files : Files) → IsCarryingOutActions first files v → AreJournalPathsFree files → b ≡ a)
+Proper first old a b = IfObservable old (λ v. (files : Files) → IsCarryingOutActions first files v → AreIntentAndStagedPathsFree files → b ≡ a)
 
 pub rowed_start : (s : Staging) (old : History) → Rowed s s old old
 rowed_start s old = on_observable old _ (λ v rest is ignored files is_durable acting. run_begun (StateIsUnchanged ignored v) (IsDuringActions ignored files s v) old v rest is (record { is_unchanged = still_self ignored v is_durable; acting = acting }))
@@ -79,10 +79,10 @@ reads_called first now old h new acts reads more = on_observable old _ (λ v res
 
 -- the misuses so far
 module _ (first now : Staging) (old h : History) (a b c : ℕ) where
-  pub proper_done : ActsOn first now old h → Proper first old a b → IfObservable h (λ u. (files : Files) → IsCarryingOutActions now files u → AreJournalPathsFree files → c ≡ b) → Proper first old a c
+  pub proper_done : ActsOn first now old h → Proper first old a b → IfObservable h (λ u. (files : Files) → IsCarryingOutActions now files u → AreIntentAndStagedPathsFree files → c ≡ b) → Proper first old a c
   proper_done acts so_far more = on_observable old _ (λ v rest is files at room.
       by_now h (IsCarryingOutActions now files) (c ≡ b) (observable_at old v rest is (λ u. (F : Files) → IsCarryingOutActions first F u → HoldsNow h (IsCarryingOutActions now F)) acts files at) (observable_map h _ (λ u. IsCarryingOutActions now files u → c ≡ b) more (λ u t acting. t files acting room))
-      ∙ observable_at old v rest is (λ u. (F : Files) → IsCarryingOutActions first F u → AreJournalPathsFree F → b ≡ a) so_far files at room)
+      ∙ observable_at old v rest is (λ u. (F : Files) → IsCarryingOutActions first F u → AreIntentAndStagedPathsFree F → b ≡ a) so_far files at room)
 
 pub rowed_ends : (first now : Staging) (old h : History) → Rowed first now old h → IfObservable old (λ v. (ignored : List ℕ → Bool) (files : Files) → IsDurable (StateDependsOn ignored) v → IsCarryingOutActions first files v → Since (StateIsUnchanged ignored v) old h)
 rowed_ends first now old h rowed = observable_map old _ _ rowed (λ v r ignored files is_durable acting. (r ignored files is_durable acting).since)

@@ -6,23 +6,23 @@ use Rattle.base_core.specs.Tree.{TreeState, files_of}
 use Rattle.base_core.proofs.AtName.{name_cases, off_name}
 use Rattle.journal_core.specs.Recovery.{intent_name, state_of}
 use Rattle.journal_core.specs.Replacing.{CanAddOutputNames, scratch_name_of}
-use Rattle.journal_core.specs.Staged.{HasMomentOfPublishedIntentForFiles, AreStagingPathsFree, IsPresentOrOfJournal}
+use Rattle.journal_core.specs.Staged.{HasMomentOfIntentPublishedSinceForFiles, HasEmptyStageAndFreeJournalPaths, IsPresentOrOfJournal}
 use Rattle.journal_intent.proofs.AtName.{put_name-off}
-use Rattle.journal_intent.specs.FreeNames.{IsUsedByJournal}
+use Rattle.journal_intent.specs.FreeNames.{IsIntentNameOrNumberedStageName}
 
 pub now_published : (ignored : List ℕ → Bool) (files : Files) (made n : ℕ) (v : TreeState) (earlier : List TreeState) → v.names intent_name ≡ Some n → made ≤ n → state_of ignored (files_of v) ≡ state_of ignored files
-    → HasMomentOfPublishedIntentForFiles ignored files made (v ∷ earlier)
+    → HasMomentOfIntentPublishedSinceForFiles ignored files made (v ∷ earlier)
 now_published ignored files made n v earlier there late same = inl (n, there, late, same)
 
-pub none_published : (ignored : List ℕ → Bool) (files : Files) (made : ℕ) (v : TreeState) → v.names intent_name ≡ None → HasMomentOfPublishedIntentForFiles ignored files made (v ∷ []) → ⊥
+pub none_published : (ignored : List ℕ → Bool) (files : Files) (made : ℕ) (v : TreeState) → v.names intent_name ≡ None → HasMomentOfIntentPublishedSinceForFiles ignored files made (v ∷ []) → ⊥
 none_published ignored files made v none (inl published) = let there = published.1 in cc (none, there)
 none_published ignored files made v none (inr published) = published
 
-taken : (q : List ℕ) → IsPresentOrOfJournal no_names q → IsUsedByJournal q
+taken : (q : List ℕ) → IsPresentOrOfJournal no_names q → IsIntentNameOrNumberedStageName q
 taken q (inl some) = absurd (cc (some))
 taken q (inr either) = either
 
-pub room_to_stage : ((p q : List ℕ) → IsUsedByJournal p → IsUsedByJournal q → IsFolderOf p q → ⊥) → AreStagingPathsFree no_names
+pub room_to_stage : ((p q : List ℕ) → IsIntentNameOrNumberedStageName p → IsIntentNameOrNumberedStageName q → IsFolderOf p q → ⊥) → HasEmptyStageAndFreeJournalPaths no_names
 room_to_stage apart = record {
   empty = λ q waits. refl;
   beside = record { folders = λ p q folder has_p has_q. apart p q (taken p has_p) (taken q has_q) folder };

@@ -13,7 +13,7 @@ use Rattle.journal_core.specs.Kept.{KeepsCrashMapsExcept, KeepsFilesExcept, Name
 use Rattle.journal_core.specs.Recovery.{Intent, EachCrashLeavesOldOrNew, EachCrashLeavesStateOf, StateDependsOn, files_after_actions, intent_name, read_intent, stage_name}
 use Rattle.journal_intent.specs.FreeNames.{HasFreeDistinctNames}
 use Rattle.journal_core.specs.Quiet.{EachCrashLeavesOld}
-use Rattle.journal_core.specs.Staged.{Staging, IsHistoryThatCommitsFiles, HasPublishedIntentForFiles, IsOldUntilCommit, HasStagedContents}
+use Rattle.journal_core.specs.Staged.{Staging, IsHistoryThatCommitsFiles, HasIntentPublishedSinceForFiles, IsOldUntilCommit, HasStagedContents}
 
 -- the tree `v` differs from `start` only by a file under the name `place`, which was absent in `start`; the file was
 -- made since
@@ -73,7 +73,7 @@ pub record IsCommitting (ignored : List ℕ → Bool) (files : Files) (number : 
   pub old_or_new : EachCrashLeavesOldOrNew ignored start files v
   -- if no intent made since is under its name and leads to `files`, each crash leaves a state that a crash at the
   -- start might have left
-  pub unpublished : (HasPublishedIntentForFiles ignored files number v → ⊥)
+  pub unpublished : (HasIntentPublishedSinceForFiles ignored files number v → ⊥)
       → EachCrashLeavesOld ignored start v
   -- no fewer files have been made than at the start
   pub made : start.made ≤ v.made
@@ -85,7 +85,7 @@ pub record HasCommittedIntent (ignored : List ℕ → Bool) (files : Files) (mad
   -- each crash leaves the state of these files
   pub settled : EachCrashLeavesStateOf ignored files v
   -- the intent is under its name, in a file made after the first `made` files
-  pub publishes : HasPublishedIntentForFiles ignored files made v
+  pub publishes : HasIntentPublishedSinceForFiles ignored files made v
 
 -- in a run from the history `old` to `now`, only the intent's name, and that of the staged file 0, have changed
 pub record ChangesOnlyIntentNames (old now : List TreeState) : Type 0 where

@@ -4,14 +4,14 @@
 use Rattle.std.specs.Prelude.{◌≡◌, ◌≢◌, ◌⊎◌, ℕ, List}
 use Rattle.base_core.specs.Files.{Files}
 use Rattle.base_core.specs.Tree.{TreeState, files_of}
-use Rattle.journal_core.specs.Replacing.{files_after_replacement_through_scratch, scratch_name_of}
+use Rattle.journal_core.specs.Replacing.{files_after_scratch_replaces_name, scratch_name_of}
 
 -- the files `now` are the files `old`, apart from the scratch name; or they are those with these bytes under the
 -- name and no file under the scratch name
 abbrev pub IsOldOrReplaced : List ℕ → List ℕ → List ℕ → Files → Files → Type 0
 IsOldOrReplaced scratch name bytes old now =
     ((q : List ℕ) → q ≢ scratch → now q ≡ old q)
-    ⊎ (now ≡ files_after_replacement_through_scratch scratch name bytes old)
+    ⊎ (now ≡ files_after_scratch_replaces_name scratch name bytes old)
 
 -- the files as read are the files `old`, apart from the scratch name of this name; or they are those after the
 -- replacement, with these bytes under the name

@@ -156,8 +156,8 @@ HasNoStagedNames files = (q : List ℕ) → is_staged q ≡ true → files q ≡
 
 -- The intent's name has a file whose number is `made` or larger, so it was made after the first `made` files of the
 -- tree. Recovery of the files as read yields the state of `files`.
-abbrev pub HasPublishedIntentForFiles : (List ℕ → Bool) → Files → ℕ → TreeState → Type 0
-HasPublishedIntentForFiles ignored files made v =
+abbrev pub HasIntentPublishedSinceForFiles : (List ℕ → Bool) → Files → ℕ → TreeState → Type 0
+HasIntentPublishedSinceForFiles ignored files made v =
     (n : ℕ)
     × (v.names intent_name ≡ Some n)
     × (made ≤ n)
@@ -165,11 +165,11 @@ HasPublishedIntentForFiles ignored files made v =
 
 -- at one of these moments, the intent's name had a file made after the first `made` files of the tree, and recovery
 -- of the files as read would have yielded the state of `files`
-abbrev pub HasMomentOfPublishedIntentForFiles : (List ℕ → Bool) → Files → ℕ → List TreeState → Type 0
-HasMomentOfPublishedIntentForFiles ignored files made [] = ⊥
-HasMomentOfPublishedIntentForFiles ignored files made (v ∷ earlier) =
-    HasPublishedIntentForFiles ignored files made v
-    ⊎ HasMomentOfPublishedIntentForFiles ignored files made earlier
+abbrev pub HasMomentOfIntentPublishedSinceForFiles : (List ℕ → Bool) → Files → ℕ → List TreeState → Type 0
+HasMomentOfIntentPublishedSinceForFiles ignored files made [] = ⊥
+HasMomentOfIntentPublishedSinceForFiles ignored files made (v ∷ earlier) =
+    HasIntentPublishedSinceForFiles ignored files made v
+    ⊎ HasMomentOfIntentPublishedSinceForFiles ignored files made earlier
 
 -- A moment `v` of a run that leads to `files`; `earlier` are the moments of the run before it. A crash at `v` leaves
 -- a state that a crash at `start` might have left, or the state of `files`. Until an intent of this run has been
@@ -182,7 +182,7 @@ pub record IsOldUntilCommit (ignored : List ℕ → Bool) (files : Files) (start
   pub old_or_new : EachCrashLeavesOldOrNew ignored start files v
   -- if no intent of this run that leads to `files` has been under its name, each crash leaves a state that a crash at
   -- the start might have left
-  pub unpublished : (HasMomentOfPublishedIntentForFiles ignored files start.made (v ∷ earlier) → ⊥)
+  pub unpublished : (HasMomentOfIntentPublishedSinceForFiles ignored files start.made (v ∷ earlier) → ⊥)
       → EachCrashLeavesOld ignored start v
   -- no fewer files have been made than at the start
   pub made : start.made ≤ v.made
@@ -198,7 +198,7 @@ pub record IsHistoryThatCommitsFiles (ignored : List ℕ → Bool) (files : File
   -- at each of them a crash leaves an old state or that of `files`, and before the commit an old one
   pub each : EachMoment (IsOldUntilCommit ignored files start) added
   -- at one of them an intent made since the start led to `files`
-  pub published : HasMomentOfPublishedIntentForFiles ignored files start.made added
+  pub published : HasMomentOfIntentPublishedSinceForFiles ignored files start.made added
 
 -- ---- free paths
 
@@ -208,19 +208,20 @@ IsPresentOrOfJournal files q =
     IsSome (files q) ⊎ ((q ≡ intent_name) ⊎ ((k : ℕ) × (q ≡ stage_name k)))
 
 -- no name becomes a folder of another if an intent, and staged files with any numbers, are added to these files
-pub record AreJournalPathsFree (files : Files) : Type 0 where
+pub record AreIntentAndStagedPathsFree (files : Files) : Type 0 where
   -- of two names that are present or belong to the journal, none is a folder of the other
   pub folders : (p q : List ℕ) → IsFolderOf p q → IsPresentOrOfJournal files p
       → IsPresentOrOfJournal files q → ⊥
 
 -- these files have no staged file, and no name becomes a folder of another if an intent and staged files are added
-pub record AreStagingPathsFree (files : Files) : Type 0 where
+pub record HasEmptyStageAndFreeJournalPaths (files : Files) : Type 0 where
   -- no name in the staging area has a file
   pub empty : HasNoStagedNames files
   -- no name becomes a folder of another if an intent and staged files are added
-  pub beside : AreJournalPathsFree files
+  pub beside : AreIntentAndStagedPathsFree files
 
 -- if these files have an intent, no name becomes a folder of another if an intent and staged files are added to the
 -- files that recovery yields
-abbrev pub AreReplayPathsFree : Files → Type 0
-AreReplayPathsFree files = IsSome (intent_of files) → AreJournalPathsFree (recovered_files files)
+abbrev pub AreJournalPathsFreeIfIntentIsReplayed : Files → Type 0
+AreJournalPathsFreeIfIntentIsReplayed files =
+    IsSome (intent_of files) → AreIntentAndStagedPathsFree (recovered_files files)

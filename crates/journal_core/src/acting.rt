@@ -10,7 +10,7 @@ ghost use Rattle.base_core.specs.Tree.{CanRename};
 ghost use Rattle.journal_core.specs.Acting.{CarriesOutActions, MovesIfPresent, stage_with_actions_done};
 ghost use Rattle.journal_core.specs.CallCounts.{IsResultExplainedByCounts};
 ghost use Rattle.journal_core.specs.Kept.{IsNameOfNextAction, KeepsFilesExcept, KeepsIntentWhileStageShrinks};
-ghost use Rattle.journal_core.specs.Staged.{AreJournalPathsFree, IsCarryingOutActions, action_count};
+ghost use Rattle.journal_core.specs.Staged.{AreIntentAndStagedPathsFree, IsCarryingOutActions, action_count};
 
 use crate::calls::{remove, rename};
 use base_core::{Disk, Name, Tree};
@@ -51,7 +51,7 @@ pub(crate) fn act<T: Tree>(
     // `files`, which recovery yields.
     ensures proper { IfObservable (T.history tree.old) (λ v. (files : Files)
         → IsCarryingOutActions (stage_with_actions_done intent.now acted) files v
-        → AreJournalPathsFree files
+        → AreIntentAndStagedPathsFree files
         → (T.counts tree.new).misuses ≡ (T.counts tree.old).misuses) }
 {
     // A law that the proof needs; it computes nothing.
@@ -136,7 +136,7 @@ fn move_one<T: Tree>(
     // `files`, which recovery yields.
     ensures proper { IfObservable (T.history tree.old) (λ v. (files : Files)
         → IsCarryingOutActions (stage_with_actions_done intent.now acted) files v
-        → AreJournalPathsFree files
+        → AreIntentAndStagedPathsFree files
         → (T.counts tree.new).misuses ≡ (T.counts tree.old).misuses) }
 {
     // A law that the proof needs; it computes nothing. The staged files are numbered from 1.

@@ -15,7 +15,7 @@ ghost use Rattle.journal_core.specs.Filling.{synced_file};
 ghost use Rattle.journal_core.specs.Kept.{KeepsFilesExcept, KeepsCrashMapsExcept, RecoversTo};
 ghost use Rattle.journal_core.specs.Quiet.{StateIsUnchanged};
 ghost use Rattle.journal_core.specs.Recovery.{Intent, StateDependsOn, files_after_actions, intent_name, stage_name};
-ghost use Rattle.journal_core.specs.Staged.{AreStagingPathsFree, IsCarryingOutActions, HasStagedContents};
+ghost use Rattle.journal_core.specs.Staged.{HasEmptyStageAndFreeJournalPaths, IsCarryingOutActions, HasStagedContents};
 
 use crate::calls::{append, create, rename, sync_all_names, sync_file};
 use base_core::{Disk, Name, Tree};
@@ -41,7 +41,8 @@ pub(crate) fn publish_intent<T: Tree>(tree: &mut T, intent: &PreparedIntent) -> 
     // the intent and of the staged files were free.
     ensures proper { IfObservable (T.history tree.old) (λ v. (contents : List (List ℕ))
         (base : Files) → HasStagedContents (fully_staged_stage intent.now) contents None base v
-        → AreStagingPathsFree base → (T.counts tree.new).misuses ≡ (T.counts tree.old).misuses) }
+        → HasEmptyStageAndFreeJournalPaths base → (T.counts tree.new).misuses
+        ≡ (T.counts tree.old).misuses) }
 {
     // A law that the proof needs; it computes nothing.
     intent.names_are_free();

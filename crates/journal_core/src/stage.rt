@@ -17,7 +17,7 @@ ghost use Rattle.journal_core.specs.Committing.{PublishesIntent};
 ghost use Rattle.journal_core.specs.Kept.{IsRestoredByNoCrash, JournalOnlyShrinks, IsNameOfNextAction, KeepsFilesExcept, KeepsIntentWhileStageShrinks, KeepsCrashMapsExcept, NamesAreDurableExcept, RecoversTo};
 ghost use Rattle.journal_core.specs.Quiet.{StateIsUnchanged};
 ghost use Rattle.journal_core.specs.Recovery.{EachCrashLeavesStateOf, StateDependsOn, files_after_actions, intent_name, read_intent, stage_name};
-ghost use Rattle.journal_core.specs.Staged.{Staging, AreJournalPathsFree, AreStagingPathsFree, IsCarryingOutActions, IsOnlyNameOfFile, HasStagedContents, action_count, new_stage_of_removals_and_writes};
+ghost use Rattle.journal_core.specs.Staged.{Staging, AreIntentAndStagedPathsFree, HasEmptyStageAndFreeJournalPaths, IsCarryingOutActions, IsOnlyNameOfFile, HasStagedContents, action_count, new_stage_of_removals_and_writes};
 ghost use Rattle.journal_intent.specs.FreeNames.{HasFreeDistinctNames};
 ghost use Rattle.journal_intent.specs.Intent.{AreDistinctNamesAllowedInIntent};
 ghost use Rattle.journal_intent.specs.IntentValue.{intent_of_lists, value_of_intent};
@@ -269,7 +269,7 @@ impl Stage {
         // of the intent and of the staged files were free.
         ensures proper { IfObservable (T.history tree.old) (λ v. (contents : List (List ℕ))
             (base : Files) → HasStagedContents self.old contents None base v
-            → AreStagingPathsFree base
+            → HasEmptyStageAndFreeJournalPaths base
             → (T.counts tree.new).misuses ≡ (T.counts tree.old).misuses) }
     {
         self.sync_before_first(tree)?;
@@ -395,7 +395,7 @@ impl Stage {
         // of the intent and of the staged files were free.
         ensures proper { IfObservable (T.history tree.old) (λ v. (contents : List (List ℕ))
             (base : Files) → HasStagedContents self.old contents None base v
-            → AreStagingPathsFree base
+            → HasEmptyStageAndFreeJournalPaths base
             → (T.counts tree.new).misuses ≡ (T.counts tree.old).misuses) }
     {
         publish_intent(tree, &self.intent)?;
@@ -444,7 +444,7 @@ impl Stage {
         // No call is a misuse, if the paths of the intent and of the staged files are free among
         // `files`, which recovery yields.
         ensures proper { IfObservable (T.history tree.old) (λ v. (files : Files)
-            → IsCarryingOutActions self.old files v → AreJournalPathsFree files
+            → IsCarryingOutActions self.old files v → AreIntentAndStagedPathsFree files
             → (T.counts tree.new).misuses ≡ (T.counts tree.old).misuses) }
     {
         let acted = act(&self.intent, self.acted, tree)?;
@@ -545,7 +545,7 @@ pub fn apply_all<T: Tree>(stage: &mut Stage, tree: &mut T) -> Result<(), Disk>
     // No call is a misuse, if the paths of the intent and of the staged files are free among
     // `files`, which recovery yields.
     ensures proper { IfObservable (T.history tree.old) (λ v. (files : Files)
-        → IsCarryingOutActions stage.old files v → AreJournalPathsFree files
+        → IsCarryingOutActions stage.old files v → AreIntentAndStagedPathsFree files
         → (T.counts tree.new).misuses ≡ (T.counts tree.old).misuses) }
 {
     while stage.has_more() {

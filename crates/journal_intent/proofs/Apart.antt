@@ -1,7 +1,7 @@
 -- No name of a change is in the way of another.
 use Rattle.std.proofs.Common.{◌≡◌, inl, inr, ℕ, List, [], ◌∷◌, ◌++◌, drop, get_or, decimal, sym, ap, subst, ◌∙◌, arith}
 use Rattle.base_core.specs.Files.{IsFolderOf}
-use Rattle.journal_intent.specs.FreeNames.{IsUsedByJournal}
+use Rattle.journal_intent.specs.FreeNames.{IsIntentNameOrNumberedStageName}
 use Rattle.journal_intent.specs.Intent.{intent_name, stage_name}
 use Rattle.journal_intent.proofs.Digits.{AreDigits, decimal-digits}
 
@@ -14,7 +14,7 @@ no_place_folder j k rest is =
     let same : decimal k ≡ decimal j ++ 47 ∷ rest = ap (drop 14) is in
     no_slash (decimal j) rest (subst AreDigits same (decimal-digits k))
 
-pub taken_apart : (p q : List ℕ) → IsUsedByJournal p → IsUsedByJournal q → IsFolderOf p q → ⊥
+pub taken_apart : (p q : List ℕ) → IsIntentNameOrNumberedStageName p → IsIntentNameOrNumberedStageName q → IsFolderOf p q → ⊥
 taken_apart p q (inl p_is) (inl q_is) (rest, is) =
     let at : intent_name ≡ intent_name ++ 47 ∷ rest = sym q_is ∙ is ∙ ap (λ (x : List ℕ). x ++ 47 ∷ rest) p_is in
     let none : [] ≡ 47 ∷ rest = ap (drop 14) at in

@@ -14,7 +14,7 @@ use Rattle.adb_sound.specs.adb_schema.Rules.{is_name_allowed_in_intent}
 use Rattle.adb_sound.specs.adb_schema.Reserved.{is_at_or_below, is_intent_or_stage_name}
 use Rattle.adb_sound.specs.adb_schema.SoundValues.{IsNameAllowedInIntent}
 use Rattle.adb_sound.specs.adb_schema.SoundContainers.{IsSoundContainer, IsSoundValue}
-use Rattle.adb_sound.specs.adb_schema.Soundness.{container_fault_except_contents, payload_in, root_value}
+use Rattle.adb_sound.specs.adb_schema.Soundness.{container_fault_except_contents, payload_in, root_value_of_payload}
 use Rattle.adb_view.specs.Values.{entries_in, entry_in, text_in}
 use Rattle.adb_view.specs.declared.tables.Which.{Which}
 use Rattle.adb_view.specs.declared.tables.Which.TheVariants as Tables
@@ -123,7 +123,7 @@ free_value v sound =
     }
 
 abbrev pub SoundValues : Type 0
-SoundValues = (which : Which) (file : List ℕ) → IsSoundContainer which file → IsSoundValue which (root_value which (payload_in file))
+SoundValues = (which : Which) (file : List ℕ) → IsSoundContainer which file → IsSoundValue which (root_value_of_payload which (payload_in file))
 
 free_by : (fault : Option Cause) (v : Plain) (intent : Intent) → (fault ≡ None → IsSoundValue Tables.Intent v) → intent_unless_fault fault v ≡ Some intent → HasFreeDistinctNames intent
 free_by None v intent sound is = let same : intent_of_value v ≡ intent = cc in subst HasFreeDistinctNames same (free_value v (sound refl))
@@ -131,7 +131,7 @@ free_by (Some c) v intent sound is = absurd (cc)
 
 pub free_intent : SoundValues → (file : List ℕ) (intent : Intent) → read_intent file ≡ Some intent → HasFreeDistinctNames intent
 unfolding read_intent
-free_intent values file intent is = free_by (container_fault_except_contents Tables.Intent file) (root_value Tables.Intent (payload_in file)) intent (values Tables.Intent file) is
+free_intent values file intent is = free_by (container_fault_except_contents Tables.Intent file) (root_value_of_payload Tables.Intent (payload_in file)) intent (values Tables.Intent file) is
 
 -- ---- as it is read
 
@@ -141,7 +141,7 @@ all_named (more v vs) all = ((and_parts (is_name (text_in v)) (not (is_intent_or
 
 module _ (values : SoundValues) (file : List ℕ) (sound : container_fault_except_contents Tables.Intent file ≡ None) where
   abbrev held : Plain
-  held = root_value Tables.Intent (payload_in file)
+  held = root_value_of_payload Tables.Intent (payload_in file)
 
   pub removals_named : (list v : Plain) → list ≡ entry_in v 0 → v ≡ held → AllAreNames (entries_in list)
   removals_named list v is same = subst (λ (u : Plain). AllAreNames (entries_in u)) (sym (is ∙ ap (λ u. entry_in u 0) same)) (all_named (entries_in (entry_in held 0)) (values Tables.Intent file sound).rules.removals)
@@ -150,7 +150,7 @@ module _ (values : SoundValues) (file : List ℕ) (sound : container_fault_excep
   writes_named list v is same = subst (λ (u : Plain). AllAreNames (entries_in u)) (sym (is ∙ ap (λ u. entry_in u 1) same)) (all_named (entries_in (entry_in held 1)) (values Tables.Intent file sound).rules.writes)
 
 module _ (file : List ℕ) (sound : container_fault_except_contents Tables.Intent file ≡ None) where
-  pub lists_spelled : (removals writes : List (List ℕ)) (a b v : Plain) → removals ≡ map text_in (list_of (entries_in a)) → writes ≡ map text_in (list_of (entries_in b)) → a ≡ entry_in v 0 → b ≡ entry_in v 1 → v ≡ root_value Tables.Intent (payload_in file)
+  pub lists_spelled : (removals writes : List (List ℕ)) (a b v : Plain) → removals ≡ map text_in (list_of (entries_in a)) → writes ≡ map text_in (list_of (entries_in b)) → a ≡ entry_in v 0 → b ≡ entry_in v 1 → v ≡ root_value_of_payload Tables.Intent (payload_in file)
       → read_intent file ≡ Some (record { removals = removals; writes = writes })
   lists_spelled removals writes a b v r w ra wb same =
       spelled file sound

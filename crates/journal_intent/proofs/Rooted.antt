@@ -4,7 +4,7 @@ use Rattle.adb_view.specs.Plain.{Plain, none, more, array_or_null, trimmed_objec
 use Rattle.adb_values.specs.Drafts.{DraftState, empty_draft, draft_with_open_list, draft_with}
 use Rattle.adb_values.specs.Written.{IsWrittenAs}
 use Rattle.adb_values.proofs.Lists.{Closes}
-use Rattle.adb_sound.specs.adb_write.Canonical.{PayloadCounts, canonical, overflow_of, or_overflow, payload_or_overflow}
+use Rattle.adb_sound.specs.adb_write.Canonical.{ByteAndValueCounts, canonical, overflow_of, payload_unless_overflow, payload_or_overflow}
 use Rattle.adb_sound.specs.adb_write.declared.writer.WriteFault.{WriteFault}
 use Rattle.adb_sound.specs.adb_write.declared.writer.WriteFault.TheVariants.{TooLarge}
 use Rattle.journal_intent.specs.Intent.{Intent}
@@ -21,17 +21,17 @@ pub payload_fits : (v : Plain) (payload : List ℕ) → payload_or_overflow v �
 unfolding payload_or_overflow
 payload_fits v payload is = by (overflow_of v) refl
   where
-    by : (o : Option PayloadCounts) → overflow_of v ≡ o → (overflow_of v ≡ None) × (payload ≡ canonical v)
-    by None e = (e, let same = sym is ∙ ap (or_overflow (canonical v)) e in cc)
-    by (Some counts) e = absurd (let other = sym is ∙ ap (or_overflow (canonical v)) e in cc)
+    by : (o : Option ByteAndValueCounts) → overflow_of v ≡ o → (overflow_of v ≡ None) × (payload ≡ canonical v)
+    by None e = (e, let same = sym is ∙ ap (payload_unless_overflow (canonical v)) e in cc)
+    by (Some counts) e = absurd (let other = sym is ∙ ap (payload_unless_overflow (canonical v)) e in cc)
 
-pub payload_large : (v : Plain) (counts : PayloadCounts) → payload_or_overflow v ≡ Err counts → overflow_of v ≡ Some counts
+pub payload_large : (v : Plain) (counts : ByteAndValueCounts) → payload_or_overflow v ≡ Err counts → overflow_of v ≡ Some counts
 unfolding payload_or_overflow
 payload_large v counts is = by (overflow_of v) refl
   where
-    by : (o : Option PayloadCounts) → overflow_of v ≡ o → overflow_of v ≡ Some counts
-    by None e = absurd (let other = sym is ∙ ap (or_overflow (canonical v)) e in cc)
-    by (Some found) e = e ∙ (let same = sym is ∙ ap (or_overflow (canonical v)) e in cc)
+    by : (o : Option ByteAndValueCounts) → overflow_of v ≡ o → overflow_of v ≡ Some counts
+    by None e = absurd (let other = sym is ∙ ap (payload_unless_overflow (canonical v)) e in cc)
+    by (Some found) e = e ∙ (let same = sym is ∙ ap (payload_unless_overflow (canonical v)) e in cc)
 
-pub large_of : {A : Type 0} (view : A → List ℕ) (fault : WriteFault) (bytes values : ℕ) (answer : Result (List ℕ) PayloadCounts) → IsWrittenAs view (Err fault) answer → fault ≡ TooLarge bytes values → answer ≡ Err (bytes, values)
+pub large_of : {A : Type 0} (view : A → List ℕ) (fault : WriteFault) (bytes values : ℕ) (answer : Result (List ℕ) ByteAndValueCounts) → IsWrittenAs view (Err fault) answer → fault ≡ TooLarge bytes values → answer ≡ Err (bytes, values)
 large_of view fault bytes values answer told is = subst (λ (f : WriteFault). IsWrittenAs view (Err f) answer) is told

@@ -6,7 +6,7 @@ use Rattle.adb_block.specs.Container.{IsContainerWithBlocks}
 use Rattle.adb_block.specs.Header.{schema_of_header}
 use Rattle.adb_block.specs.Piece.{Piece}
 use Rattle.adb_view.specs.Plain.{Plain}
-use Rattle.adb_sound.specs.adb_schema.Soundness.{container_fault_except_contents, payload_in, root_value}
+use Rattle.adb_sound.specs.adb_schema.Soundness.{container_fault_except_contents, payload_in, root_value_of_payload}
 use Rattle.adb_sound.specs.adb_schema.declared.read.TheConstants.{INTENT_WORD}
 use Rattle.adb_view.specs.declared.tables.Which.TheVariants.{Intent as Table, Package}
 use Rattle.adb_sound.specs.adb_write.Canonical.{canonical, empty_layout, write, MOST_BYTES}
@@ -31,8 +31,8 @@ header_is spelled read v fits =
     (spelled INTENT_WORD (canonical v) (lit< tt) (payload_long (write v empty_layout).0 (write v empty_layout).1) fits)).0
 
 pub intent_read : (v : Plain) → schema_of_header (file_of INTENT_WORD (canonical v)) ≡ Ok INTENT_WORD → container_fault (file_of INTENT_WORD (canonical v)) ≡ None
-    → root_value Table (payload_in (file_of INTENT_WORD (canonical v))) ≡ v → read_intent (file_of INTENT_WORD (canonical v)) ≡ Some (intent_of_value v)
+    → root_value_of_payload Table (payload_in (file_of INTENT_WORD (canonical v))) ≡ v → read_intent (file_of INTENT_WORD (canonical v)) ≡ Some (intent_of_value v)
 unfolding read_intent
 intent_read v header sound back =
-    ap (λ o. intent_unless_fault o (root_value Table (payload_in (file_of INTENT_WORD (canonical v))))) (whole_is_first (file_of INTENT_WORD (canonical v)) header sound)
+    ap (λ o. intent_unless_fault o (root_value_of_payload Table (payload_in (file_of INTENT_WORD (canonical v))))) (whole_is_first (file_of INTENT_WORD (canonical v)) header sound)
     ∙ ap (λ (u : Plain). Some (intent_of_value u)) back

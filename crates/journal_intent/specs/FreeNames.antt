@@ -27,8 +27,8 @@ pub record IsFreeName (name : List ℕ) : Type 0 where
   pub no_place : (k : ℕ) → name ≢ stage_name k
 
 -- a name that the journal uses: the intent's own, or that of a staged file with some number
-abbrev pub IsUsedByJournal : List ℕ → Type 0
-IsUsedByJournal name = (name ≡ intent_name) ⊎ ((k : ℕ) × (name ≡ stage_name k))
+abbrev pub IsIntentNameOrNumberedStageName : List ℕ → Type 0
+IsIntentNameOrNumberedStageName name = (name ≡ intent_name) ⊎ ((k : ℕ) × (name ≡ stage_name k))
 
 -- each of these names is free
 abbrev pub AreFreeNames : List (List ℕ) → Type 0

@@ -9,7 +9,7 @@ use Rattle.base_core.specs.declared.cause.Cause.{Cause}
 use Rattle.adb_view.specs.Plain.{Plain}
 use Rattle.adb_sound.specs.adb_fields.Repeated.{entries_at}
 use Rattle.adb_sound.specs.adb_schema.Rules.{is_name_allowed_in_intent}
-use Rattle.adb_sound.specs.adb_schema.Soundness.{container_fault_except_contents, payload_in, root_value}
+use Rattle.adb_sound.specs.adb_schema.Soundness.{container_fault_except_contents, payload_in, root_value_of_payload}
 use Rattle.adb_view.specs.FieldIndexes.{INTENT_REMOVALS, INTENT_WRITES}
 use Rattle.adb_view.specs.Values.{text_in}
 use Rattle.adb_view.specs.declared.tables.Which.TheVariants.{Intent as IntentTable}
@@ -56,7 +56,7 @@ intent_unless_fault (Some cause) v = None
 -- the intent that the bytes of a file encode; None if they are no intent container
 unfoldable pub read_intent : List ℕ → Option Intent
 read_intent file = intent_unless_fault (container_fault_except_contents IntentTable file)
-    (root_value IntentTable (payload_in file))
+    (root_value_of_payload IntentTable (payload_in file))
 
 -- the names of a change, removed and written ones, can be those of an intent: each is allowed, which excludes the
 -- intent's and those in the staging area, and none is repeated

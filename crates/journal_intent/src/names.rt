@@ -4,9 +4,9 @@
 //! law of free names in `docs/formats.md`, "The texts" and "Names that stand twice".
 
 ghost use Rattle.std.specs.Prelude.{◌≡◌, IfOk, ◌≢◌, ◌<◌, ◌^◌, ◌++◌, ℕ, true, List, Some, None};
-ghost use Rattle.journal_intent.specs.FreeNames.{stage_names_from, HasFreeDistinctNames, IsUsedByJournal};
+ghost use Rattle.journal_intent.specs.FreeNames.{stage_names_from, HasFreeDistinctNames, IsIntentNameOrNumberedStageName};
 ghost use Rattle.journal_intent.specs.Intent.{intent_name, stage_folder, stage_name, AreDistinctNamesAllowedInIntent, Intent, intent_of_value, is_staged, read_intent};
-ghost use Rattle.adb_sound.specs.adb_schema.Soundness.{container_fault_except_contents, payload_in, root_value};
+ghost use Rattle.adb_sound.specs.adb_schema.Soundness.{container_fault_except_contents, payload_in, root_value_of_payload};
 ghost use Rattle.adb_view.specs.declared.tables.Which.TheVariants.{Intent as IntentTable};
 ghost use Rattle.base_core.specs.Files.{IsFolderOf};
 ghost use Rattle.base_core.specs.Name.{is_name};
@@ -58,7 +58,8 @@ fn stage_name(alloc: Global, k: usize) -> Result<Name, AllocError>
 pub fn an_intent_is_read_from_a_sound_container()
     // If the container passes all tests, the intent of its value is read.
     ensures sound { (file : List ℕ) → container_fault_except_contents IntentTable file ≡ None
-        → read_intent file ≡ Some (intent_of_value (root_value IntentTable (payload_in file))) }
+        → read_intent file ≡ Some (intent_of_value (root_value_of_payload IntentTable
+        (payload_in file))) }
     // If a test of the container fails, no intent is read.
     ensures other { (file : List ℕ) (cause : Cause)
         → container_fault_except_contents IntentTable file ≡ Some cause
@@ -81,7 +82,8 @@ pub fn each_staged_file_has_its_own_name()
 /// A law: the intent and the staged files can exist together, since the name of none of them is a
 /// folder of another's name.
 pub fn no_name_of_the_journal_is_a_folder_of_another()
-    ensures { (p q : List ℕ) → IsUsedByJournal p → IsUsedByJournal q → IsFolderOf p q → ⊥ }
+    ensures { (p q : List ℕ) → IsIntentNameOrNumberedStageName p
+        → IsIntentNameOrNumberedStageName q → IsFolderOf p q → ⊥ }
 {}
 
 /// A law: an intent that is read from a file has free names. None is the intent's own name or in

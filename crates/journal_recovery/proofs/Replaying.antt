@@ -14,7 +14,7 @@ use Rattle.journal_core.specs.Kept.{HasOldOrNewBytesOutsideJournal, RecoversTo}
 use Rattle.journal_core.specs.Recovering.{IsIntentReplayed}
 use Rattle.journal_core.specs.Recovery.{EachCrashLeavesStateOf, StateDependsOn, intent_name, intent_in_file, intent_of, recovered_files, files_after_intent}
 use Rattle.journal_core.specs.Quiet.{StateIsUnchanged}
-use Rattle.journal_core.specs.Staged.{AreReplayPathsFree, IsIntentFault}
+use Rattle.journal_core.specs.Staged.{AreJournalPathsFreeIfIntentIsReplayed, IsIntentFault}
 use Rattle.journal_core.proofs.History.{History, no_more, none_since, on_observable, observable_map}
 use Rattle.journal_core.proofs.OneCall.{now_is}
 
@@ -66,9 +66,9 @@ module _ (old mid new : History) (same : mid ≡ old) (name file : List ℕ) (na
       → IfObservable old (λ v. (ignored : List ℕ → Bool) → IsDurable (StateDependsOn ignored) v → IsSome (intent_of (files_of v)) → OnOk r (HoldsNow new (EachCrashLeavesStateOf ignored (recovered_files (files_of v)))))
   found_settled r told = both_told old (λ v. (ignored : List ℕ → Bool) → IsDurable (StateDependsOn ignored) v → There v → OnOk r (HoldsNow new (EachCrashLeavesStateOf ignored (recovered_files (files_of v))))) There _ (λ v t at ignored is_durable some. t ignored is_durable at) (back _ told) there
 
-  pub found_proper : (a b c : ℕ) → IfObservable old (λ v. b ≡ a) → IfObservable mid (λ v. There v → AreReplayPathsFree (files_of v) → c ≡ b) → IfObservable old (λ v. AreReplayPathsFree (files_of v) → c ≡ a)
-  found_proper a b c first told = both_told old (λ v. (b ≡ a) × (There v → AreReplayPathsFree (files_of v) → c ≡ b)) There _ (λ v t at room. t.1 at room ∙ t.0)
-      (both_told old (λ v. b ≡ a) (λ v. There v → AreReplayPathsFree (files_of v) → c ≡ b) _ (λ v x y. (x, y)) first (back _ told)) there
+  pub found_proper : (a b c : ℕ) → IfObservable old (λ v. b ≡ a) → IfObservable mid (λ v. There v → AreJournalPathsFreeIfIntentIsReplayed (files_of v) → c ≡ b) → IfObservable old (λ v. AreJournalPathsFreeIfIntentIsReplayed (files_of v) → c ≡ a)
+  found_proper a b c first told = both_told old (λ v. (b ≡ a) × (There v → AreJournalPathsFreeIfIntentIsReplayed (files_of v) → c ≡ b)) There _ (λ v t at room. t.1 at room ∙ t.0)
+      (both_told old (λ v. b ≡ a) (λ v. There v → AreJournalPathsFreeIfIntentIsReplayed (files_of v) → c ≡ b) _ (λ v x y. (x, y)) first (back _ told)) there
 
   pub found_idle : (B : Type 0) → IfObservable old (λ v. v.names intent_name ≡ None → B)
   found_idle B = observable_map old There _ there (λ v at none. absurd (let here : files_of v intent_name ≡ None = ap (bytes_of_file_number v.files) none in cc (here, at)))

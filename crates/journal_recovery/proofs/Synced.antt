@@ -11,7 +11,7 @@ use Rattle.journal_core.specs.Kept.{HasOldOrNewBytesOutsideJournal, IsRestoredBy
 use Rattle.journal_core.specs.Quiet.{StateIsUnchanged}
 use Rattle.journal_core.specs.Recovering.{AreStagedNames, IsIntentReplayed, HasRemovedNames}
 use Rattle.journal_core.specs.Recovery.{EachCrashLeavesStateOf, StateDependsOn, intent_name, is_staged, recovered_files}
-use Rattle.journal_core.specs.Staged.{AreReplayPathsFree}
+use Rattle.journal_core.specs.Staged.{AreJournalPathsFreeIfIntentIsReplayed}
 use Rattle.journal_core.proofs.Acts.{still_on, sync_still}
 use Rattle.journal_core.proofs.Changes.{gone_synced}
 use Rattle.journal_core.proofs.History.{History, none_since, now_map, observable_at, observable_map, on_observable, one_more, since_on, since_weaker}
@@ -92,9 +92,9 @@ module _ (file : List ℕ) where
     found_settled told = on_observable old _ (λ v rest is ignored is_durable there.
         at_mid old mid new x moves v rest is (λ u. (Y : List ℕ → Bool) → IsDurable (StateDependsOn Y) u → IsFound u → u.older ≡ [] → HoldsNow new (EachCrashLeavesStateOf Y (recovered_files (files_of u)))) told ignored (sync_still ignored v is_durable).is_durable there refl)
 
-    pub found_proper : (a b c : ℕ) → IfObservable old (λ v. b ≡ a) → IfObservable mid (λ u. IsFound u → u.older ≡ [] → AreReplayPathsFree (files_of u) → c ≡ b) → IfObservable old (λ v. IsFound v → AreReplayPathsFree (files_of v) → c ≡ a)
+    pub found_proper : (a b c : ℕ) → IfObservable old (λ v. b ≡ a) → IfObservable mid (λ u. IsFound u → u.older ≡ [] → AreJournalPathsFreeIfIntentIsReplayed (files_of u) → c ≡ b) → IfObservable old (λ v. IsFound v → AreJournalPathsFreeIfIntentIsReplayed (files_of v) → c ≡ a)
     found_proper a b c first told = on_observable old _ (λ v rest is there room.
-        at_mid old mid new x moves v rest is (λ u. IsFound u → u.older ≡ [] → AreReplayPathsFree (files_of u) → c ≡ b) told there refl room ∙ observable_at old v rest is (λ u. b ≡ a) first)
+        at_mid old mid new x moves v rest is (λ u. IsFound u → u.older ≡ [] → AreJournalPathsFreeIfIntentIsReplayed (files_of u) → c ≡ b) told there refl room ∙ observable_at old v rest is (λ u. b ≡ a) first)
 
   -- only the call itself
   module _ (old mid : History) where
@@ -107,7 +107,7 @@ module _ (file : List ℕ) where
     pub alone_reads : IfObservable old (λ v. Since (RecoversTo (recovered_files (files_of v))) old mid) → IfObservable old (λ v. IsFound v → Since (RecoversTo (recovered_files (files_of v))) old mid)
     alone_reads told = observable_map old _ _ told (λ v t there. t)
 
-    pub alone_proper : (a b : ℕ) → IfObservable old (λ v. b ≡ a) → IfObservable old (λ v. IsFound v → AreReplayPathsFree (files_of v) → b ≡ a)
+    pub alone_proper : (a b : ℕ) → IfObservable old (λ v. b ≡ a) → IfObservable old (λ v. IsFound v → AreJournalPathsFreeIfIntentIsReplayed (files_of v) → b ≡ a)
     alone_proper a b told = observable_map old _ _ told (λ v t there room. t)
 
 -- ---- names are removed

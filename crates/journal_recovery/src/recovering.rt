@@ -15,7 +15,7 @@ ghost use Rattle.journal_core.specs.Kept.{HasOldOrNewBytesOutsideJournal, IsRest
 ghost use Rattle.journal_core.specs.Quiet.{StateIsUnchanged};
 ghost use Rattle.journal_core.specs.Recovering.{AreStagedNames, HasEmptiedStage, IsIntentReplayed};
 ghost use Rattle.journal_core.specs.Recovery.{EachCrashLeavesStateOf, StateDependsOn, intent_name, intent_of, is_staged, recovered_files};
-ghost use Rattle.journal_core.specs.Staged.{AreReplayPathsFree, HasNoStagedNames, unstaged_files};
+ghost use Rattle.journal_core.specs.Staged.{AreJournalPathsFreeIfIntentIsReplayed, HasNoStagedNames, unstaged_files};
 ghost use Rattle.journal_recovery.specs.RecoveryContracts.{IsRecoveryExplainedByCounts, RefusesOnlyBadIntent, RemovesIntentLast, RemovesStagedNames};
 
 use base_core::{Disk, Names, Tree, TreeFault, read_all};
@@ -82,7 +82,8 @@ pub fn recover<T: Tree>(alloc: Global, tree: &mut T) -> Result<(), RecoverFault>
 
     // No call is a misuse, if no intent is found; or if the paths of the intent and of the staged
     // files are free among the files that recovery yields.
-    ensures proper { IfObservable (T.history tree.old) (λ v. AreReplayPathsFree (files_of v)
+    ensures proper { IfObservable (T.history tree.old)
+        (λ v. AreJournalPathsFreeIfIntentIsReplayed (files_of v)
         → (T.counts tree.new).misuses ≡ (T.counts tree.old).misuses) }
 {
     replay(alloc, tree)?;
@@ -130,7 +131,8 @@ fn replay<T: Tree>(alloc: Global, tree: &mut T) -> Result<(), RecoverFault>
 
     // No call is a misuse, if no intent is found; or if the paths of the intent and of the staged
     // files are free among the files that recovery yields.
-    ensures proper { IfObservable (T.history tree.old) (λ v. AreReplayPathsFree (files_of v)
+    ensures proper { IfObservable (T.history tree.old)
+        (λ v. AreJournalPathsFreeIfIntentIsReplayed (files_of v)
         → (T.counts tree.new).misuses ≡ (T.counts tree.old).misuses) }
 {
     let name = intent_name(alloc)?;
@@ -189,7 +191,7 @@ fn replay_file<T: Tree>(alloc: Global, tree: &mut T, file: Vec<u8>) -> Result<()
     // No call is a misuse, if no intent is found; or if the paths of the intent and of the staged
     // files are free among the files that recovery yields.
     ensures proper { IfObservable (T.history tree.old) (λ v. files_of v intent_name
-        ≡ Some file.items → AreReplayPathsFree (files_of v)
+        ≡ Some file.items → AreJournalPathsFreeIfIntentIsReplayed (files_of v)
         → (T.counts tree.new).misuses ≡ (T.counts tree.old).misuses) }
 {
     let mut stage = Stage::found(alloc, file)?;

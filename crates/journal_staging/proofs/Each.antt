@@ -3,7 +3,7 @@ use Rattle.std.proofs.Common.{◌≡◌, ℕ, zero, suc, ◌+◌, ◌<◌, ◌�
 use Rattle.std.specs.Prelude.{slice_get, slice_index_or}
 use Rattle.base_core.specs.Files.{Files}
 use Rattle.base_core.specs.Tree.{TreeState, files_of}
-use Rattle.journal_commit.specs.journal_core.Staged.{AreJournalPathsFree, Staging}
+use Rattle.journal_commit.specs.journal_core.Staged.{AreIntentAndStagedPathsFree, Staging}
 use Rattle.journal_commit.proofs.journal_core.History.{History}
 use Rattle.journal_staging.specs.Sources.{MayDenote, EachMayDenote, EachDenotes, DenotesBytes}
 use Rattle.journal_staging.specs.declared.writes.StagedWrite.{StagedWrite}
@@ -18,7 +18,7 @@ AreStagedOn start stage writes count old now =
 abbrev pub AreProperOn : Staging → List StagedWrite → History → ℕ → ℕ → Type 0
 AreProperOn start writes old before now =
     (contents : List (List ℕ)) (v : TreeState) (first : List TreeState) → IsRunThatStagedContents start [] None v first old
-    → EachDenotes (files_of v) writes contents → AreJournalPathsFree (files_of v) → now ≡ before
+    → EachDenotes (files_of v) writes contents → AreIntentAndStagedPathsFree (files_of v) → now ≡ before
 
 take_next : {A : Type 0} (xs : List A) (i : ℕ) (x : A) → slice_get xs i ≡ Some x → take (i + 1) xs ≡ take i xs ++ x ∷ []
 take_next [] i x e = cc
@@ -57,7 +57,7 @@ module _ (start stage next : Staging) (writes : List StagedWrite) (i : ℕ) (w :
       subst (λ (l : List (List ℕ)). IsRunThatStagedContents next l None v first later) (sym (take_next contents i bytes is)) (staged (take i contents) v first bytes (so_far contents v first staging stand) source)
 
   pub each_proper : (before between after : ℕ) → AreProperOn start writes old before between
-      → ((contents : List (List ℕ)) (v : TreeState) (first : List TreeState) (bytes : List ℕ) → IsRunThatStagedContents stage contents None v first now → DenotesBytes (files_of v) w.source bytes → AreJournalPathsFree (files_of v) → after ≡ between)
+      → ((contents : List (List ℕ)) (v : TreeState) (first : List TreeState) (bytes : List ℕ) → IsRunThatStagedContents stage contents None v first now → DenotesBytes (files_of v) w.source bytes → AreIntentAndStagedPathsFree (files_of v) → after ≡ between)
       → AreProperOn start writes old before after
   each_proper before between after proper one contents v first staging stand room =
       let (bytes, is, source) = bytes_next (files_of v) writes contents i w at stand in

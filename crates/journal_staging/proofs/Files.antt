@@ -1,7 +1,7 @@
 -- A file of a package is read while others come to wait.
 use Rattle.std.proofs.Common.{◌≡◌, ℕ, List, Option, Some, None, Result, Ok, Err, refl, ap, sym, subst, ◌∙◌, Bor}
 use Rattle.std.specs.Prelude.{◌∷◌, drop, OnOk}
-use Rattle.file_guard.specs.adb_schema.Soundness.{payload_in, root_value}
+use Rattle.file_guard.specs.adb_schema.Soundness.{payload_in, root_value_of_payload}
 use Rattle.adb_view.specs.declared.tables.Which.TheVariants.{Package}
 use Rattle.adb_view.specs.Plain.{Plain}
 use Rattle.base_core.specs.Files.{Files}
@@ -18,7 +18,7 @@ use Rattle.journal_staging.specs.Spoiled.{IsFileWithOnlyContentsSpoiled, IsSpoil
 use Rattle.journal_staging.specs.declared.writes.PackagedFile.{PackagedFile}
 use Rattle.journal_staging.specs.declared.writes.Source.{Source}
 use Rattle.journal_staging.specs.declared.writes.Source.TheVariants.{Bytes, File, Link}
-use Rattle.file_guard.specs.AsListed.{link_bytes_to}
+use Rattle.file_guard.specs.AsListed.{link_file_bytes_of_target}
 use Rattle.journal_staging.proofs.OtherContents.{spoiled}
 
 pub source_reading : (files : Files) (f : PackagedFile) (bytes : List ℕ) (file : FilePieces)
@@ -37,11 +37,11 @@ source_reading files f bytes file name len reading s = record {
 pub given_stands : (files : Files) (source : Source) (own : Bor (List ℕ)) (bytes : List ℕ) → source ≡ Bytes own → DenotesBytes files source bytes → bytes ≡ own.now
 given_stands files source own bytes is s = subst (λ (x : Source). DenotesBytes files x bytes) is s
 
-pub link_stands : (files : Files) (source : Source) (target : Bor (List ℕ)) (bytes : List ℕ) → source ≡ Link target → DenotesBytes files source bytes → bytes ≡ link_bytes_to target.now
+pub link_stands : (files : Files) (source : Source) (target : Bor (List ℕ)) (bytes : List ℕ) → source ≡ Link target → DenotesBytes files source bytes → bytes ≡ link_file_bytes_of_target target.now
 link_stands files source target bytes is s = subst (λ (x : Source). DenotesBytes files x bytes) is s
 
 pub link_waits : (text target : List ℕ) (Waits : List ℕ → Type 0) → text ≡ drop 2 target
-    → Waits (33 ∷ 60 ∷ 115 ∷ 121 ∷ 109 ∷ 108 ∷ 105 ∷ 110 ∷ 107 ∷ 62 ∷ text) → Waits (link_bytes_to target)
+    → Waits (33 ∷ 60 ∷ 115 ∷ 121 ∷ 109 ∷ 108 ∷ 105 ∷ 110 ∷ 107 ∷ 62 ∷ text) → Waits (link_file_bytes_of_target target)
 link_waits text target Waits is waits = subst (λ (t : List ℕ). Waits (33 ∷ 60 ∷ 115 ∷ 121 ∷ 109 ∷ 108 ∷ 105 ∷ 110 ∷ 107 ∷ 62 ∷ t)) is waits
 
 pub file_stands : (files : Files) (source : Source) (f : PackagedFile) (bytes : List ℕ) → source ≡ File f → DenotesBytes files source bytes → IsFileSource files f bytes
@@ -52,8 +52,8 @@ file_stands files source f bytes is s = subst (λ (x : Source). DenotesBytes fil
 pub given_listed : (source : Source) (own : Bor (List ℕ)) (Waits : List ℕ → Type 0) → source ≡ Bytes own → Waits own.now → (bytes : List ℕ) × MayDenote source bytes × Waits bytes
 given_listed source own Waits is waits = (own.now, subst (λ (x : Source). MayDenote x own.now) (sym is) refl, waits)
 
-pub link_listed : (source : Source) (target : Bor (List ℕ)) (Waits : List ℕ → Type 0) → source ≡ Link target → Waits (link_bytes_to target.now) → (bytes : List ℕ) × MayDenote source bytes × Waits bytes
-link_listed source target Waits is waits = (link_bytes_to target.now, subst (λ (x : Source). MayDenote x (link_bytes_to target.now)) (sym is) refl, waits)
+pub link_listed : (source : Source) (target : Bor (List ℕ)) (Waits : List ℕ → Type 0) → source ≡ Link target → Waits (link_file_bytes_of_target target.now) → (bytes : List ℕ) × MayDenote source bytes × Waits bytes
+link_listed source target Waits is waits = (link_file_bytes_of_target target.now, subst (λ (x : Source). MayDenote x (link_file_bytes_of_target target.now)) (sym is) refl, waits)
 
 pub file_listed : {A E : Type 0} (r : Result A E) (source : Source) (f : PackagedFile) (Waits : List ℕ → Type 0) → source ≡ File f → OnOk r ((bytes : List ℕ) × AreListedContentsOf f bytes × Waits bytes) → OnOk r ((bytes : List ℕ) × MayDenote source bytes × Waits bytes)
 file_listed (Ok x) source f Waits is found = (found.0, subst (λ (s : Source). MayDenote s found.0) (sym is) found.1, found.2)
@@ -61,7 +61,7 @@ file_listed (Err e) source f Waits is found = tt
 
 -- ---- a package that was changed since
 
-spoiled_by_due : (tested : List ℕ) (f : PackagedFile) (cause : Cause) (bytes : List ℕ) (due : Option ExpectedFile) → package_fault tested ≡ None → expected_file_at f.folder f.file (expected_files_of_package (root_value Package (payload_in tested))) ≡ due → HaveOtherDigest due bytes cause
+spoiled_by_due : (tested : List ℕ) (f : PackagedFile) (cause : Cause) (bytes : List ℕ) (due : Option ExpectedFile) → package_fault tested ≡ None → expected_file_at f.folder f.file (expected_files_of_package (root_value_of_payload Package (payload_in tested))) ≡ due → HaveOtherDigest due bytes cause
     → (file : List ℕ) × IsFileWithOnlyContentsSpoiled tested file cause
 spoiled_by_due tested f cause bytes None sound due other = absurd other
 spoiled_by_due tested f cause bytes (Some e) sound due other = spoiled tested f.folder f.file e bytes cause sound due other.0 other.1

@@ -8,7 +8,7 @@ use Rattle.base_core.specs.Files.{Files}
 use Rattle.base_core.specs.Tree.{TreeState, files_of}
 use Rattle.base_core.specs.declared.cause.Cause.{Cause}
 use Rattle.journal_commit.specs.journal_core.Recovery.{is_staged}
-use Rattle.journal_commit.specs.journal_core.Staged.{AreJournalPathsFree, HasNoStagedNames, Staging}
+use Rattle.journal_commit.specs.journal_core.Staged.{AreIntentAndStagedPathsFree, HasNoStagedNames, Staging}
 use Rattle.journal_commit.proofs.journal_core.Chain.{by_now}
 use Rattle.journal_commit.proofs.journal_core.History.{History, now_map, now_since}
 use Rattle.package_verifier.specs.package_reader.FileReading.{AreAsExpected, IsTestedReturn, ReturnsNextBytes, HaveBeenReturned, HaveOtherDigest, HasUnreadBytes, expected_file_of, remembered_fault, package_len_of_file, package_name_of_file}
@@ -88,7 +88,7 @@ IsReadOn start stage whole file old now =
 abbrev pub IsProperOn : Staging → FilePieces → History → ℕ → ℕ → Type 0
 IsProperOn start whole old before now =
     (contents : List (List ℕ)) (v : TreeState) (first : List TreeState) (bytes : List ℕ) → IsRunThatStagedContents start contents None v first old
-    → IsReadingIn (files_of v) whole bytes → AreJournalPathsFree (files_of v) → now ≡ before
+    → IsReadingIn (files_of v) whole bytes → AreIntentAndStagedPathsFree (files_of v) → now ≡ before
 
 -- ---- a piece is read
 

@@ -13,11 +13,11 @@ use Rattle.adb_block.specs.Container.{IsHead, IsPadding, IsContainerWithBlocks, 
 use Rattle.adb_block.specs.Header.{schema_of_header}
 use Rattle.adb_block.specs.Piece.{Piece, least_payload_len}
 use Rattle.adb_block.specs.Reading.{Reading, done, fault, more, block_stream_from}
-use Rattle.adb_block.specs.ReaderPosition.{first_block_position}
+use Rattle.adb_block.specs.ReaderPosition.{first_block_position_of_schema_and_file}
 use Rattle.adb_block.specs.declared.block.BlockKind.{BlockKind}
 use Rattle.adb_block.specs.declared.block.BlockKind.TheVariants as Kinds
 use Rattle.adb_block.proofs.WholeFiles.{read_is_spelled, spelled_is_read, whole_from}
-use Rattle.file_guard.specs.adb_schema.Soundness.{blocks_fault, file_fault_after_header, contents_positions, first_block_payload, payload_after_header, payload_fault, payload_in, root_value, schema_fault}
+use Rattle.file_guard.specs.adb_schema.Soundness.{blocks_fault, file_fault_after_header, contents_positions, first_block_payload, payload_after_header, payload_fault, payload_in, root_value_of_payload, schema_fault}
 use Rattle.std.specs.Option.{option_or}
 use Rattle.adb_view.specs.declared.tables.Which.TheVariants.{Package}
 use Rattle.base_core.specs.declared.cause.Cause.{Cause}
@@ -26,7 +26,7 @@ use Rattle.base_core.specs.declared.cause.Digest.{Digest}
 use Rattle.base_core.specs.declared.cause.Digest.TheVariants.{Sha1, Sha256, Sha512}
 use Rattle.base_core.proofs.Causes.{both_none}
 use Rattle.file_guard.proofs.pkg_core.Opened.{pair_alike}
-use Rattle.file_guard.specs.pkg_core.Contents.{ExpectedFile, FilesRead, contents_block_fault, contents_bytes, contents_of_expected, contents_fault, digest_fault, expected_files_of_package, fault_of_files_read, files_at_block, files_read_from_blocks, given, has_positions_of, hash_fault, next_contents_fault, no_more, files_unless_fault}
+use Rattle.file_guard.specs.pkg_core.Contents.{ExpectedFile, FilesRead, contents_block_fault, contents_bytes, contents_of_expected, contents_fault, fault_if_digests_differ, expected_files_of_package, fault_of_files_read, files_read_from_block_and_further, files_read_from_blocks, given, has_positions_of, hash_fault, next_contents_fault, no_more, files_unless_fault}
 use Rattle.file_guard.specs.pkg_core.Opened.{expected_file_at, is_expected_at}
 use Rattle.file_guard.specs.pkg_core.Whole.{fault_of_further_blocks, package_fault, container_fault_of_table}
 use Rattle.file_guard.proofs.pkg_core.Given.{nothing_expected, size_right}
@@ -204,7 +204,7 @@ HasPieces r = (bs : List Piece) × (blocks_of_stream r ≡ Ok bs)
 pieces_after : (b : Piece) (at : ℕ) (r : Reading) → HasPieces r → HasPieces (more b at r)
 pieces_after b at r (bs, is) = (b ∷ bs, ap (with_block b) is)
 
-pieces_at_kind : (kind : BlockKind) (payload : List ℕ) (at : ℕ) (r : Reading) → ((left : List ExpectedFile) → contents_fault left r ≡ None → HasPieces r) → (es : List ExpectedFile) → fault_of_files_read (files_at_block kind payload at (λ left. files_read_from_blocks left r) es) ≡ None → HasPieces r
+pieces_at_kind : (kind : BlockKind) (payload : List ℕ) (at : ℕ) (r : Reading) → ((left : List ExpectedFile) → contents_fault left r ≡ None → HasPieces r) → (es : List ExpectedFile) → fault_of_files_read (files_read_from_block_and_further kind payload at (λ left. files_read_from_blocks left r) es) ≡ None → HasPieces r
 pieces_at_kind Kinds.Adb payload at r ih es h = ih es h
 pieces_at_kind Kinds.Signature payload at r ih es h = ih es h
 pieces_at_kind Kinds.Contents payload at r ih [] h =
@@ -305,7 +305,7 @@ differs : (hash bytes : List ℕ) (c : Cause) → hash_fault hash bytes ≡ Some
 unfolding hash_fault
 differs hash bytes c e = by_first (length hash == 20) (length hash == 32) (length hash == 64) e
   where
-    by_first : (a b d : Bool) → (if a then digest_fault Sha1 hash (sha1 bytes) else if b then digest_fault Sha256 hash (sha256 bytes) else if d then digest_fault Sha512 hash (sha512 bytes) else None) ≡ Some c → (x : Digest) × (y : Digest) × (c ≡ HashDiffers x y)
+    by_first : (a b d : Bool) → (if a then fault_if_digests_differ Sha1 hash (sha1 bytes) else if b then fault_if_digests_differ Sha256 hash (sha256 bytes) else if d then fault_if_digests_differ Sha512 hash (sha512 bytes) else None) ≡ Some c → (x : Digest) × (y : Digest) × (c ≡ HashDiffers x y)
     by_first true b d e = differs_by Sha1 _ hash (sha1 bytes) c e
     by_first false true d e = differs_by Sha256 _ hash (sha256 bytes) c e
     by_first false false true e = differs_by Sha512 _ hash (sha512 bytes) c e
@@ -324,21 +324,21 @@ record IsGoodPackage (file : List ℕ) : Type 0 where
   block : Piece
   at : ℕ
   further : Reading
-  reading : block_stream_from (first_block_position schema file) ≡ more block at further
+  reading : block_stream_from (first_block_position_of_schema_and_file schema file) ≡ more block at further
   values : payload_fault Package block.payload ≡ None
-  contents : contents_fault (expected_files_of_package (root_value Package block.payload)) further ≡ None
+  contents : contents_fault (expected_files_of_package (root_value_of_payload Package block.payload)) further ≡ None
 
 -- or no block, and then nothing is expected
 abbrev IsGood : List ℕ → Type 0
-IsGood file = IsGoodPackage file ⊎ (expected_files_of_package (root_value Package (payload_in file)) ≡ [])
+IsGood file = IsGoodPackage file ⊎ (expected_files_of_package (root_value_of_payload Package (payload_in file)) ≡ [])
 
-payload_by : (file : List ℕ) (schema : ℕ) (r : Reading) → schema_of_header file ≡ Ok schema → block_stream_from (first_block_position schema file) ≡ r → payload_in file ≡ first_block_payload r
+payload_by : (file : List ℕ) (schema : ℕ) (r : Reading) → schema_of_header file ≡ Ok schema → block_stream_from (first_block_position_of_schema_and_file schema file) ≡ r → payload_in file ≡ first_block_payload r
 unfolding payload_in
 payload_by file schema r header reading = ap (payload_after_header file) header ∙ ap first_block_payload reading
 
-good_by_reading : (file : List ℕ) (schema : ℕ) (r : Reading) → schema_of_header file ≡ Ok schema → schema_fault Package schema ≡ None → block_stream_from (first_block_position schema file) ≡ r → blocks_fault (fault_of_further_blocks Package) Package r ≡ None → IsGood file
+good_by_reading : (file : List ℕ) (schema : ℕ) (r : Reading) → schema_of_header file ≡ Ok schema → schema_fault Package schema ≡ None → block_stream_from (first_block_position_of_schema_and_file schema file) ≡ r → blocks_fault (fault_of_further_blocks Package) Package r ≡ None → IsGood file
 good_by_reading file schema done header wanted reading h =
-    inr (ap (λ (p : List ℕ). expected_files_of_package (root_value Package p)) (payload_by file schema done header reading) ∙ nothing_expected)
+    inr (ap (λ (p : List ℕ). expected_files_of_package (root_value_of_payload Package p)) (payload_by file schema done header reading) ∙ nothing_expected)
 good_by_reading file schema (fault c) header wanted reading h = absurd (cc (h))
 good_by_reading file schema (more b at r) header wanted reading h =
     let (values, contents) = both_none (payload_fault Package b.payload) _ h in
@@ -348,44 +348,44 @@ good_by_header : (file : List ℕ) (header : Result ℕ Cause) → schema_of_hea
 good_by_header file (Err c) is h = absurd (cc (h))
 good_by_header file (Ok schema) is h =
     let (wanted, blocks) = both_none (schema_fault Package schema) _ h in
-    good_by_reading file schema (block_stream_from (first_block_position schema file)) is wanted refl blocks
+    good_by_reading file schema (block_stream_from (first_block_position_of_schema_and_file schema file)) is wanted refl blocks
 
 good : (file : List ℕ) → package_fault file ≡ None → IsGood file
 unfolding container_fault_of_table
 good file h = good_by_header file (schema_of_header file) refl h
 
 -- a package is refused for its contents where its header and its first block are good
-refused_for : (file : List ℕ) (schema : ℕ) (b : Piece) (at : ℕ) (r : Reading) (c : Cause) → schema_of_header file ≡ Ok schema → schema_fault Package schema ≡ None → block_stream_from (first_block_position schema file) ≡ more b at r → payload_fault Package b.payload ≡ None
-    → contents_fault (expected_files_of_package (root_value Package b.payload)) r ≡ Some c → package_fault file ≡ Some c
+refused_for : (file : List ℕ) (schema : ℕ) (b : Piece) (at : ℕ) (r : Reading) (c : Cause) → schema_of_header file ≡ Ok schema → schema_fault Package schema ≡ None → block_stream_from (first_block_position_of_schema_and_file schema file) ≡ more b at r → payload_fault Package b.payload ≡ None
+    → contents_fault (expected_files_of_package (root_value_of_payload Package b.payload)) r ≡ Some c → package_fault file ≡ Some c
 unfolding container_fault_of_table
 refused_for file schema b at r c header wanted reading values bad =
     ap (file_fault_after_header (fault_of_further_blocks Package) Package file) header
     ∙ first_then (schema_fault Package schema) _ c wanted
     (ap (blocks_fault (fault_of_further_blocks Package) Package) reading ∙ first_then (payload_fault Package b.payload) _ c values bad)
 
-pieces_from_start : (file : List ℕ) (schema : ℕ) (bs : List Piece) → schema_of_header file ≡ Ok schema → blocks_of file ≡ Ok bs → blocks_of_stream (block_stream_from (first_block_position schema file)) ≡ Ok bs
+pieces_from_start : (file : List ℕ) (schema : ℕ) (bs : List Piece) → schema_of_header file ≡ Ok schema → blocks_of file ≡ Ok bs → blocks_of_stream (block_stream_from (first_block_position_of_schema_and_file schema file)) ≡ Ok bs
 unfolding blocks_from_position
 pieces_from_start file schema bs header are = sym (whole_from file schema header) ∙ are
 
-blocks_from_start : (file : List ℕ) (schema : ℕ) (bs : List Piece) → schema_of_header file ≡ Ok schema → blocks_of_stream (block_stream_from (first_block_position schema file)) ≡ Ok bs → blocks_of file ≡ Ok bs
+blocks_from_start : (file : List ℕ) (schema : ℕ) (bs : List Piece) → schema_of_header file ≡ Ok schema → blocks_of_stream (block_stream_from (first_block_position_of_schema_and_file schema file)) ≡ Ok bs → blocks_of file ≡ Ok bs
 unfolding blocks_from_position
 blocks_from_start file schema bs header are = whole_from file schema header ∙ are
 
-spoiled_by : (tested : List ℕ) (folder file : ℕ) (e : ExpectedFile) (bytes : List ℕ) (c : Cause) → IsGoodPackage tested → expected_file_at folder file (expected_files_of_package (root_value Package (payload_in tested))) ≡ Some e → length bytes ≡ e.size → hash_fault e.hash bytes ≡ Some c
+spoiled_by : (tested : List ℕ) (folder file : ℕ) (e : ExpectedFile) (bytes : List ℕ) (c : Cause) → IsGoodPackage tested → expected_file_at folder file (expected_files_of_package (root_value_of_payload Package (payload_in tested))) ≡ Some e → length bytes ≡ e.size → hash_fault e.hash bytes ≡ Some c
     → (other : List ℕ) × IsFileWithOnlyContentsSpoiled tested other c
 spoiled_by tested folder file e bytes c g found size bad =
-    let es : List ExpectedFile = expected_files_of_package (root_value Package g.block.payload) in
+    let es : List ExpectedFile = expected_files_of_package (root_value_of_payload Package g.block.payload) in
     let payload = payload_by tested g.schema (more g.block g.at g.further) g.header g.reading in
-    let h = finds folder file e g.further es g.contents (subst (λ (p : List ℕ). expected_file_at folder file (expected_files_of_package (root_value Package p)) ≡ Some e) payload found) in
+    let h = finds folder file e g.further es g.contents (subst (λ (p : List ℕ). expected_file_at folder file (expected_files_of_package (root_value_of_payload Package p)) ≡ Some e) payload found) in
     let own : List ℕ = take 8 h.block.payload ++ bytes in
     let all = length-append (take 8 h.block.payload) bytes in
     let long = h.long in
     let same : length own ≡ length h.block.payload = omega (arith, all, length-take 8 h.block.payload, long, size) in
-    let pieces : blocks_of_stream (block_stream_from (first_block_position g.schema tested)) ≡ Ok (g.block ∷ (h.before ++ h.block ∷ h.behind)) = ap blocks_of_stream g.reading ∙ ap (with_block g.block) h.are in
+    let pieces : blocks_of_stream (block_stream_from (first_block_position_of_schema_and_file g.schema tested)) ≡ Ok (g.block ∷ (h.before ++ h.block ∷ h.behind)) = ap blocks_of_stream g.reading ∙ ap (with_block g.block) h.are in
     let spelled = read_is_spelled tested g.schema (g.block ∷ (h.before ++ h.block ∷ h.behind)) g.header (blocks_from_start tested g.schema _ g.header pieces) in
     let there = replaced_in_file tested g.schema (g.block ∷ h.before) h.behind h.block own same spelled in
     let read = spelled_is_read there.other g.schema (g.block ∷ (h.before ++ with_payload h.block own ∷ h.behind)) there.spells in
-    let begins = begins_with g.block (h.before ++ with_payload h.block own ∷ h.behind) (block_stream_from (first_block_position g.schema there.other)) (pieces_from_start there.other g.schema _ read.0 read.1) in
+    let begins = begins_with g.block (h.before ++ with_payload h.block own ∷ h.behind) (block_stream_from (first_block_position_of_schema_and_file g.schema there.other)) (pieces_from_start there.other g.schema _ read.0 read.1) in
     let (wanted, is, digest) = differs e.hash bytes c bad in (
       there.other,
       record {
@@ -399,7 +399,7 @@ spoiled_by tested folder file e bytes c g found size bad =
     )
 
 -- a package that was tested is spoiled where bytes of one of its files have another digest
-pub spoiled : (tested : List ℕ) (folder file : ℕ) (e : ExpectedFile) (bytes : List ℕ) (c : Cause) → package_fault tested ≡ None → expected_file_at folder file (expected_files_of_package (root_value Package (payload_in tested))) ≡ Some e → length bytes ≡ e.size → hash_fault e.hash bytes ≡ Some c
+pub spoiled : (tested : List ℕ) (folder file : ℕ) (e : ExpectedFile) (bytes : List ℕ) (c : Cause) → package_fault tested ≡ None → expected_file_at folder file (expected_files_of_package (root_value_of_payload Package (payload_in tested))) ≡ Some e → length bytes ≡ e.size → hash_fault e.hash bytes ≡ Some c
     → (other : List ℕ) × IsFileWithOnlyContentsSpoiled tested other c
 spoiled tested folder file e bytes c sound found size bad = by (good tested sound)
   where

@@ -7,7 +7,7 @@ use Rattle.base_core.specs.Faults.{Counts, CountsOnlyRise, IsFaultCountedWithCau
 use Rattle.base_core.specs.Files.{Files}
 use Rattle.base_core.specs.Tree.{TreeState, files_of}
 use Rattle.journal_commit.specs.StageRun.{IsRunThatStagedContents, IsStagingRun}
-use Rattle.journal_commit.specs.journal_core.Staged.{Staging, AreJournalPathsFree}
+use Rattle.journal_commit.specs.journal_core.Staged.{Staging, AreIntentAndStagedPathsFree}
 
 -- how the tree's counts before a call (`before`) and after it (`now`) explain its result, whose error `failed`
 -- reports a fault of the tree
@@ -46,4 +46,4 @@ pub record StagesSource {T F : Type 0} (stage next : Staging) (Denotes : Files �
   -- no call is a misuse, if the source denotes bytes, and the paths of the intent and of the staged files are free
   pub proper : (contents : List (List ℕ)) (v : TreeState) (first : List TreeState) (bytes : List ℕ)
       → IsRunThatStagedContents stage contents None v first old → Denotes (files_of v) bytes
-      → AreJournalPathsFree (files_of v) → after.misuses ≡ before.misuses
+      → AreIntentAndStagedPathsFree (files_of v) → after.misuses ≡ before.misuses

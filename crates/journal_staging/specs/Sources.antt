@@ -3,7 +3,7 @@
 -- with files"; the digests in `docs/formats.md`, "The other blocks".
 use Rattle.std.specs.Prelude.{◌≡◌, ℕ, List, [], ◌∷◌, Some, length, slice_get}
 use Rattle.base_core.specs.Files.{Files}
-use Rattle.file_guard.specs.AsListed.{link_bytes_to}
+use Rattle.file_guard.specs.AsListed.{link_file_bytes_of_target}
 use Rattle.package_verifier.specs.Tested.{IsTestedOf, tested_value}
 use Rattle.package_verifier.specs.package_reader.FileReading.{AreAsExpected}
 use Rattle.file_guard.specs.pkg_core.Contents.{bytes_of_file, contents_in, expected_files_of_package}
@@ -32,7 +32,7 @@ pub record IsFileSource (files : Files) (f : PackagedFile) (bytes : List ℕ) : 
 -- over these files the source denotes these bytes: its own, the text of its link, or those of a file of a package
 abbrev pub DenotesBytes : Files → Source → List ℕ → Type 0
 DenotesBytes files (Bytes own) bytes = bytes ≡ own.now
-DenotesBytes files (Link target) bytes = bytes ≡ link_bytes_to target.now
+DenotesBytes files (Link target) bytes = bytes ≡ link_file_bytes_of_target target.now
 DenotesBytes files (File f) bytes = IsFileSource files f bytes
 
 -- the bytes have the size and the digest that the tested package of `f` lists for this file; they are empty if it
@@ -47,7 +47,7 @@ AreListedContentsOf f bytes =
 -- the size and the digest that the package lists for the file
 abbrev pub MayDenote : Source → List ℕ → Type 0
 MayDenote (Bytes own) bytes = bytes ≡ own.now
-MayDenote (Link target) bytes = bytes ≡ link_bytes_to target.now
+MayDenote (Link target) bytes = bytes ≡ link_file_bytes_of_target target.now
 MayDenote (File f) bytes = AreListedContentsOf f bytes
 
 -- ---- those of several writes

@@ -7,7 +7,7 @@ ghost use Rattle.base_core.specs.Faults.{CountsOnlyRise, IsFaultCountedWithCause
 ghost use Rattle.base_core.specs.Tree.{TreeState, files_of};
 ghost use Rattle.base_core.specs.declared.cause.Cause.{Cause};
 ghost use Rattle.journal_commit.specs.journal_core.Recovery.{files_after_actions, intent_name};
-ghost use Rattle.journal_commit.specs.journal_core.Staged.{AreJournalPathsFree, HasNoStagedNames, new_stage_of_removals_and_writes, files_with_staged};
+ghost use Rattle.journal_commit.specs.journal_core.Staged.{AreIntentAndStagedPathsFree, HasNoStagedNames, new_stage_of_removals_and_writes, files_with_staged};
 ghost use Rattle.journal_commit.specs.journal_core.Targets.{AreAccepted};
 ghost use Rattle.journal_staging.specs.Carried.{IsCarriedTo};
 ghost use Rattle.journal_staging.specs.SourceStaging.{IsFaultExplainedByCounts};
@@ -73,7 +73,7 @@ fn stage_each<T: Tree>(
     // and of the staged files are free.
     ensures proper { (contents : List (List ℕ)) (v : TreeState) (first : List TreeState)
         → IsRunThatStagedContents stage.old [] None v first (T.history tree.old)
-        → EachDenotes (files_of v) writes.now contents → AreJournalPathsFree (files_of v)
+        → EachDenotes (files_of v) writes.now contents → AreIntentAndStagedPathsFree (files_of v)
         → (T.counts tree.new).misuses ≡ (T.counts tree.old).misuses }
 {
     for write in writes {
@@ -159,8 +159,9 @@ pub fn carry_out<T: Tree>(
     // and of the staged files are free before the change and after all its actions.
     ensures proper { IfObservable (T.history tree.old) (λ v. (contents : List (List ℕ))
         → v.names intent_name ≡ None → HasNoStagedNames (files_of v)
-        → EachDenotes (files_of v) writes.now contents → AreJournalPathsFree (files_of v)
-        → AreJournalPathsFree (files_after_actions stage.old.intent (files_with_staged 1 contents
+        → EachDenotes (files_of v) writes.now contents → AreIntentAndStagedPathsFree (files_of v)
+        → AreIntentAndStagedPathsFree (files_after_actions stage.old.intent
+        (files_with_staged 1 contents
         (files_of v)))
         → (T.counts tree.new).misuses ≡ (T.counts tree.old).misuses) }
 {

@@ -15,10 +15,10 @@ use Rattle.make_index.specs.adb_fields.Pairs.{NameWithPosition}
 use Rattle.make_index.specs.adb_fields.FirstPair.{IsLeastPairIfAny}
 use Rattle.make_index.specs.adb_fields.FirstPair.{IsPairOfEqualNames}
 use Rattle.make_index.specs.adb_fields.FirstPair.{IsIn}
-use Rattle.make_index.specs.adb_fields.Repeated.{repeated_file_name_in_folder, files_in, repeated_folder_name_in_package, folders_in, name_of, numbered_from, repeated_fault, repeated_pair_in_one_list}
-use Rattle.make_index.specs.adb_fields.FirstPair.{IsRepeatedPairInOneList}
+use Rattle.make_index.specs.adb_fields.Repeated.{repeated_file_in_folder_of_packages, files_in, repeated_folder_in_one_of_packages, folders_in, name_of, numbered_from, repeated_fault, least_pair_of_repeated_name_in_one_list}
+use Rattle.make_index.specs.adb_fields.FirstPair.{IsPairOfRepeatedNameInOneList}
 use Rattle.adb_view.specs.declared.tables.Which.TheVariants.{Package}
-use Rattle.make_package.specs.package_files.Folders.{with_folders_inserted, sorted_names_without_repeats, with_folder_inserted, with_folder_inserted_by_order}
+use Rattle.make_package.specs.package_files.Folders.{with_folders_inserted, sorted_names_without_repeats, with_folder_inserted, with_folder_inserted_by_cmp_with_first}
 use Rattle.make_package.specs.package_files.Package.{Script, Source, SourceFolder, value_of_file, value_of_folder, value_of_package, kind_of_file}
 use Rattle.make_core.proofs.PackageFiles.{files_stand, folder_name_stands, folders_stand, name_stands}
 
@@ -55,7 +55,7 @@ placed_in : (q name : List ℕ) (xs : List (List ℕ)) → IsIn q (with_folder_i
 placed_in q name [] h = h
 placed_in q name (x ∷ xs) h = by_order (cmp name x) (placed_in q name xs) h
   where
-    by_order : (o : Ordering) → (IsIn q (with_folder_inserted name xs) → (q ≡ name) ⊎ IsIn q xs) → IsIn q (with_folder_inserted_by_order o name x xs (with_folder_inserted name xs)) → (q ≡ name) ⊎ IsIn q (x ∷ xs)
+    by_order : (o : Ordering) → (IsIn q (with_folder_inserted name xs) → (q ≡ name) ⊎ IsIn q xs) → IsIn q (with_folder_inserted_by_cmp_with_first o name x xs (with_folder_inserted name xs)) → (q ≡ name) ⊎ IsIn q (x ∷ xs)
     by_order Less further h = h
     by_order Equal further h = inr h
     by_order Greater further (inl is) = inr (inl is)
@@ -77,7 +77,7 @@ placed_rises : (name : List ℕ) (xs : List (List ℕ)) → Rises xs → Rises (
 placed_rises name [] r = (λ q h. absurd h, tt)
 placed_rises name (x ∷ xs) r = by_order (cmp name x) refl (placed_rises name xs r.1)
   where
-    by_order : (o : Ordering) → cmp name x ≡ o → Rises (with_folder_inserted name xs) → Rises (with_folder_inserted_by_order o name x xs (with_folder_inserted name xs))
+    by_order : (o : Ordering) → cmp name x ≡ o → Rises (with_folder_inserted name xs) → Rises (with_folder_inserted_by_cmp_with_first o name x xs (with_folder_inserted name xs))
     by_order Less e further = (all_behind name x xs e r.0, r)
     by_order Equal e further = r
     by_order Greater e further = (λ q here. below_placed x name xs (nat_list_cmp_total.antisymm x name ∙ ap ordering_reverse e) r.0 q (placed_in q name xs here), further)
@@ -131,14 +131,14 @@ no_pair names p apart pair =
     omega arith
 
 abbrev pub Tells : Type 0
-Tells = (lists : List (List (List ℕ))) → IsLeastPairIfAny (IsRepeatedPairInOneList lists) (repeated_pair_in_one_list lists)
+Tells = (lists : List (List (List ℕ))) → IsLeastPairIfAny (IsPairOfRepeatedNameInOneList lists) (least_pair_of_repeated_name_in_one_list lists)
 
-none_by : (lists : List (List (List ℕ))) (o : Option _) → ((names : List (List ℕ)) → IsIn names lists → IsApart names) → IsLeastPairIfAny (IsRepeatedPairInOneList lists) o → o ≡ None
+none_by : (lists : List (List (List ℕ))) (o : Option _) → ((names : List (List ℕ)) → IsIn names lists → IsApart names) → IsLeastPairIfAny (IsPairOfRepeatedNameInOneList lists) o → o ≡ None
 none_by lists None apart told = refl
 none_by lists (Some p) apart told = let one = told.is_one in absurd (no_pair one.names p (apart one.names one.names_in) one.is_pair)
 
-none_twice : Tells → (lists : List (List (List ℕ))) → ((names : List (List ℕ)) → IsIn names lists → IsApart names) → repeated_pair_in_one_list lists ≡ None
-none_twice tells lists apart = none_by lists (repeated_pair_in_one_list lists) apart (tells lists)
+none_twice : Tells → (lists : List (List (List ℕ))) → ((names : List (List ℕ)) → IsIn names lists → IsApart names) → least_pair_of_repeated_name_in_one_list lists ≡ None
+none_twice tells lists apart = none_by lists (least_pair_of_repeated_name_in_one_list lists) apart (tells lists)
 
 -- ---- in a package
 
@@ -173,20 +173,20 @@ module _ (info : Plain) (folders : List SourceFolder) (scripts : List Script) (t
   abbrev value : Plain
   value = value_of_package info folders scripts triggers priority
 
-  folders_none : Tells → IsApart (folder_names_of folders) → repeated_folder_name_in_package (value ∷ []) ≡ None
+  folders_none : Tells → IsApart (folder_names_of folders) → repeated_folder_in_one_of_packages (value ∷ []) ≡ None
   folders_none tells apart = none_twice tells (map name_of (folders_in value) ∷ []) (λ names h. one names h)
     where
       one : (names : List (List ℕ)) → IsIn names (map name_of (folders_in value) ∷ []) → IsApart names
       one names (inl is) = subst IsApart (sym (is ∙ (ap (map name_of) (folders_stand info folders scripts triggers priority) ∙ names_of_folders folders))) apart
       one names (inr h) = absurd h
 
-  files_none : Tells → AreApartFiles folders → repeated_file_name_in_folder (value ∷ []) ≡ None
+  files_none : Tells → AreApartFiles folders → repeated_file_in_folder_of_packages (value ∷ []) ≡ None
   files_none tells apart =
       let lists : List (List (List ℕ)) = names_by_folder (map value_of_folder folders) in
       let same : flat_map (λ (pkg : Plain). names_by_folder (folders_in pkg)) (value ∷ []) ≡ lists =
       flat_map-cons (λ (pkg : Plain). names_by_folder (folders_in pkg)) value []
       ∙ (append-nil (names_by_folder (folders_in value)) ∙ ap names_by_folder (folders_stand info folders scripts triggers priority)) in
-      ap repeated_pair_in_one_list same ∙ none_twice tells lists (apart_by_folder folders apart)
+      ap least_pair_of_repeated_name_in_one_list same ∙ none_twice tells lists (apart_by_folder folders apart)
 
   pub package_once : Tells → IsApart (folder_names_of folders) → AreApartFiles folders → repeated_fault Package value ≡ None
   unfolding repeated_fault

@@ -12,8 +12,8 @@ use Rattle.adb_view.specs.declared.tables.Which.{Which}
 use Rattle.adb_view.specs.declared.tables.Which.TheVariants.{Dep, Package, PkgInfo, Index}
 use Rattle.adb_view.specs.declared.tables.Kind.TheVariants.{Obj}
 use Rattle.make_index.specs.pkg_core.Whole.{package_fault, package_id, package_with_contents}
-use Rattle.make_index.specs.Entries.{entry_of_package}
-use Rattle.make_index.specs.adb_copy.Zeros.{info_with_id_and_size, with_value_at_index}
+use Rattle.make_index.specs.Entries.{index_entry_of_package_file}
+use Rattle.make_index.specs.adb_copy.Zeros.{info_without_zeros_with_id_and_file_size, with_value_set_at_index}
 use Rattle.make_core.proofs.Blind.{AreBlind, AreBlindBut, IsBlind, turned_but}
 use Rattle.make_core.proofs.OpenedPackage.{IsOpened, Values, opened}
 use Rattle.make_core.proofs.ValueParts.{part_kept, part_shaped, placed_kept, placed_later, placed_shaped}
@@ -93,33 +93,33 @@ unfolding HasShape
 obj_shaped schema fs vs h = h
 
 abbrev with_both : Plains → List ℕ → ℕ → Plains
-with_both vs id len = with_value_at_index 12 (int len) (with_value_at_index 2 (blob id) vs)
+with_both vs id len = with_value_set_at_index 12 (int len) (with_value_set_at_index 2 (blob id) vs)
 
 both_shaped : (vs : Plains) (id : List ℕ) (len : ℕ) → HaveShapes infos vs → HaveShapes infos (with_both vs id len)
 unfolding shape_of
 both_shaped vs id len h =
-    placed_shaped infos 12 number (int len) (with_value_at_index 2 (blob id) vs) refl (int_shaped len) (placed_shaped infos 2 hash (blob id) vs refl (blob_shaped id) h)
+    placed_shaped infos 12 number (int len) (with_value_set_at_index 2 (blob id) vs) refl (int_shaped len) (placed_shaped infos 2 hash (blob id) vs refl (blob_shaped id) h)
 
 both_ints : (vs : Plains) (id : List ℕ) (len : ℕ) → len < 2 ^ 64 → HaveInts vs → HaveInts (with_both vs id len)
-both_ints vs id len small h = placed_ints 12 (int len) (with_value_at_index 2 (blob id) vs) (int_ints len small) (placed_ints 2 (blob id) vs (blob_ints id) h)
+both_ints vs id len small h = placed_ints 12 (int len) (with_value_set_at_index 2 (blob id) vs) (int_ints len small) (placed_ints 2 (blob id) vs (blob_ints id) h)
 
 id_stands : (vs : Plains) (id : List ℕ) (len : ℕ) → nth (with_both vs id len) 2 ≡ blob id
-id_stands vs id len = placed_later 2 12 (int len) (with_value_at_index 2 (blob id) vs) (lit< tt) ∙ at_same 2 (blob id) vs
+id_stands vs id len = placed_later 2 12 (int len) (with_value_set_at_index 2 (blob id) vs) (lit< tt) ∙ at_same 2 (blob id) vs
 
 both_kept : (a b : Surroundings) (vs : Plains) (id : List ℕ) (len : ℕ) → length id ≡ 32 → a.root ≡ Package → b.root ≡ Index
     → first_bad_leaf (field_leaves infos 301 a vs) ≡ None → first_bad_leaf (field_leaves infos 301 b (with_both vs id len)) ≡ None
 unfolding shape_of
 both_kept a b vs id len long here there h =
     let one = placed_kept infos 2 hash 301 a (blob id) vs refl (id_here a id long here) h in
-    let two = placed_kept infos 12 number 301 a (int len) (with_value_at_index 2 (blob id) vs) refl (len_here a len) one in
+    let two = placed_kept infos 12 number 301 a (int len) (with_value_set_at_index 2 (blob id) vs) refl (len_here a len) one in
     let id_good = ap (λ (u : Plain). first_bad_leaf (leaves hash 303 b u)) (id_stands vs id len) ∙ id_there b id long there in
     turned_but 2 infos hash 301 a b (with_both vs id len) refl blind_info id_good two
 
 -- ---- the entry
 
 entry_by : (v : Plain) (id : List ℕ) (len place : ℕ) (around : Surroundings) → IsOpened v → length id ≡ 32 → len < 2 ^ 64 → around.root ≡ Index
-    → IsGood (shape_of (Obj PkgInfo)) place around (info_with_id_and_size (entry_in v 0) id len)
-unfolding shape_of leaves info_with_id_and_size
+    → IsGood (shape_of (Obj PkgInfo)) place around (info_without_zeros_with_id_and_file_size (entry_in v 0) id len)
+unfolding shape_of leaves info_without_zeros_with_id_and_file_size
 entry_by v id len place around o long small root =
     let vs = entries_in (entry_in v 0) in
     let us = with_both vs id len in
@@ -133,6 +133,6 @@ entry_by v id len place around o long small root =
     }
 
 pub entry_good : Values → (file : List ℕ) (place : ℕ) (around : Surroundings) → All (λ b. b < 256) file → length file < 2 ^ 64 → around.root ≡ Index → package_fault file ≡ None
-    → IsGood (shape_of (Obj PkgInfo)) place around (entry_of_package file)
+    → IsGood (shape_of (Obj PkgInfo)) place around (index_entry_of_package_file file)
 entry_good laws file place around bytes small root e =
     entry_by (package_with_contents file).value (package_id file) (length file) place around (opened laws file bytes e) (length-sha256 (payload_in file)) small root

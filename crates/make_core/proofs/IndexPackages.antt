@@ -3,7 +3,7 @@ use Rattle.std.proofs.Common.{◌≡◌, ℕ, ◌+◌, List, [], ◌∷◌, map,
 use Rattle.std.specs.List.Sorted.{IsPermutation, IsSorted}
 use Rattle.base_core.specs.declared.cause.Cause.{Cause}
 use Rattle.make_index.specs.adb_fields.Repeated.{list_of}
-use Rattle.make_index.specs.adb_schema.Soundness.{payload_in, root_value}
+use Rattle.make_index.specs.adb_schema.Soundness.{payload_in, root_value_of_payload}
 use Rattle.adb_view.specs.Values.{entries_in}
 use Rattle.adb_view.specs.declared.tables.Which.TheVariants.{Index}
 use Rattle.adb_view.proofs.ValueEntries.{entries_arr, nth_obj}
@@ -12,10 +12,10 @@ use Rattle.command_core.specs.Command.{CommandLine}
 use Rattle.command_core.specs.Files.{without_dot_slash}
 use Rattle.command_core.specs.declared.operands.Operand.{Operand}
 use Rattle.base_core.specs.Sorted.{sorted_by}
-use Rattle.make_index.specs.Entries.{entry_of_package}
-use Rattle.make_index.specs.EntryOrder.{entry_cmp}
-use Rattle.make_index.specs.Files.{AreOperandReadsFileBytes}
-use Rattle.make_index.specs.Index.{entry_before_others_or_fault, description_in, entry_unless_fault, found_entries, found_entry, made_index, value_of_index}
+use Rattle.make_index.specs.Entries.{index_entry_of_package_file}
+use Rattle.make_index.specs.EntryOrder.{index_entry_cmp}
+use Rattle.make_index.specs.Files.{OperandReadsFindOnlyValidFileBytes}
+use Rattle.make_index.specs.Index.{entry_before_others_or_fault, first_description_or_empty, entry_unless_fault, found_entries, found_entry, made_index, value_of_index}
 use Rattle.make_index.specs.make_info.Reads.{Reads}
 use Rattle.make_index.specs.make_info.Values.{plains_of_list}
 use Rattle.make_index.specs.make_info.declared.fault.MakeFault.{MakeFault}
@@ -34,20 +34,20 @@ record IsSoundEntry (found : Option (List ℕ)) (entry : Plain) : Type 0 where
   file : List ℕ
   is : found ≡ Some file
   sound : package_fault file ≡ None
-  same : entry_of_package file ≡ entry
+  same : index_entry_of_package_file file ≡ entry
 
 found_sound : (place : ℕ) (found : Option (List ℕ)) (entry : Plain) → found_entry place found ≡ Ok entry → IsSoundEntry found entry
 found_sound place None entry e = absurd (cc (e))
 found_sound place (Some file) entry e = by (package_fault file) refl e
   where
     by : (fault : Option Cause) → package_fault file ≡ fault → entry_unless_fault place file fault ≡ Ok entry → IsSoundEntry (Some file) entry
-    by None is e = let same : entry_of_package file ≡ entry = cc (e) in record { file = file; is = refl; sound = is; same = same }
+    by None is e = let same : index_entry_of_package_file file ≡ entry = cc (e) in record { file = file; is = refl; sound = is; same = same }
     by (Some cause) is e = absurd (cc (e))
 
 record AreSoundEntries (read : Reads) (n : ℕ) (operands : List Operand) (entries : List Plain) : Type 0 where
   files : List (List ℕ)
   sound : AreSoundPackages read n operands files
-  same : map entry_of_package files ≡ entries
+  same : map index_entry_of_package_file files ≡ entries
 
 one_more : (read : Reads) (n : ℕ) (o : Operand) (operands : List Operand) (entries : List Plain) (r : Result Plain MakeFault) (rs : Result (List Plain) MakeFault)
     → ((entry : Plain) → r ≡ Ok entry → IsSoundEntry (read n (without_dot_slash o.text)) entry) → ((others : List Plain) → rs ≡ Ok others → AreSoundEntries read (n + 1) operands others)
@@ -82,27 +82,27 @@ packages_stand description entries =
 
 -- entries that are put in order
 abbrev pub Same : Type 0
-Same = (entries : List Plain) → IsPermutation entries (sorted_by entry_cmp entries)
+Same = (entries : List Plain) → IsPermutation entries (sorted_by index_entry_cmp entries)
 
 abbrev pub Sorted : Type 0
-Sorted = (entries : List Plain) → IsSorted entry_cmp (sorted_by entry_cmp entries)
+Sorted = (entries : List Plain) → IsSorted index_entry_cmp (sorted_by index_entry_cmp entries)
 
 in_order : Same → Sorted → (read : Reads) (operands : List Operand) (description : List ℕ) (index : Plain) (found : Result (List Plain) MakeFault) → found_entries read 0 operands ≡ found
     → index_value_of_entries description found ≡ Ok index → HasSortedEntriesOfOperands read operands index
 in_order same sorted read operands description index (Err fault) is e = absurd (cc (e))
 in_order same sorted read operands description index (Ok entries) is e =
     let are = entries_sound read 0 operands entries is in
-    let value : value_of_index description (sorted_by entry_cmp entries) ≡ index = cc (e) in
-    let stand : sorted_by entry_cmp entries ≡ packages_in index = sym (packages_stand description (sorted_by entry_cmp entries)) ∙ ap packages_in value in
+    let value : value_of_index description (sorted_by index_entry_cmp entries) ≡ index = cc (e) in
+    let stand : sorted_by index_entry_cmp entries ≡ packages_in index = sym (packages_stand description (sorted_by index_entry_cmp entries)) ∙ ap packages_in value in
     record {
       files = are.files;
       sound = are.sound;
       same = subst (λ (l : List Plain). IsPermutation l (packages_in index)) (sym are.same) (subst (IsPermutation entries) stand (same entries));
-      sorted = subst (IsSorted entry_cmp) stand (sorted entries);
+      sorted = subst (IsSorted index_entry_cmp) stand (sorted entries);
     }
 
-pub made_in_order : Same → Sorted → Back → Exact → Values → (command : CommandLine) (read : Reads) (bytes : List ℕ) → AreOperandReadsFileBytes read 0 command.operands → made_index command read ≡ Ok bytes
-    → HasSortedEntriesOfOperands read command.operands (root_value Index (payload_in bytes))
+pub made_in_order : Same → Sorted → Back → Exact → Values → (command : CommandLine) (read : Reads) (bytes : List ℕ) → OperandReadsFindOnlyValidFileBytes read 0 command.operands → made_index command read ≡ Ok bytes
+    → HasSortedEntriesOfOperands read command.operands (root_value_of_payload Index (payload_in bytes))
 made_in_order same sorted back exact values command read bytes files e =
-    in_order same sorted read command.operands (description_in command.values) (root_value Index (payload_in bytes)) (found_entries read 0 command.operands) refl
+    in_order same sorted read command.operands (first_description_or_empty command.values) (root_value_of_payload Index (payload_in bytes)) (found_entries read 0 command.operands) refl
     (made_back back exact values command read bytes files e)

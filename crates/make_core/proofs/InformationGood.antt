@@ -23,10 +23,10 @@ use Rattle.make_index.specs.make_info.declared.field.Field.{Field}
 use Rattle.make_index.specs.make_info.declared.field.Field.TheVariants as Fields
 use Rattle.make_index.specs.make_info.declared.field.Kind.{Kind}
 use Rattle.make_index.specs.make_info.declared.field.Kind.TheVariants as Kinds
-use Rattle.make_index.specs.make_info.Fields.{FieldValue, text, number, need, kind_of_field, values_by_kind, text_value_if, if_untagged}
-use Rattle.make_index.specs.make_info.FieldTexts.{FieldText, field_text_in, values_of_info, is_option_for_field, gives_value_for_field, is_same_field, is_default_output_too_long}
-use Rattle.make_index.specs.make_info.Information.{FieldWithValue, items_of_valid_options, place_of_first_offending_option, information_fields, information_value, information_of, is_item_for, field_with_value, item_value_or_null, items_of_text, items_of_option, lacks_name_or_version, value_of_list_field, dependency_object, number_in, offends, replaces_priority, plain_value, value_of_single_field, unless_offence, plain_values_of_field, items_with_values_of_field}
-use Rattle.make_index.specs.make_info.Values.{number_value}
+use Rattle.make_index.specs.make_info.Fields.{FieldValue, text, number, need, kind_of_field, values_by_kind, text_value_if, dependency_if_untagged}
+use Rattle.make_index.specs.make_info.FieldTexts.{FieldText, field_text_in, values_of_info_options, is_option_for_field, gives_value_for_field, is_same_field, is_default_output_too_long}
+use Rattle.make_index.specs.make_info.Information.{FieldWithValue, items_of_valid_options, place_of_first_offending_option_after, information_fields_with_installed_size, information_value_with_installed_size, information_of_options_before_place, is_item_for, field_with_value, item_value_or_null, items_of_text, items_of_option, lacks_name_or_version, value_of_list_field, dependency_object, number_in, offends, replaces_priority, plain_value, value_of_single_field, unless_offence, plain_values_of_field, items_followed_by_values_of_field}
+use Rattle.make_index.specs.make_info.Values.{number_or_null}
 use Rattle.make_index.proofs.make_info.OutputFacts.{no_offence}
 use Rattle.make_core.proofs.GoodValues.{IsGood, arr_good, hash_good, null_number, number_good, obj_good, text_good}
 use Rattle.make_core.proofs.PackageFiles.{around_folder, size_good}
@@ -51,7 +51,7 @@ items_said : (f : Field) (ss : List FieldValue) → AreSaidAs (kind_of_field f) 
 items_said f [] h = tt
 items_said f (s ∷ ss) h = (h.0, items_said f ss h.1)
 
-with_good : (f : Field) (o : Option (List FieldValue)) (items : List FieldWithValue) → ((ss : List FieldValue) → o ≡ Some ss → AreSaidAs (kind_of_field f) ss) → items_with_values_of_field [] f o ≡ Some items → AreItems items
+with_good : (f : Field) (o : Option (List FieldValue)) (items : List FieldWithValue) → ((ss : List FieldValue) → o ≡ Some ss → AreSaidAs (kind_of_field f) ss) → items_followed_by_values_of_field [] f o ≡ Some items → AreItems items
 with_good f None items h e = absurd (cc (e))
 with_good f (Some ss) items h e = let same : map (field_with_value f) ss ≡ items = cc (e) in subst AreItems same (items_said f ss (h ss refl))
 
@@ -77,12 +77,12 @@ abbrev AreAllowed : List OptionValue → Type 0
 AreAllowed [] = Unit {0}
 AreAllowed (v ∷ vs) = (is_some (items_of_option v) ≡ true) × AreAllowed vs
 
-allowed : (too_long : Bool) (before told : List OptionValue) → place_of_first_offending_option too_long before told ≡ None → AreAllowed told
+allowed : (too_long : Bool) (before told : List OptionValue) → place_of_first_offending_option_after too_long before told ≡ None → AreAllowed told
 allowed too_long before [] e = tt
 allowed too_long before (v ∷ vs) e = by_offence (offends too_long before v) refl (allowed too_long (before ++ v ∷ []) vs) e
   where
-    by_offence : (b : Bool) → offends too_long before v ≡ b → (place_of_first_offending_option too_long (before ++ v ∷ []) vs ≡ None → AreAllowed vs)
-        → (if b then Some v.place else place_of_first_offending_option too_long (before ++ v ∷ []) vs) ≡ None → AreAllowed (v ∷ vs)
+    by_offence : (b : Bool) → offends too_long before v ≡ b → (place_of_first_offending_option_after too_long (before ++ v ∷ []) vs ≡ None → AreAllowed vs)
+        → (if b then Some v.place else place_of_first_offending_option_after too_long (before ++ v ∷ []) vs) ≡ None → AreAllowed (v ∷ vs)
     by_offence true is further k = absurd (cc (k))
     by_offence false is further k = (no_offence (is_some (items_of_option v)) _ is, further k)
 
@@ -104,7 +104,7 @@ among_first : (f : Field) (g : FieldText) (ss : List FieldValue) → is_same_fie
 among_first f g ss is (s, ts, e) = ap (λ (xs : List FieldValue). list_any (is_item_for f) (map (field_with_value g.field) xs)) e ∙ ap (λ b. b || list_any (is_item_for f) (map (field_with_value g.field) ts)) is
 
 among_given : (f : Field) (g : FieldText) (o : Option (List FieldValue)) → is_same_field g.field f ≡ true → ((ss : List FieldValue) → o ≡ Some ss → (s : FieldValue) × (ts : List FieldValue) × (ss ≡ s ∷ ts))
-    → is_some (items_with_values_of_field [] g.field o) ≡ true → list_any (is_item_for f) (unwrap_or (items_with_values_of_field [] g.field o) []) ≡ true
+    → is_some (items_followed_by_values_of_field [] g.field o) ≡ true → list_any (is_item_for f) (unwrap_or (items_followed_by_values_of_field [] g.field o) []) ≡ true
 among_given f g None is says some = absurd (cc (some))
 among_given f g (Some ss) is says some = among_first f g ss is (says ss refl)
 
@@ -147,10 +147,10 @@ information_by told None false behind items ok is e =
       version = among Fields.Version told version_says (ok refl) both.1;
     })
 
-pub information_good : (values : List OptionValue) (behind : ℕ) (items : List FieldWithValue) → information_of values behind ≡ Ok items → IsInformation items
-unfolding information_of
+pub information_good : (values : List OptionValue) (behind : ℕ) (items : List FieldWithValue) → information_of_options_before_place values behind ≡ Ok items → IsInformation items
+unfolding information_of_options_before_place
 information_good values behind items e =
-    information_by (values_of_info values) (place_of_first_offending_option (is_default_output_too_long values) [] (values_of_info values)) (lacks_name_or_version (values_of_info values)) behind items (λ k. allowed (is_default_output_too_long values) [] (values_of_info values) k) refl e
+    information_by (values_of_info_options values) (place_of_first_offending_option_after (is_default_output_too_long values) [] (values_of_info_options values)) (lacks_name_or_version (values_of_info_options values)) behind items (λ k. allowed (is_default_output_too_long values) [] (values_of_info_options values) k) refl e
 
 -- ---- what is found of a field
 
@@ -236,7 +236,7 @@ any_number place a free (need d) h = absurd h
 small_matching : (n : ℕ) → is_match_number n ≡ true → n < 2 ^ 64
 small_matching n e = let lt = ltb-true n 32 (and_parts (nat_lt n 32) _ e).0 in omega arith
 
-matching_good : (a : Surroundings) (o : Option ℕ) → is_match_number (unwrap_or o 0) ≡ true → IsGood number_shape 103 a (number_value o)
+matching_good : (a : Surroundings) (o : Option ℕ) → is_match_number (unwrap_or o 0) ≡ true → IsGood number_shape 103 a (number_or_null o)
 matching_good a None e = null_number 103 a e
 matching_good a (Some n) e = number_good 103 a n (small_matching n e) e
 
@@ -250,11 +250,11 @@ need_parts name version m d e = if_some _ _ d e
 
 need_good : Needs → (place : ℕ) (a : Surroundings) (d : Dependency) → IsNeed d → IsGood (shape_of (Obj Dep)) place a (dependency_object (dep_value d))
 unfolding shape_of is_allowed_text_of_field
-need_good needs place a d (part, is, if_untagged) =
+need_good needs place a d (part, is, dependency_if_untagged) =
     let v : DepValue = dep_value d in
-    let all = and_parts (is_dep_name v.name) (is_version_or_empty v.version && is_match_number (unwrap_or v.matching 0)) (need_parts v.name v.version (unwrap_or v.matching 0) d (needs.back d (needs.spelled part d is).0 if_untagged)) in
+    let all = and_parts (is_dep_name v.name) (is_version_or_empty v.version && is_match_number (unwrap_or v.matching 0)) (need_parts v.name v.version (unwrap_or v.matching 0) d (needs.back d (needs.spelled part d is).0 dependency_if_untagged)) in
     let both = and_parts (is_version_or_empty v.version) (is_match_number (unwrap_or v.matching 0)) all.1 in
-    let vs : Plains = more (blob_or_null v.name) (more (blob_or_null v.version) (more (number_value v.matching) none)) in
+    let vs : Plains = more (blob_or_null v.name) (more (blob_or_null v.version) (more (number_or_null v.matching) none)) in
     let inside : Surroundings = surroundings_of_fields 1 a (trimmed_object_or_null vs) in
     obj_good 1 (shapes_of (table Dep)) place a inside vs refl (text_good 101 inside v.name all.0, (text_good 102 inside v.version both.0, (matching_good inside v.matching both.1, tt)))
 
@@ -279,11 +279,11 @@ module _ (needs : Needs) (items : List FieldWithValue) (is : IsInformation items
       arr_good (shape_of (Obj Dep)) place a (plain_values_of_field f items)
       (values_good (IsGood (shape_of (Obj Dep)) place a) f items is.good (λ s h. a_need needs place a s (subst (λ (kind : Kind). IsSaidAs kind s) k h)))
 
-  pub info_good : (size : ℕ) → size < 2 ^ 64 → IsGood (shape_of (Obj PkgInfo)) 701 around_folder (information_value items size)
-  unfolding shape_of is_allowed_text_of_field information_value
+  pub info_good : (size : ℕ) → size < 2 ^ 64 → IsGood (shape_of (Obj PkgInfo)) 701 around_folder (information_value_with_installed_size items size)
+  unfolding shape_of is_allowed_text_of_field information_value_with_installed_size
   info_good size small =
-      let a : Surroundings = surroundings_of_fields 3 around_folder (trimmed_object_or_null (information_fields items size)) in
-      obj_good 3 (shapes_of (table PkgInfo)) 701 around_folder a (information_fields items size) refl (
+      let a : Surroundings = surroundings_of_fields 3 around_folder (trimmed_object_or_null (information_fields_with_installed_size items size)) in
+      obj_good 3 (shapes_of (table PkgInfo)) 701 around_folder a (information_fields_with_installed_size items size) refl (
         given_single (IsGood text_shape 301 a) Fields.Name items is.good is.name (name_good a),
         (
           given_single (IsGood text_shape 302 a) Fields.Version items is.good is.version (version_good a),
@@ -348,14 +348,14 @@ module _ (needs : Needs) (items : List FieldWithValue) (is : IsInformation items
         ),
       )
 
-  priority_by : (o : Option FieldWithValue) → IsFound Fields.ReplacesPriority o → IsGood number_shape 705 around_folder (number_value (option_and_then (λ (item : FieldWithValue). number_in item.value) o))
+  priority_by : (o : Option FieldWithValue) → IsFound Fields.ReplacesPriority o → IsGood number_shape 705 around_folder (number_or_null (option_and_then (λ (item : FieldWithValue). number_in item.value) o))
   priority_by None h = null_number 705 around_folder refl
   priority_by (Some item) h = by_said item.value h
     where
-      by_said : (s : FieldValue) → IsSaidAs Kinds.Number s → IsGood number_shape 705 around_folder (number_value (number_in s))
+      by_said : (s : FieldValue) → IsSaidAs Kinds.Number s → IsGood number_shape 705 around_folder (number_or_null (number_in s))
       by_said (text b) h = absurd h
       by_said (number n) h = number_good 705 around_folder n h refl
       by_said (need d) h = absurd h
 
-  pub priority_good : IsGood number_shape 705 around_folder (number_value (replaces_priority items))
+  pub priority_good : IsGood number_shape 705 around_folder (number_or_null (replaces_priority items))
   priority_good = priority_by (find (is_item_for Fields.ReplacesPriority) items) (found Fields.ReplacesPriority items is.good)

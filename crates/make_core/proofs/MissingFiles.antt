@@ -4,7 +4,7 @@ use Rattle.std.proofs.Common.{◌≡◌, ◌⊎◌, inl, inr, ℕ, ◌+◌, List
 use Rattle.make_index.specs.adb_fields.FirstPair.{IsIn}
 use Rattle.make_index.proofs.adb_fields.Members.{contains-from_in, from-map}
 use Rattle.adb_view.specs.Plain.{Plain}
-use Rattle.make_index.specs.adb_write.Canonical.{PayloadCounts}
+use Rattle.make_index.specs.adb_write.Canonical.{ByteAndValueCounts}
 use Rattle.command_core.specs.Command.{CommandLine}
 use Rattle.command_core.specs.Files.{without_dot_slash}
 use Rattle.command_core.specs.Values.{script_file, script_type}
@@ -129,7 +129,7 @@ abbrev IsMissing : Reads → CommandLine → List (List ℕ) → ℕ → Type 0
 IsMissing read command names place =
     IsPlaceOfScriptOptionWithoutFile read (values_of_letter SCRIPT command.values) place ⊎ IsPlaceOfFolderWithMissingFile read (values_of_letter FILES command.values) names place
 
-container_by : (o : Option PayloadCounts) (v : Plain) (contents : List Contents) (place : ℕ) → container_unless_too_large o v contents ≡ Err (FileMissing place) → ⊥
+container_by : (o : Option ByteAndValueCounts) (v : Plain) (contents : List Contents) (place : ℕ) → container_unless_too_large o v contents ≡ Err (FileMissing place) → ⊥
 container_by None v contents place e = cc (e)
 container_by (Some counts) v contents place e = cc (e)
 

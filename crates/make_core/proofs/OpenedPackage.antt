@@ -6,9 +6,9 @@ use Rattle.base_core.specs.declared.cause.Cause.{Cause}
 use Rattle.base_core.specs.declared.cause.Cause.TheVariants.{BlockOrder, Truncated}
 use Rattle.base_core.proofs.Causes.{first_none, second_none}
 use Rattle.adb_block.specs.Piece.{Piece, may_be_next_kind}
-use Rattle.adb_block.specs.Framing.{HeadFields, Step, ended, failed, block, block_head_fields, step_by_head, kind_of_number, step_by_order, step_by_size, next_step}
+use Rattle.adb_block.specs.Framing.{HeadFields, NextBlockResult, ended, failed, block, block_head_fields, next_block_result_by_header, kind_of_number, next_block_result_by_kind_order, next_block_result_by_size, next_block_result_at_offset}
 use Rattle.adb_block.specs.Header.{schema_of_header}
-use Rattle.adb_block.specs.Reading.{Reading, block_stream_from_offset, block_stream_from, block_stream_after_step}
+use Rattle.adb_block.specs.Reading.{Reading, bounded_block_stream_from_offset, block_stream_from, block_stream_after_result}
 use Rattle.adb_block.specs.declared.block.BlockKind.{BlockKind}
 use Rattle.adb_view.specs.Head.{payload_head_fault, root_word_of_payload}
 use Rattle.adb_view.specs.Plain.{Plain, null, IsNormal, Shape, plain_of}
@@ -18,7 +18,7 @@ use Rattle.adb_view.specs.Schema.{shape_of}
 use Rattle.adb_view.specs.Values.{value_at}
 use Rattle.adb_view.specs.Walk.{shape_fault}
 use Rattle.make_index.specs.adb_schema.Texts.{text_or_number_fault}
-use Rattle.make_index.specs.adb_schema.Soundness.{blocks_fault, file_fault_after_header, first_block_payload, payload_after_header, payload_fault, payload_in, root_value, schema_fault}
+use Rattle.make_index.specs.adb_schema.Soundness.{blocks_fault, file_fault_after_header, first_block_payload, payload_after_header, payload_fault, payload_in, root_value_of_payload, schema_fault}
 use Rattle.adb_view.specs.declared.tables.Which.TheVariants.{Package}
 use Rattle.adb_view.specs.declared.tables.Kind.TheVariants.{Obj}
 use Rattle.make_index.specs.pkg_core.Whole.{fault_of_further_blocks, package_fault, package_with_contents, container_fault_of_table}
@@ -34,7 +34,7 @@ AreBytes bytes = All (λ b. b < 256) bytes
 
 -- ---- the first block holds bytes of the file
 
-unfoldable IsFirst : Step → Type 0
+unfoldable IsFirst : NextBlockResult → Type 0
 IsFirst ended = ⊥
 IsFirst (failed c) = Unit {0}
 IsFirst (block b size) = AreBytes b.payload
@@ -47,25 +47,25 @@ block_first : (b : Piece) (size : ℕ) → AreBytes b.payload → IsFirst (block
 unfolding IsFirst
 block_first b size h = h
 
-either : (b : Bool) (x y : Step) → IsFirst x → IsFirst y → IsFirst (if b then x else y)
+either : (b : Bool) (x y : NextBlockResult) → IsFirst x → IsFirst y → IsFirst (if b then x else y)
 either true x y a c = a
 either false x y a c = c
 
-sized_first : (at : ℕ) (bytes : List ℕ) (head : HeadFields) (kind : BlockKind) → AreBytes bytes → IsFirst (step_by_size at bytes head kind)
+sized_first : (at : ℕ) (bytes : List ℕ) (head : HeadFields) (kind : BlockKind) → AreBytes bytes → IsFirst (next_block_result_by_size at bytes head kind)
 sized_first at bytes head kind h =
     either _ _ _ (failed_first (Truncated at)) (either _ _ _ (failed_first (Truncated at))
     (block_first _ _ (All-take (λ b. b < 256) (head.raw - head.len) (drop head.len bytes) (All-drop (λ b. b < 256) head.len bytes h))))
 
-ordered_first : (at : ℕ) (bytes : List ℕ) (head : HeadFields) (kind : Option BlockKind) → AreBytes bytes → IsFirst (step_by_order None at bytes head kind)
+ordered_first : (at : ℕ) (bytes : List ℕ) (head : HeadFields) (kind : Option BlockKind) → AreBytes bytes → IsFirst (next_block_result_by_kind_order None at bytes head kind)
 ordered_first at bytes head None h = failed_first (BlockOrder at)
 ordered_first at bytes head (Some kind) h = either (may_be_next_kind None kind) _ _ (sized_first at bytes head kind h) (failed_first (BlockOrder at))
 
-headed_first : (at : ℕ) (bytes : List ℕ) (head : Option HeadFields) → AreBytes bytes → IsFirst (step_by_head None at bytes head)
+headed_first : (at : ℕ) (bytes : List ℕ) (head : Option HeadFields) → AreBytes bytes → IsFirst (next_block_result_by_header None at bytes head)
 headed_first at bytes None h = failed_first (Truncated at)
 headed_first at bytes (Some head) h = ordered_first at bytes head (kind_of_number head.kind) h
 
-step_first : (at : ℕ) (bytes : List ℕ) → AreBytes bytes → IsFirst (next_step None at bytes)
-unfolding next_step
+step_first : (at : ℕ) (bytes : List ℕ) → AreBytes bytes → IsFirst (next_block_result_at_offset None at bytes)
+unfolding next_block_result_at_offset
 step_first at bytes h = either _ _ _ (failed_first (Truncated at)) (headed_first at bytes (block_head_fields bytes) h)
 
 -- ---- so its payload is good
@@ -73,16 +73,16 @@ step_first at bytes h = either _ _ _ (failed_first (Truncated at)) (headed_first
 abbrev IsPayload : List ℕ → Type 0
 IsPayload payload = AreBytes payload × (payload_fault Package payload ≡ None)
 
-first_passed : (at : ℕ) (further : Piece → ℕ → Reading) (s : Step) → IsFirst s → blocks_fault (fault_of_further_blocks Package) Package (block_stream_after_step at further s) ≡ None → IsPayload (first_block_payload (block_stream_after_step at further s))
+first_passed : (at : ℕ) (further : Piece → ℕ → Reading) (s : NextBlockResult) → IsFirst s → blocks_fault (fault_of_further_blocks Package) Package (block_stream_after_result at further s) ≡ None → IsPayload (first_block_payload (block_stream_after_result at further s))
 unfolding IsFirst
 first_passed at further ended f h = absurd f
 first_passed at further (failed c) f h = absurd cc
 first_passed at further (block b size) f h = (f, first_none (payload_fault Package b.payload) _ h)
 
 header_passed : (file : List ℕ) (h : Result ℕ Cause) → AreBytes file → file_fault_after_header (fault_of_further_blocks Package) Package file h ≡ None → IsPayload (payload_after_header file h)
-unfolding block_stream_from block_stream_from_offset
+unfolding block_stream_from bounded_block_stream_from_offset
 header_passed file (Ok schema) bytes e =
-    first_passed 8 _ (next_step None 8 (drop 8 file)) (step_first 8 (drop 8 file) (All-drop (λ b. b < 256) 8 file bytes)) (second_none (schema_fault Package schema) _ e)
+    first_passed 8 _ (next_block_result_at_offset None 8 (drop 8 file)) (step_first 8 (drop 8 file) (All-drop (λ b. b < 256) 8 file bytes)) (second_none (schema_fault Package schema) _ e)
 header_passed file (Err c) bytes e = absurd cc
 
 passed : (file : List ℕ) → AreBytes file → package_fault file ≡ None → IsPayload (payload_in file)
@@ -100,7 +100,7 @@ some_is : (o : Option Plain) → is_some o ≡ true → o ≡ Some (unwrap_or o 
 some_is (Some v) e = refl
 some_is None e = absurd cc
 
-value_opened : Values → (payload : List ℕ) → IsPayload payload → IsOpened (root_value Package payload)
+value_opened : Values → (payload : List ℕ) → IsPayload payload → IsOpened (root_value_of_payload Package payload)
 unfolding value_at
 value_opened laws payload p =
     let shape = second_none (payload_head_fault payload) _ p.1 in

@@ -17,7 +17,7 @@ use Rattle.adb_view.specs.declared.tables.Which.TheVariants.{Acl, File, Dir, Scr
 use Rattle.adb_view.specs.declared.tables.Kind.TheVariants.{Obj}
 use Rattle.command_core.specs.Values.{script_types}
 use Rattle.make_package.specs.package_files.Package.{Source, SourceFolder, Script, access_value, kind_of_file, value_of_kind, value_of_file, value_of_folder, hash_of_kind, is_link_file, link_text, value_of_package, script_bytes_of_field, value_of_scripts, size_of_kind, target_of_kind}
-use Rattle.make_index.specs.make_info.Values.{number_value, plains_of_list, size_value}
+use Rattle.make_index.specs.make_info.Values.{number_or_null, plains_of_list, size_or_null_if_zero}
 use Rattle.make_package.specs.package_files.declared.file.FileKind.{FileKind}
 use Rattle.make_package.specs.package_files.declared.file.FileKind.TheVariants.{Link, Regular}
 use Rattle.adb_view.proofs.ValueEntries.{entries_arr, nth_obj, text_blob}
@@ -65,16 +65,16 @@ good_kind bytes = by_link (is_link_file bytes) refl
 
 -- ---- numbers, and rights
 
-size-suc : (n : ℕ) → size_value (suc n) ≡ int (suc n)
+size-suc : (n : ℕ) → size_or_null_if_zero (suc n) ≡ int (suc n)
 size-suc n =
     let e : eqb (suc n) 0 ≡ false = ne_eqb (suc n) 0 (omega arith) in
     rw e refl
 
-pub int-size_value : (n : ℕ) → int_in (size_value n) ≡ n
-int-size_value zero = refl
-int-size_value (suc n) = ap int_in (size-suc n)
+pub int-size_or_null_if_zero : (n : ℕ) → int_in (size_or_null_if_zero n) ≡ n
+int-size_or_null_if_zero zero = refl
+int-size_or_null_if_zero (suc n) = ap int_in (size-suc n)
 
-pub size_good : (place : ℕ) (around : Surroundings) (n : ℕ) → n < 2 ^ 64 → ((k : ℕ) → is_allowed_number_of_field place k ≡ true) → IsGood number place around (size_value n)
+pub size_good : (place : ℕ) (around : Surroundings) (n : ℕ) → n < 2 ^ 64 → ((k : ℕ) → is_allowed_number_of_field place k ≡ true) → IsGood number place around (size_or_null_if_zero n)
 size_good place around zero small free = null_number place around (free 0)
 size_good place around (suc n) small free = subst (IsGood number place around) (sym (size-suc n)) (number_good place around (suc n) small (free (suc n)))
 
@@ -101,14 +101,14 @@ around_file folder kind = record { root = Package; folder = folder; has_contents
 
 abbrev file_fields : List ℕ → FileKind → Plains
 file_fields name kind =
-    more (blob_or_null name) (more (access_value 420) (more (size_value (size_of_kind kind)) (more null
+    more (blob_or_null name) (more (access_value 420) (more (size_or_null_if_zero (size_of_kind kind)) (more null
     (more (blob_or_null (hash_of_kind kind)) (more (blob_or_null (target_of_kind kind)) none)))))
 
 pub name_stands : (name : List ℕ) (kind : FileKind) → text_in (entry_in (value_of_kind name kind) 0) ≡ name
 name_stands name kind = ap text_in (nth_obj (file_fields name kind) 0) ∙ text_blob name
 
 pub size_stands : (name : List ℕ) (kind : FileKind) → int_in (entry_in (value_of_kind name kind) 2) ≡ size_of_kind kind
-size_stands name kind = ap int_in (nth_obj (file_fields name kind) 2) ∙ int-size_value (size_of_kind kind)
+size_stands name kind = ap int_in (nth_obj (file_fields name kind) 2) ∙ int-size_or_null_if_zero (size_of_kind kind)
 
 pub hash_stands : (name : List ℕ) (kind : FileKind) → text_in (entry_in (value_of_kind name kind) 4) ≡ hash_of_kind kind
 hash_stands name kind = ap text_in (nth_obj (file_fields name kind) 4) ∙ text_blob (hash_of_kind kind)
@@ -246,10 +246,10 @@ triggers_good (t ∷ ts) = (text_good 704 around_folder t refl, triggers_good ts
 abbrev package_fields : Plain → List SourceFolder → List Script → List (List ℕ) → Option ℕ → Plains
 package_fields info folders scripts triggers priority =
     more info (more (array_or_null (plains_of_list (map value_of_folder folders))) (more (value_of_scripts scripts)
-    (more (array_or_null (plains_of_list (map blob_or_null triggers))) (more (number_value priority) none))))
+    (more (array_or_null (plains_of_list (map blob_or_null triggers))) (more (number_or_null priority) none))))
 
 pub package_value_good : (info : Plain) (folders : List SourceFolder) (scripts : List Script) (triggers : List (List ℕ)) (priority : Option ℕ)
-    → IsGood (shape_of (Obj PkgInfo)) 701 around_folder info → AreGoodFolders folders → IsGood number 705 around_folder (number_value priority)
+    → IsGood (shape_of (Obj PkgInfo)) 701 around_folder info → AreGoodFolders folders → IsGood number 705 around_folder (number_or_null priority)
     → IsGood (shape_of (Obj Package)) 0 (surroundings_of_root Package) (value_of_package info folders scripts triggers priority)
 unfolding shape_of
 package_value_good info folders scripts triggers priority about named number_good =

@@ -13,7 +13,7 @@ use Rattle.base_core.specs.Listed.{AreSortedNamesBelowFolder}
 use Rattle.make_index.specs.adb_fields.FirstPair.{IsIn}
 use Rattle.make_index.specs.adb_fields.Paths.{path_of}
 use Rattle.make_index.specs.adb_fields.Repeated.{files_in, folders_in, name_of, paths_of_folder_files}
-use Rattle.make_index.specs.adb_schema.Soundness.{payload_in, root_value}
+use Rattle.make_index.specs.adb_schema.Soundness.{payload_in, root_value_of_payload}
 use Rattle.adb_view.specs.declared.tables.Which.TheVariants.{Package}
 use Rattle.adb_view.specs.Plain.{Plain}
 use Rattle.command_core.specs.Command.{CommandLine}
@@ -170,12 +170,12 @@ read_below law files place n dir names sources pkg all e is =
 
 pub made_below : OneFolder → Holds IsReadBack → Sizes → Exact → Needs → Tells → (command : CommandLine) (names : List (List ℕ)) (files : Files) (bytes : List ℕ) (folder : OptionValue) (others : List OptionValue)
     → values_of_letter FILES command.values ≡ folder ∷ others → AreSortedNamesBelowFolder (without_dot_slash folder.text) names → made_package command names (λ n name. files name) ≡ Ok bytes → length bytes < 2 ^ 64
-    → HasJustNamedFilesBelowFolder files (without_dot_slash folder.text) names (root_value Package (payload_in bytes))
+    → HasJustNamedFilesBelowFolder files (without_dot_slash folder.text) names (root_value_of_payload Package (payload_in bytes))
 made_below law holds sizes exact needs tells command names files bytes folder others given below e short =
     let named : AreNamesBelowFirstFolder (values_of_letter FILES command.values) names = subst (λ (l : List OptionValue). AreNamesBelowFirstFolder l names) (sym given) below in
     let made = made_of IsReadBack holds sizes exact needs tells command names (λ n name. files name) bytes named e short in
     let read : source_folders_of_first_option (λ n name. files name) (length made.scripts) (folder ∷ others) names ≡ Ok made.sources =
     ap (λ (l : List OptionValue). source_folders_of_first_option (λ n name. files name) (length made.scripts) l names) (sym given) ∙ made.sources_read in
     let value = ap (λ (p : PackageWithContents). p.value) made.holds in
-    read_below law files folder.place (length made.scripts) (without_dot_slash folder.text) names made.sources (root_value Package (payload_in bytes)) (are_listed (without_dot_slash folder.text) names below.each) read
+    read_below law files folder.place (length made.scripts) (without_dot_slash folder.text) names made.sources (root_value_of_payload Package (payload_in bytes)) (are_listed (without_dot_slash folder.text) names below.each) read
     (ap folders_in value ∙ folders_stand _ made.sources made.scripts (texts_of (values_of_letter TRIGGER command.values)) (replaces_priority made.items))

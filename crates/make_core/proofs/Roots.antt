@@ -8,7 +8,7 @@ use Rattle.make_index.specs.adb_schema.Texts.{surroundings_of_root}
 use Rattle.make_index.specs.adb_fields.Repeated.{repeated_fault}
 use Rattle.adb_view.specs.declared.tables.Which.{Which}
 use Rattle.adb_view.specs.declared.tables.Kind.TheVariants.{Obj}
-use Rattle.make_index.specs.adb_write.Canonical.{PayloadCounts, canonical, or_overflow, overflow_of, exceeds_a_limit, payload_or_overflow, MOST_BYTES, MOST_VALUES}
+use Rattle.make_index.specs.adb_write.Canonical.{ByteAndValueCounts, canonical, payload_unless_overflow, overflow_of, exceeds_a_limit, payload_or_overflow, MOST_BYTES, MOST_VALUES}
 use Rattle.make_index.specs.adb_write.Size.{payload_size_of, value_count}
 use Rattle.make_package.specs.adb_sound.Root.{IsValidRootValueOfTable}
 use Rattle.make_core.proofs.GoodValues.{IsGood}
@@ -17,7 +17,7 @@ pub record IsWritten (v : Plain) (payload : List ℕ) : Type 0 where
   pub none : overflow_of v ≡ None
   pub is : canonical v ≡ payload
 
-written_by : (v : Plain) (payload : List ℕ) (o : Option PayloadCounts) → overflow_of v ≡ o → or_overflow (canonical v) o ≡ Ok payload → IsWritten v payload
+written_by : (v : Plain) (payload : List ℕ) (o : Option ByteAndValueCounts) → overflow_of v ≡ o → payload_unless_overflow (canonical v) o ≡ Ok payload → IsWritten v payload
 written_by v payload None e h = record { none = e; is = cc (h) }
 written_by v payload (Some c) e h = absurd (cc (h))
 

@@ -13,7 +13,7 @@ use Rattle.make_index.specs.make_info.declared.field.Field.{Field}
 use Rattle.make_index.specs.make_info.declared.field.Field.TheVariants as Fields
 use Rattle.make_index.specs.make_info.declared.field.Kind.{Kind}
 use Rattle.make_index.specs.make_info.declared.field.Kind.TheVariants as Kinds
-use Rattle.make_index.specs.make_info.Fields.{FieldValue, text, number, need, values_of_hex_digits, field_word, fields, kind_of_field, field_among, untagged_dependency_in, dependency_values_in, decimal_number, nonempty_parts, values_by_kind, text_value_if, text_values, dependency_value_and_others, if_untagged}
+use Rattle.make_index.specs.make_info.Fields.{FieldValue, text, number, need, field_values_of_decoded_hex, field_word, fields, kind_of_field, field_among, untagged_dependency_in, dependency_values_in, decimal_number, nonempty_parts_between_spaces, values_by_kind, text_value_if, text_values, dependency_value_and_others, dependency_if_untagged}
 use Rattle.command_core.specs.Operands.{is_decimal}
 use Rattle.make_index.specs.make_info.FieldTexts.{is_same_field}
 
@@ -86,7 +86,7 @@ text_said : (k : Kind) (b : Bool) (value : List ℕ) (ss : List FieldValue) → 
 text_said k true value ss h e = let same : text value ∷ [] ≡ ss = cc (e) in subst (AreSaidAs k) same (h refl, tt)
 text_said k false value ss h e = absurd (cc (e))
 
-bytes_are_said : (r : Result (List ℕ) FromHexError) (ss : List FieldValue) → values_of_hex_digits r ≡ Some ss → AreSaidAs Kinds.HexDigits ss
+bytes_are_said : (r : Result (List ℕ) FromHexError) (ss : List FieldValue) → field_values_of_decoded_hex r ≡ Some ss → AreSaidAs Kinds.HexDigits ss
 bytes_are_said (Ok bytes) ss e = let same : text bytes ∷ [] ≡ ss = cc (e) in subst (AreSaidAs Kinds.HexDigits) same (tt, tt)
 bytes_are_said (Err f) ss e = absurd (cc (e))
 
@@ -102,14 +102,14 @@ small_if a m n = by_test a (nat_lt m (2 ^ 64)) refl
     by_test true false lt e = absurd (cc (e))
     by_test false b lt e = absurd (cc (e))
 
-untagged_is : (d e : Dependency) → if_untagged d ≡ Some e → (d ≡ e) × (e.tag ≡ None)
+untagged_is : (d e : Dependency) → dependency_if_untagged d ≡ Some e → (d ≡ e) × (e.tag ≡ None)
 untagged_is d e h = by_tag d.tag refl h
   where
     by_tag : (o : Option (List ℕ)) → d.tag ≡ o → (if is_some o then None else Some d) ≡ Some e → (d ≡ e) × (e.tag ≡ None)
     by_tag None is k = let same : d ≡ e = cc (k) in (same, ap (λ (x : Dependency). x.tag) (sym same) ∙ is)
     by_tag (Some t) is k = absurd (cc (k))
 
-need_by : (part : List ℕ) (o : Option Dependency) (d : Dependency) → dependency_of part ≡ o → option_and_then if_untagged o ≡ Some d → IsNeed d
+need_by : (part : List ℕ) (o : Option Dependency) (d : Dependency) → dependency_of part ≡ o → option_and_then dependency_if_untagged o ≡ Some d → IsNeed d
 need_by part None d is e = absurd (cc (e))
 need_by part (Some x) d is e = let both = untagged_is x d e in (part, is ∙ ap Some both.0, both.1)
 
@@ -134,5 +134,5 @@ said_good Kinds.PackageVersion value ss e = text_said Kinds.PackageVersion (is_v
 said_good Kinds.AnyText value ss e = text_said Kinds.AnyText true value ss (λ h. tt) e
 said_good Kinds.HexDigits value ss e = bytes_are_said (decode_of value) ss e
 said_good Kinds.Number value ss e = number_is_said (decimal_number value) ss (λ n is. small_if (is_decimal value) (digits_value 10 value) n is) e
-said_good Kinds.Dependencies value ss e = needs_said (nonempty_parts value) ss e
-said_good Kinds.Texts value ss e = let same : text_values (nonempty_parts value) ≡ ss = cc (e) in subst (AreSaidAs Kinds.Texts) same (texts_said (nonempty_parts value))
+said_good Kinds.Dependencies value ss e = needs_said (nonempty_parts_between_spaces value) ss e
+said_good Kinds.Texts value ss e = let same : text_values (nonempty_parts_between_spaces value) ≡ ss = cc (e) in subst (AreSaidAs Kinds.Texts) same (texts_said (nonempty_parts_between_spaces value))

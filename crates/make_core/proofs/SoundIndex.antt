@@ -10,23 +10,23 @@ use Rattle.adb_view.specs.Shaped.{Each}
 use Rattle.adb_view.specs.Schema.{shape_of, shapes_of, table}
 use Rattle.make_index.specs.adb_schema.Texts.{Surroundings, surroundings_of_fields, surroundings_of_root, is_allowed_text_of_field}
 use Rattle.make_index.specs.adb_fields.Repeated.{repeated_fault}
-use Rattle.make_index.specs.adb_schema.Soundness.{payload_in, root_value, schema_word}
+use Rattle.make_index.specs.adb_schema.Soundness.{payload_in, root_value_of_payload, schema_word}
 use Rattle.adb_view.specs.declared.tables.Which.TheVariants.{Package, PkgInfo, Index}
 use Rattle.adb_view.specs.declared.tables.Kind.TheVariants.{Obj}
 use Rattle.make_index.specs.adb_schema.declared.read.TheConstants.{INDEX_WORD}
-use Rattle.make_index.specs.adb_write.Canonical.{PayloadCounts, payload_or_overflow, canonical}
+use Rattle.make_index.specs.adb_write.Canonical.{ByteAndValueCounts, payload_or_overflow, canonical}
 use Rattle.make_index.specs.adb_write.File.{file_of}
 use Rattle.make_index.specs.pkg_core.Whole.{container_fault, package_fault}
 use Rattle.command_core.specs.Files.{without_dot_slash}
 use Rattle.command_core.specs.declared.operands.Operand.{Operand}
-use Rattle.make_index.specs.Index.{entry_before_others_or_fault, found_entries, found_entry, index_container, index_of_entries, index_of_entries_or_fault, value_of_index, entry_unless_fault, description_in, made_index}
+use Rattle.make_index.specs.Index.{entry_before_others_or_fault, found_entries, found_entry, index_container, index_of_entries, index_of_entries_or_fault, value_of_index, entry_unless_fault, first_description_or_empty, made_index}
 use Rattle.make_index.specs.make_info.Values.{plains_of_list}
 use Rattle.command_core.specs.Command.{CommandLine}
-use Rattle.make_index.specs.Entries.{entry_of_package}
-use Rattle.make_index.specs.EntryOrder.{entry_cmp}
+use Rattle.make_index.specs.Entries.{index_entry_of_package_file}
+use Rattle.make_index.specs.EntryOrder.{index_entry_cmp}
 use Rattle.base_core.specs.Sorted.{sorted_by, with_element_inserted}
 use Rattle.base_core.specs.Files.{AreFileBytes}
-use Rattle.make_index.specs.Files.{AreOperandReadsFileBytes}
+use Rattle.make_index.specs.Files.{OperandReadsFindOnlyValidFileBytes}
 use Rattle.make_package.specs.adb_sound.Root.{IsValidRootValueOfTable}
 use Rattle.make_index.specs.make_info.declared.fault.MakeFault.{MakeFault}
 use Rattle.make_core.specs.ReadBack.{index_value_of_command, index_value_of_entries}
@@ -58,7 +58,7 @@ IsEntry around v = IsGood (shape_of (Obj PkgInfo)) 802 around v
 tested_good : Values → (place : ℕ) (around : Surroundings) (file : List ℕ) (v : Plain) (o : Option Cause) → All (λ b. b < 256) file → length file < 2 ^ 64 → around.root ≡ Index
     → package_fault file ≡ o → entry_unless_fault place file o ≡ Ok v → IsEntry around v
 tested_good laws place around file v None bytes small root is e =
-    let same : entry_of_package file ≡ v = cc (e) in
+    let same : index_entry_of_package_file file ≡ v = cc (e) in
     subst (IsEntry around) same (entry_good laws file 802 around bytes small root is)
 tested_good laws place around file v (Some c) bytes small root is e = absurd (cc (e))
 
@@ -77,7 +77,7 @@ entries_by around (Ok v) (Ok vs) entries e a b =
     let same : v ∷ vs ≡ entries = cc (e) in
     subst (λ us. Each (IsEntry around) (plains_of_list us)) same (a v refl, b vs refl)
 
-entries_good : Values → (around : Surroundings) (read : ℕ → List ℕ → Option (List ℕ)) (n : ℕ) (operands : List Operand) (entries : List Plain) → AreOperandReadsFileBytes read n operands → around.root ≡ Index
+entries_good : Values → (around : Surroundings) (read : ℕ → List ℕ → Option (List ℕ)) (n : ℕ) (operands : List Operand) (entries : List Plain) → OperandReadsFindOnlyValidFileBytes read n operands → around.root ≡ Index
     → found_entries read n operands ≡ Ok entries → Each (IsEntry around) (plains_of_list entries)
 entries_good laws around read n [] entries files root e =
     let same : [] ≡ entries = cc (e) in
@@ -114,7 +114,7 @@ module _ (P : Plain → List ℕ → Type 0) where
   abbrev pub Holds : Type 0
   Holds = (v : Plain) → IsValidRootValueOfTable Index v → P v (file_of INDEX_WORD (canonical v))
 
-  file_holds : Holds → Exact → (v : Plain) (r : Result (List ℕ) PayloadCounts) (bytes : List ℕ) → IsGood (shape_of (Obj Index)) 0 (surroundings_of_root Index) v → payload_or_overflow v ≡ r → index_container r ≡ Ok bytes → P v bytes
+  file_holds : Holds → Exact → (v : Plain) (r : Result (List ℕ) ByteAndValueCounts) (bytes : List ℕ) → IsGood (shape_of (Obj Index)) 0 (surroundings_of_root Index) v → payload_or_overflow v ≡ r → index_container r ≡ Ok bytes → P v bytes
   file_holds holds exact v (Err c) bytes g w e = absurd (cc (e))
   file_holds holds exact v (Ok payload) bytes g w e =
       let is = written v payload w in
@@ -127,29 +127,29 @@ module _ (P : Plain → List ℕ → Type 0) where
   unfolding index_of_entries
   found_holds holds exact description (Err f) bytes each e = absurd (cc (e))
   found_holds holds exact description (Ok entries) bytes each e =
-      let v : Plain = value_of_index description (sorted_by entry_cmp entries) in
-      (v, refl, file_holds holds exact v (payload_or_overflow v) bytes (index_good description (sorted_by entry_cmp entries) (λ around root. each_in_order (IsEntry around) entry_cmp entries (each entries around refl root))) refl e)
+      let v : Plain = value_of_index description (sorted_by index_entry_cmp entries) in
+      (v, refl, file_holds holds exact v (payload_or_overflow v) bytes (index_good description (sorted_by index_entry_cmp entries) (λ around root. each_in_order (IsEntry around) index_entry_cmp entries (each entries around refl root))) refl e)
 
   -- of a command
-  made_holds : Holds → Exact → Values → (command : CommandLine) (read : ℕ → List ℕ → Option (List ℕ)) (bytes : List ℕ) → AreOperandReadsFileBytes read 0 command.operands → made_index command read ≡ Ok bytes
+  made_holds : Holds → Exact → Values → (command : CommandLine) (read : ℕ → List ℕ → Option (List ℕ)) (bytes : List ℕ) → OperandReadsFindOnlyValidFileBytes read 0 command.operands → made_index command read ≡ Ok bytes
       → (v : Plain) × (index_value_of_command command read ≡ Ok v) × P v bytes
   unfolding made_index
   made_holds holds exact values command read bytes files e =
-      found_holds holds exact (description_in command.values) (found_entries read 0 command.operands) bytes (λ entries around is root. entries_good values around read 0 command.operands entries files root is) e
+      found_holds holds exact (first_description_or_empty command.values) (found_entries read 0 command.operands) bytes (λ entries around is root. entries_good values around read 0 command.operands entries files root is) e
 
 -- a container of a good value is sound, and so is an index that is made
 abbrev pub Sound : Type 0
 Sound = (which : Which) (schema : ℕ) (v : Plain) → schema_word which ≡ Some schema → which ≢ Package → IsValidRootValueOfTable which v → container_fault (file_of schema (canonical v)) ≡ None
 
-pub made_sound : Sound → Exact → Values → (command : CommandLine) (read : ℕ → List ℕ → Option (List ℕ)) (bytes : List ℕ) → AreOperandReadsFileBytes read 0 command.operands → made_index command read ≡ Ok bytes → container_fault bytes ≡ None
+pub made_sound : Sound → Exact → Values → (command : CommandLine) (read : ℕ → List ℕ → Option (List ℕ)) (bytes : List ℕ) → OperandReadsFindOnlyValidFileBytes read 0 command.operands → made_index command read ≡ Ok bytes → container_fault bytes ≡ None
 made_sound sound exact values command read bytes files e =
     (made_holds (λ v file. container_fault file ≡ None) (λ v root. sound Index INDEX_WORD v refl not_package root) exact values command read bytes files e).2
 
 -- its value is read back, and so is that of an index that is made
 abbrev pub Back : Type 0
-Back = (which : Which) (schema : ℕ) (v : Plain) → schema_word which ≡ Some schema → IsValidRootValueOfTable which v → root_value which (payload_in (file_of schema (canonical v))) ≡ v
+Back = (which : Which) (schema : ℕ) (v : Plain) → schema_word which ≡ Some schema → IsValidRootValueOfTable which v → root_value_of_payload which (payload_in (file_of schema (canonical v))) ≡ v
 
-pub made_back : Back → Exact → Values → (command : CommandLine) (read : ℕ → List ℕ → Option (List ℕ)) (bytes : List ℕ) → AreOperandReadsFileBytes read 0 command.operands → made_index command read ≡ Ok bytes → index_value_of_command command read ≡ Ok (root_value Index (payload_in bytes))
+pub made_back : Back → Exact → Values → (command : CommandLine) (read : ℕ → List ℕ → Option (List ℕ)) (bytes : List ℕ) → OperandReadsFindOnlyValidFileBytes read 0 command.operands → made_index command read ≡ Ok bytes → index_value_of_command command read ≡ Ok (root_value_of_payload Index (payload_in bytes))
 made_back back exact values command read bytes files e =
-    let made = made_holds (λ v file. root_value Index (payload_in file) ≡ v) (λ v root. back Index INDEX_WORD v refl root) exact values command read bytes files e in
+    let made = made_holds (λ v file. root_value_of_payload Index (payload_in file) ≡ v) (λ v root. back Index INDEX_WORD v refl root) exact values command read bytes files e in
     made.1 ∙ ap Ok (sym made.2)

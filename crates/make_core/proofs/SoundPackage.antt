@@ -7,15 +7,15 @@ use Rattle.base_core.specs.Listed.{IsValidNameBelowFolder}
 use Rattle.adb_view.specs.Plain.{Plain}
 use Rattle.make_index.specs.adb_schema.declared.read.TheConstants.{PACKAGE_WORD}
 use Rattle.adb_view.specs.declared.tables.Which.TheVariants.{Package}
-use Rattle.make_index.specs.adb_write.Canonical.{PayloadCounts, canonical, overflow_of}
+use Rattle.make_index.specs.adb_write.Canonical.{ByteAndValueCounts, canonical, overflow_of}
 use Rattle.make_index.specs.pkg_core.Contents.{Contents, expected_files_of_package}
-use Rattle.make_index.specs.pkg_core.GoodContents.{AreContentsOf}
+use Rattle.make_index.specs.pkg_core.GoodContents.{AreContentsOfExpectedFiles}
 use Rattle.make_index.specs.pkg_core.Whole.{container_fault, package_with_contents}
 use Rattle.command_core.specs.Command.{CommandLine}
 use Rattle.command_core.specs.Files.{without_dot_slash}
 use Rattle.command_core.specs.declared.values.OptionValue.{OptionValue}
-use Rattle.make_index.specs.make_info.Information.{FieldWithValue, information_value, information, replaces_priority}
-use Rattle.make_package.specs.adb_sound.Contents.{contents_size}
+use Rattle.make_index.specs.make_info.Information.{FieldWithValue, information_value_with_installed_size, information, replaces_priority}
+use Rattle.make_package.specs.adb_sound.Contents.{total_size_of_file_contents}
 use Rattle.make_package.specs.adb_sound.Container.{container_of_value_and_contents, package_with_contents_from_parts}
 use Rattle.make_package.specs.Making.{container_unless_too_large, made_package, or_info_bad, package_container, package_of_parts}
 use Rattle.make_package.specs.package_files.Package.{Script, SourceFolder, contents_of_folders, installed_size, value_of_package}
@@ -27,30 +27,30 @@ use Rattle.make_core.proofs.InformationGood.{IsInformation, Needs, info_good, in
 use Rattle.make_core.proofs.ListedNames.{AreListed, AreSources, after_ok, folders_sized, sources_good}
 use Rattle.make_core.proofs.PackageContents.{package_contents}
 use Rattle.make_core.proofs.PackageFiles.{package_value_good}
-use Rattle.make_core.specs.ReadBack.{packed_of_parts, packed_package}
+use Rattle.make_core.specs.ReadBack.{packed_of_parts, package_with_contents_of_command}
 use Rattle.make_core.proofs.Roots.{root_good, Exact}
 
 -- what the layers below say of sizes
 pub record Sizes : Type 0 where
-  pub installed : (i : ℕ) (folders : List SourceFolder) → installed_size folders ≡ contents_size (contents_of_folders i folders)
-  pub container : (schema : ℕ) (v : Plain) (contents : List Contents) → length (container_of_value_and_contents schema v contents) < 2 ^ 64 → contents_size contents < 2 ^ 64
+  pub installed : (i : ℕ) (folders : List SourceFolder) → installed_size folders ≡ total_size_of_file_contents (contents_of_folders i folders)
+  pub container : (schema : ℕ) (v : Plain) (contents : List Contents) → length (container_of_value_and_contents schema v contents) < 2 ^ 64 → total_size_of_file_contents contents < 2 ^ 64
 
 -- ---- of its parts
 
 -- what holds of the value, of the contents and of the container of each good package
 module _ (P : Plain → List Contents → List ℕ → Type 0) where
   abbrev pub Holds : Type 0
-  Holds = (v : Plain) (contents : List Contents) → IsValidRootValueOfTable Package v → AreContentsOf (expected_files_of_package v) contents → length (container_of_value_and_contents PACKAGE_WORD v contents) < 2 ^ 64 → P v contents (container_of_value_and_contents PACKAGE_WORD v contents)
+  Holds = (v : Plain) (contents : List Contents) → IsValidRootValueOfTable Package v → AreContentsOfExpectedFiles (expected_files_of_package v) contents → length (container_of_value_and_contents PACKAGE_WORD v contents) < 2 ^ 64 → P v contents (container_of_value_and_contents PACKAGE_WORD v contents)
 
   value_holds : Holds → Sizes → Exact → Needs → Tells → (items : List FieldWithValue) (sources : List SourceFolder) (scripts : List Script) (triggers : List (List ℕ)) → IsInformation items → AreSources sources
-      → (v : Plain) → v ≡ value_of_package (information_value items (installed_size sources)) sources scripts triggers (replaces_priority items)
+      → (v : Plain) → v ≡ value_of_package (information_value_with_installed_size items (installed_size sources)) sources scripts triggers (replaces_priority items)
       → overflow_of v ≡ None → length (container_of_value_and_contents PACKAGE_WORD v (contents_of_folders 1 sources)) < 2 ^ 64 → P v (contents_of_folders 1 sources) (container_of_value_and_contents PACKAGE_WORD v (contents_of_folders 1 sources))
   value_holds holds sizes exact needs tells items sources scripts triggers about are v is fits short =
       let contents : List Contents = contents_of_folders 1 sources in
       let bound = sizes.container PACKAGE_WORD v contents short in
       let sum = sizes.installed 1 sources in
       let small : installed_size sources < 2 ^ 64 = omega arith in
-      let info : Plain = information_value items (installed_size sources) in
+      let info : Plain = information_value_with_installed_size items (installed_size sources) in
       let priority : Option ℕ = replaces_priority items in
       let good = package_value_good info sources scripts triggers priority (info_good needs items about (installed_size sources) small) (folders_sized sources are.named small) (priority_good needs items about) in
       let once = package_once info sources scripts triggers priority tells are.apart are.files_apart in
@@ -59,7 +59,7 @@ module _ (P : Plain → List Contents → List ℕ → Type 0) where
       let whole = holds made contents root (package_contents info sources scripts triggers priority) (subst (λ (u : Plain). length (container_of_value_and_contents PACKAGE_WORD u contents) < 2 ^ 64) is short) in
       subst (λ (u : Plain). P u contents (container_of_value_and_contents PACKAGE_WORD u contents)) (sym is) whole
 
-  file_holds : (v : Plain) (contents : List Contents) (o : Option PayloadCounts) (bytes : List ℕ) → overflow_of v ≡ o → length bytes < 2 ^ 64
+  file_holds : (v : Plain) (contents : List Contents) (o : Option ByteAndValueCounts) (bytes : List ℕ) → overflow_of v ≡ o → length bytes < 2 ^ 64
       → (overflow_of v ≡ None → length (container_of_value_and_contents PACKAGE_WORD v contents) < 2 ^ 64 → P v contents (container_of_value_and_contents PACKAGE_WORD v contents)) → container_unless_too_large o v contents ≡ Ok bytes → P v contents bytes
   file_holds v contents (Some counts) bytes is short holds e = absurd (cc (e))
   file_holds v contents None bytes is short holds e =
@@ -68,11 +68,11 @@ module _ (P : Plain → List Contents → List ℕ → Type 0) where
 
   package_holds : Holds → Sizes → Exact → Needs → Tells → (command : CommandLine) (scripts : List Script) (items : List FieldWithValue) (sources : List SourceFolder) (bytes : List ℕ) → IsInformation items → AreSources sources
       → length bytes < 2 ^ 64 → package_of_parts command scripts items sources ≡ Ok bytes
-      → P (value_of_package (information_value items (installed_size sources)) sources scripts (texts_of (values_of_letter TRIGGER command.values)) (replaces_priority items)) (contents_of_folders 1 sources) bytes
+      → P (value_of_package (information_value_with_installed_size items (installed_size sources)) sources scripts (texts_of (values_of_letter TRIGGER command.values)) (replaces_priority items)) (contents_of_folders 1 sources) bytes
   unfolding package_container
   package_holds holds sizes exact needs tells command scripts items sources bytes about are short e =
       let triggers : List (List ℕ) = texts_of (values_of_letter TRIGGER command.values) in
-      let v : Plain = value_of_package (information_value items (installed_size sources)) sources scripts triggers (replaces_priority items) in
+      let v : Plain = value_of_package (information_value_with_installed_size items (installed_size sources)) sources scripts triggers (replaces_priority items) in
       file_holds v (contents_of_folders 1 sources) (overflow_of v) bytes refl short (value_holds holds sizes exact needs tells items sources scripts triggers about are v refl) e
 
 -- ---- of a command
@@ -102,7 +102,7 @@ pub record IsMadeOf (P : Plain → List Contents → List ℕ → Type 0) (comma
   pub scripts_read : scripts_from_read read 0 (values_of_letter SCRIPT command.values) ≡ Ok scripts
   pub items_read : or_info_bad (information command) ≡ Ok items
   pub sources_read : source_folders_of_first_option read (length scripts) (values_of_letter FILES command.values) names ≡ Ok sources
-  pub holds : P (value_of_package (information_value items (installed_size sources)) sources scripts (texts_of (values_of_letter TRIGGER command.values)) (replaces_priority items)) (contents_of_folders 1 sources) bytes
+  pub holds : P (value_of_package (information_value_with_installed_size items (installed_size sources)) sources scripts (texts_of (values_of_letter TRIGGER command.values)) (replaces_priority items)) (contents_of_folders 1 sources) bytes
 
 pub made_of : (P : Plain → List Contents → List ℕ → Type 0) → Holds P → Sizes → Exact → Needs → Tells → (command : CommandLine) (names : List (List ℕ)) (read : Reads) (bytes : List ℕ) → AreNamesBelowFirstFolder (values_of_letter FILES command.values) names
     → made_package command names read ≡ Ok bytes → length bytes < 2 ^ 64 → IsMadeOf P command names read bytes
@@ -141,7 +141,7 @@ abbrev pub IsReadBack : Plain → List Contents → List ℕ → Type 0
 IsReadBack v contents bytes = package_with_contents bytes ≡ package_with_contents_from_parts v contents
 
 pub made_back : Holds IsReadBack → Sizes → Exact → Needs → Tells → (command : CommandLine) (names : List (List ℕ)) (read : Reads) (bytes : List ℕ) → AreNamesBelowFirstFolder (values_of_letter FILES command.values) names
-    → made_package command names read ≡ Ok bytes → length bytes < 2 ^ 64 → packed_package command names read ≡ Ok (package_with_contents bytes)
+    → made_package command names read ≡ Ok bytes → length bytes < 2 ^ 64 → package_with_contents_of_command command names read ≡ Ok (package_with_contents bytes)
 made_back holds sizes exact needs tells command names read bytes below e short =
     let made = made_of IsReadBack holds sizes exact needs tells command names read bytes below e short in
     ap (λ r. and_then r (λ scripts.

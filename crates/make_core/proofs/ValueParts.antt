@@ -5,7 +5,7 @@ use Rattle.adb_view.specs.Shaped.{HasShape, HaveShapes}
 use Rattle.make_index.specs.adb_schema.Texts.{Surroundings, leaves, field_leaves, first_bad_leaf}
 use Rattle.adb_view.specs.Values.{nth}
 use Rattle.adb_view.proofs.FoundShapes.{shape_null, shapes_none}
-use Rattle.make_index.specs.adb_copy.Zeros.{with_value_at_index}
+use Rattle.make_index.specs.adb_copy.Zeros.{with_value_set_at_index}
 use Rattle.make_core.proofs.GoodValues.{good_append, good_back, good_front}
 
 abbrev pub shape_at : Fields → ℕ → Option Shape
@@ -38,7 +38,7 @@ part_kept (field name t fs) (suc i) s place around (more v vs) e h =
 
 -- ---- another value at a place
 
-pub placed_shaped : (fs : Fields) (i : ℕ) (s : Shape) (v : Plain) (vs : Plains) → shape_at fs i ≡ Some s → HasShape s v → HaveShapes fs vs → HaveShapes fs (with_value_at_index i v vs)
+pub placed_shaped : (fs : Fields) (i : ℕ) (s : Shape) (v : Plain) (vs : Plains) → shape_at fs i ≡ Some s → HasShape s v → HaveShapes fs vs → HaveShapes fs (with_value_set_at_index i v vs)
 unfolding HaveShapes
 placed_shaped no_fields i s v vs e a h = absurd cc
 placed_shaped (field name t fs) zero s v none e a h = let same : s ≡ t = cc in (subst (λ (u : Shape). HasShape u v) same a, shapes_none fs)
@@ -47,7 +47,7 @@ placed_shaped (field name t fs) (suc i) s v none e a h = (shape_null t, placed_s
 placed_shaped (field name t fs) (suc i) s v (more u us) e a h = (h.0, placed_shaped fs i s v us e a h.1)
 
 pub placed_kept : (fs : Fields) (i : ℕ) (s : Shape) (place : ℕ) (around : Surroundings) (v : Plain) (vs : Plains) → shape_at fs i ≡ Some s
-    → first_bad_leaf (leaves s (place + i) around v) ≡ None → first_bad_leaf (field_leaves fs place around vs) ≡ None → first_bad_leaf (field_leaves fs place around (with_value_at_index i v vs)) ≡ None
+    → first_bad_leaf (leaves s (place + i) around v) ≡ None → first_bad_leaf (field_leaves fs place around vs) ≡ None → first_bad_leaf (field_leaves fs place around (with_value_set_at_index i v vs)) ≡ None
 unfolding field_leaves
 placed_kept no_fields i s place around v vs e a h = absurd cc
 placed_kept (field name t fs) zero s place around v none e a h =
@@ -61,13 +61,13 @@ placed_kept (field name t fs) zero s place around v (more u us) e a h =
 placed_kept (field name t fs) (suc i) s place around v none e a h =
     let n : place + suc i ≡ place + 1 + i = omega arith in
     let further = placed_kept fs i s (place + 1) around v none e (subst (λ m. first_bad_leaf (leaves s m around v) ≡ None) n a) (good_back (leaves t place around null) (field_leaves fs (place + 1) around none) h) in
-    good_append (leaves t place around null) (field_leaves fs (place + 1) around (with_value_at_index i v none)) (good_front (leaves t place around null) (field_leaves fs (place + 1) around none) h) further
+    good_append (leaves t place around null) (field_leaves fs (place + 1) around (with_value_set_at_index i v none)) (good_front (leaves t place around null) (field_leaves fs (place + 1) around none) h) further
 placed_kept (field name t fs) (suc i) s place around v (more u us) e a h =
     let n : place + suc i ≡ place + 1 + i = omega arith in
     let further = placed_kept fs i s (place + 1) around v us e (subst (λ m. first_bad_leaf (leaves s m around v) ≡ None) n a) (good_back (leaves t place around u) (field_leaves fs (place + 1) around us) h) in
-    good_append (leaves t place around u) (field_leaves fs (place + 1) around (with_value_at_index i v us)) (good_front (leaves t place around u) (field_leaves fs (place + 1) around us) h) further
+    good_append (leaves t place around u) (field_leaves fs (place + 1) around (with_value_set_at_index i v us)) (good_front (leaves t place around u) (field_leaves fs (place + 1) around us) h) further
 
-pub placed_later : (i j : ℕ) (v : Plain) (vs : Plains) → i < j → nth (with_value_at_index j v vs) i ≡ nth vs i
+pub placed_later : (i j : ℕ) (v : Plain) (vs : Plains) → i < j → nth (with_value_set_at_index j v vs) i ≡ nth vs i
 placed_later zero zero v vs lt = absurd (omega arith)
 placed_later zero (suc j) v none lt = refl
 placed_later zero (suc j) v (more u us) lt = refl

@@ -7,8 +7,8 @@ use Rattle.adb_view.specs.Plain.{Plain}
 use Rattle.make_index.specs.adb_fields.Repeated.{entries_at}
 use Rattle.command_core.specs.Files.{without_dot_slash}
 use Rattle.command_core.specs.declared.operands.Operand.{Operand}
-use Rattle.make_index.specs.Entries.{entry_of_package}
-use Rattle.make_index.specs.EntryOrder.{entry_cmp}
+use Rattle.make_index.specs.Entries.{index_entry_of_package_file}
+use Rattle.make_index.specs.EntryOrder.{index_entry_cmp}
 use Rattle.make_index.specs.make_info.Reads.{Reads}
 use Rattle.make_index.specs.pkg_core.Whole.{package_fault}
 use Rattle.adb_view.specs.FieldIndexes.{INDEX_PACKAGES}
@@ -27,7 +27,7 @@ AreSoundPackages read n (o ∷ operands) (file ∷ files) =
     (read n (without_dot_slash o.text) ≡ Some file) × (package_fault file ≡ None)
     × AreSoundPackages read (n + 1) operands files
 
--- the index has exactly the entries of the packages that the operands name, in order (*entry_cmp*); the
+-- the index has exactly the entries of the packages that the operands name, in order (*index_entry_cmp*); the
 -- order of two equal entries is not defined here. `files` are the operands' files, in their order; reads
 -- are numbered from 0
 pub record HasSortedEntriesOfOperands (read : Reads) (operands : List Operand) (index : Plain) :
@@ -37,6 +37,6 @@ pub record HasSortedEntriesOfOperands (read : Reads) (operands : List Operand) (
   -- each read of an operand gives its file, which is a sound package
   pub sound : AreSoundPackages read 0 operands files
   -- the entries of the index are those of these packages, in some order
-  pub same : IsPermutation (map entry_of_package files) (packages_in index)
+  pub same : IsPermutation (map index_entry_of_package_file files) (packages_in index)
   -- the entries are in the order of their names, versions and ids
-  pub sorted : IsSorted entry_cmp (packages_in index)
+  pub sorted : IsSorted index_entry_cmp (packages_in index)

@@ -7,10 +7,10 @@ use Rattle.std.specs.Prelude.{ℕ, List, length, Result, Ok, Err}
 use Rattle.make_package.specs.adb_sound.Container.{package_with_contents_from_parts}
 use Rattle.adb_view.specs.Plain.{Plain}
 use Rattle.command_core.specs.Command.{CommandLine}
-use Rattle.make_index.specs.EntryOrder.{entry_cmp}
+use Rattle.make_index.specs.EntryOrder.{index_entry_cmp}
 use Rattle.base_core.specs.Sorted.{sorted_by}
-use Rattle.make_index.specs.Index.{description_in, found_entries, value_of_index}
-use Rattle.make_index.specs.make_info.Information.{FieldWithValue, information, information_value, replaces_priority}
+use Rattle.make_index.specs.Index.{first_description_or_empty, found_entries, value_of_index}
+use Rattle.make_index.specs.make_info.Information.{FieldWithValue, information, information_value_with_installed_size, replaces_priority}
 use Rattle.make_index.specs.make_info.Reads.{Reads}
 use Rattle.make_index.specs.make_info.declared.fault.MakeFault.{MakeFault}
 use Rattle.make_package.specs.Making.{or_info_bad}
@@ -25,14 +25,15 @@ abbrev pub packed_of_parts :
     → Result PackageWithContents MakeFault
 packed_of_parts command scripts about folders =
     Ok (package_with_contents_from_parts
-    (value_of_package (information_value about (installed_size folders)) folders scripts
+    (value_of_package (information_value_with_installed_size about (installed_size folders)) folders scripts
     (texts_of (values_of_letter TRIGGER command.values)) (replaces_priority about))
     (contents_of_folders 1 folders))
 
 -- the value and the contents of the package that a command describes, or the first refusal; `names` are
 -- the names below its folder
-abbrev pub packed_package : CommandLine → List (List ℕ) → Reads → Result PackageWithContents MakeFault
-packed_package command names read =
+abbrev pub package_with_contents_of_command : CommandLine → List (List ℕ) → Reads
+    → Result PackageWithContents MakeFault
+package_with_contents_of_command command names read =
     and_then (scripts_from_read read 0 (values_of_letter SCRIPT command.values)) (λ scripts.
     and_then (or_info_bad (information command)) (λ about.
     and_then (source_folders_of_first_option read (length scripts)
@@ -43,10 +44,11 @@ packed_package command names read =
 -- that is given in place of the entries
 abbrev pub index_value_of_entries : List ℕ → Result (List Plain) MakeFault → Result Plain MakeFault
 index_value_of_entries description (Ok entries) =
-    Ok (value_of_index description (sorted_by entry_cmp entries))
+    Ok (value_of_index description (sorted_by index_entry_cmp entries))
 index_value_of_entries description (Err fault) = Err fault
 
 -- the value of the index that a command describes, or the first refusal
 abbrev pub index_value_of_command : CommandLine → Reads → Result Plain MakeFault
 index_value_of_command command read =
-    index_value_of_entries (description_in command.values) (found_entries read 0 command.operands)
+    index_value_of_entries (first_description_or_empty command.values)
+    (found_entries read 0 command.operands)

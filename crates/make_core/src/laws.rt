@@ -2,15 +2,15 @@
 //! (apk-v3(5)), and reading them gives the values that the command describes. The rules are in
 //! `docs/commands.md`, "`mkpkg`" and "`mkndx PACKAGE..`", and in `docs/formats.md`, "Tests of a
 //! container".
-ghost use Rattle.make_index.specs.adb_schema.Soundness.{payload_in, root_value};
+ghost use Rattle.make_index.specs.adb_schema.Soundness.{payload_in, root_value_of_payload};
 ghost use Rattle.adb_view.specs.declared.tables.Which.TheVariants.{Index, Package};
 ghost use Rattle.command_core.specs.declared.values.TheConstants.{FILES, SCRIPT};
-ghost use Rattle.make_index.specs.Files.{AreOperandReadsFileBytes};
+ghost use Rattle.make_index.specs.Files.{OperandReadsFindOnlyValidFileBytes};
 ghost use Rattle.make_index.specs.Index.{made_index};
 ghost use Rattle.make_index.specs.make_info.Reads.{Reads};
 ghost use Rattle.make_package.specs.Making.{made_package};
 ghost use Rattle.make_package.specs.package_files.Sources.{AreNamesBelowFirstFolder, values_of_letter};
-ghost use Rattle.make_core.specs.ReadBack.{index_value_of_command, packed_package};
+ghost use Rattle.make_core.specs.ReadBack.{index_value_of_command, package_with_contents_of_command};
 ghost use Rattle.make_index.specs.pkg_core.Whole.{container_fault, package_with_contents};
 ghost use Rattle.std.specs.Prelude.{◌≡◌, ◌<◌, ◌^◌, ◌∷◌, ◌⊎◌, ℕ, List, length, None, Ok, Err};
 ghost use Rattle.base_core.specs.Files.{Files};
@@ -39,7 +39,8 @@ use make_package::{
 /// than 2^64 each.
 pub fn a_made_index_is_sound()
     ensures { (command : CommandLine) (read : Reads) (bytes : List ℕ)
-        → AreOperandReadsFileBytes read 0 command.operands → made_index command read ≡ Ok bytes
+        → OperandReadsFindOnlyValidFileBytes read 0 command.operands → made_index command read
+        ≡ Ok bytes
         → container_fault bytes ≡ None }
 {
     // Laws that the proof needs; they compute nothing.
@@ -72,8 +73,10 @@ pub fn a_made_package_is_sound()
 /// its description, and the entries of the named packages, in order.
 pub fn a_made_index_is_read_back()
     ensures { (command : CommandLine) (read : Reads) (bytes : List ℕ)
-        → AreOperandReadsFileBytes read 0 command.operands → made_index command read ≡ Ok bytes
-        → index_value_of_command command read ≡ Ok (root_value Index (payload_in bytes)) }
+        → OperandReadsFindOnlyValidFileBytes read 0 command.operands → made_index command read
+        ≡ Ok bytes
+        → index_value_of_command command read
+        ≡ Ok (root_value_of_payload Index (payload_in bytes)) }
 {
     // Laws that the proof needs; they compute nothing.
     what_a_container_is_made_of_is_read_back();
@@ -89,7 +92,7 @@ pub fn a_made_package_is_read_back()
     ensures { (command : CommandLine) (names : List (List ℕ)) (read : Reads) (bytes : List ℕ)
         → AreNamesBelowFirstFolder (values_of_letter FILES command.values) names
         → made_package command names read ≡ Ok bytes → length bytes < 2 ^ 64
-        → packed_package command names read ≡ Ok (package_with_contents bytes) }
+        → package_with_contents_of_command command names read ≡ Ok (package_with_contents bytes) }
 {
     // Laws that the proof needs; they compute nothing.
     what_a_container_is_made_of_is_read_back();
@@ -105,8 +108,10 @@ pub fn a_made_package_is_read_back()
 /// order; each package passes all its tests.
 pub fn a_made_index_has_its_packages_in_order()
     ensures { (command : CommandLine) (read : Reads) (bytes : List ℕ)
-        → AreOperandReadsFileBytes read 0 command.operands → made_index command read ≡ Ok bytes
-        → HasSortedEntriesOfOperands read command.operands (root_value Index (payload_in bytes)) }
+        → OperandReadsFindOnlyValidFileBytes read 0 command.operands → made_index command read
+        ≡ Ok bytes
+        → HasSortedEntriesOfOperands read command.operands (root_value_of_payload Index
+        (payload_in bytes)) }
 {
     // Laws that the proof needs; they compute nothing.
     an_index_is_in_order();
@@ -126,7 +131,7 @@ pub fn a_made_package_has_the_files_below_its_folder()
         → AreSortedNamesBelowFolder (without_dot_slash folder.text) names
         → made_package command names (λ n name. files name) ≡ Ok bytes → length bytes < 2 ^ 64
         → HasJustNamedFilesBelowFolder files (without_dot_slash folder.text) names
-        (root_value Package (payload_in bytes)) }
+        (root_value_of_payload Package (payload_in bytes)) }
 {
     // Laws that the proof needs; they compute nothing.
     each_name_is_in_one_folder();

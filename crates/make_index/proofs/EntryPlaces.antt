@@ -9,7 +9,7 @@ use Rattle.adb_view.specs.declared.tables.Which.TheVariants.{PkgInfo}
 use Rattle.adb_view.proofs.ValueEntries.{nth_obj}
 use Rattle.adb_view.specs.Plain.{Plain, Plains, none, more, trimmed_object_or_null}
 use Rattle.base_core.specs.ByteOrder.{bytes_cmp}
-use Rattle.make_index.specs.EntryOrder.{entry_cmp, id_of_index_entry, name_of_index_entry, version_of_index_entry}
+use Rattle.make_index.specs.EntryOrder.{index_entry_cmp, id_of_index_entry, name_of_index_entry, version_of_index_entry}
 use Rattle.make_info.specs.Named.{value_by_name}
 use Rattle.version_core.specs.Order.{version_cmp}
 
@@ -17,21 +17,21 @@ use Rattle.version_core.specs.Order.{version_cmp}
 abbrev all : Ordering → Ordering → Ordering → Ordering → Ordering
 all name version text id = ordering_then name (ordering_then version (ordering_then text id))
 
-pub by_name : (a b : Plain) → bytes_cmp (name_of_index_entry a) (name_of_index_entry b) ≡ Less → entry_cmp a b ≡ Less
-unfolding entry_cmp
+pub by_name : (a b : Plain) → bytes_cmp (name_of_index_entry a) (name_of_index_entry b) ≡ Less → index_entry_cmp a b ≡ Less
+unfolding index_entry_cmp
 by_name a b e = ap (λ (o : Ordering). all o (version_cmp (version_of_index_entry a) (version_of_index_entry b)) (bytes_cmp (version_of_index_entry a) (version_of_index_entry b)) (bytes_cmp (id_of_index_entry a) (id_of_index_entry b))) e
 
-pub by_version : (a b : Plain) → bytes_cmp (name_of_index_entry a) (name_of_index_entry b) ≡ Equal → version_cmp (version_of_index_entry a) (version_of_index_entry b) ≡ Less → entry_cmp a b ≡ Less
-unfolding entry_cmp
+pub by_version : (a b : Plain) → bytes_cmp (name_of_index_entry a) (name_of_index_entry b) ≡ Equal → version_cmp (version_of_index_entry a) (version_of_index_entry b) ≡ Less → index_entry_cmp a b ≡ Less
+unfolding index_entry_cmp
 by_version a b e f = λ k. all (e k) (f k) (bytes_cmp (version_of_index_entry a) (version_of_index_entry b)) (bytes_cmp (id_of_index_entry a) (id_of_index_entry b))
 
-pub by_text : (a b : Plain) → bytes_cmp (name_of_index_entry a) (name_of_index_entry b) ≡ Equal → version_cmp (version_of_index_entry a) (version_of_index_entry b) ≡ Equal → bytes_cmp (version_of_index_entry a) (version_of_index_entry b) ≡ Less → entry_cmp a b ≡ Less
-unfolding entry_cmp
+pub by_text : (a b : Plain) → bytes_cmp (name_of_index_entry a) (name_of_index_entry b) ≡ Equal → version_cmp (version_of_index_entry a) (version_of_index_entry b) ≡ Equal → bytes_cmp (version_of_index_entry a) (version_of_index_entry b) ≡ Less → index_entry_cmp a b ≡ Less
+unfolding index_entry_cmp
 by_text a b e f g = λ k. all (e k) (f k) (g k) (bytes_cmp (id_of_index_entry a) (id_of_index_entry b))
 
 pub by_id : (a b : Plain) → bytes_cmp (name_of_index_entry a) (name_of_index_entry b) ≡ Equal → version_cmp (version_of_index_entry a) (version_of_index_entry b) ≡ Equal → bytes_cmp (version_of_index_entry a) (version_of_index_entry b) ≡ Equal → bytes_cmp (id_of_index_entry a) (id_of_index_entry b) ≡ Less
-    → entry_cmp a b ≡ Less
-unfolding entry_cmp
+    → index_entry_cmp a b ≡ Less
+unfolding index_entry_cmp
 by_id a b e f g h = λ k. all (e k) (f k) (g k) (h k)
 
 -- ---- the fields by which they are ordered

@@ -7,20 +7,20 @@ use Rattle.std.specs.Int.{w32, to_le_bytes}
 use Rattle.adb_view.specs.Head.{payload_head_fault, root_word_of_payload}
 use Rattle.adb_view.specs.Plain.{Plain, null, int, blob, arr, obj, Plains, none, more, Shape, plain_of, root_value_with_shape, IsNormal, AreNormal}
 use Rattle.adb_view.specs.Shaped.{HasShape}
-use Rattle.adb_copy.specs.adb_write.Canonical.{Layout, write, empty_layout, payload_with_root, canonical, exceeds_a_limit, overflow_of, or_overflow, payload_or_overflow, PayloadCounts, MOST_BYTES}
+use Rattle.adb_copy.specs.adb_write.Canonical.{Layout, write, empty_layout, payload_with_root, canonical, exceeds_a_limit, overflow_of, payload_unless_overflow, payload_or_overflow, ByteAndValueCounts, MOST_BYTES}
 use Rattle.adb_copy.specs.adb_write.Size.{payload_size_of, value_count}
 use Rattle.adb_view.specs.Schema.{shape_of}
 use Rattle.adb_view.specs.Values.{is_sound, value_at, nth, entry_in, text_in}
 use Rattle.pkg_core.specs.adb_schema.SoundValues.{IsSoundPackage}
-use Rattle.pkg_core.specs.adb_schema.Soundness.{root_value, payload_in, container_fault_except_contents}
+use Rattle.pkg_core.specs.adb_schema.Soundness.{root_value_of_payload, payload_in, container_fault_except_contents}
 use Rattle.pkg_core.specs.adb_schema.SoundContainers.{IsSoundValue}
 use Rattle.adb_view.specs.declared.tables.Which.{Which}
 use Rattle.adb_view.specs.declared.tables.Which.TheVariants as Tables
 use Rattle.adb_view.specs.declared.tables.Kind.{Kind}
 use Rattle.adb_view.specs.declared.tables.Kind.TheVariants as Kinds
 use Rattle.pkg_core.specs.Whole.{package_id}
-use Rattle.make_index.specs.Entries.{entry_of_package}
-use Rattle.adb_copy.specs.Zeros.{info_with_id_and_size}
+use Rattle.make_index.specs.Entries.{index_entry_of_package_file}
+use Rattle.adb_copy.specs.Zeros.{info_without_zeros_with_id_and_file_size}
 use Rattle.make_index.specs.Kept.{HoldsEntry, IsEntryWithKeys, copy_of_entry}
 use Rattle.version_core.specs.Order.{is_version}
 use Rattle.std.proofs.lemmas.List.{get_or_default}
@@ -40,7 +40,7 @@ err_ok {A} {B} a b e = subst is_err e tt
     is_err (Ok x) = ⊥
     is_err (Err x) = Unit {0}
 
-ok_in : List ℕ → Result (List ℕ) PayloadCounts → List ℕ
+ok_in : List ℕ → Result (List ℕ) ByteAndValueCounts → List ℕ
 ok_in d (Ok x) = x
 ok_in d (Err c) = d
 
@@ -48,9 +48,9 @@ pub written_is : (v : Plain) (p : List ℕ) → payload_or_overflow v ≡ Ok p �
 unfolding payload_or_overflow ok_in
 written_is v p h = go (overflow_of v) refl
   where
-    go : (o : Option PayloadCounts) → overflow_of v ≡ o → (p ≡ canonical v) × (overflow_of v ≡ None)
-    go None e = (ap (ok_in []) (sym h ∙ ap (or_overflow (canonical v)) e), e)
-    go (Some c) e = absurd (err_ok c p (sym (ap (or_overflow (canonical v)) e) ∙ h))
+    go : (o : Option ByteAndValueCounts) → overflow_of v ≡ o → (p ≡ canonical v) × (overflow_of v ≡ None)
+    go None e = (ap (ok_in []) (sym h ∙ ap (payload_unless_overflow (canonical v)) e), e)
+    go (Some c) e = absurd (err_ok c p (sym (ap (payload_unless_overflow (canonical v)) e) ∙ h))
 
 within : (v : Plain) → (is_some (overflow_of v) ≡ exceeds_a_limit (payload_size_of v, value_count v)) → overflow_of v ≡ None → payload_size_of v ≤ MOST_BYTES
 within v law e = ltb-false MOST_BYTES (payload_size_of v) (neither_first (nat_lt MOST_BYTES (payload_size_of v)) _ (sym law ∙ ap is_some e))
@@ -97,9 +97,9 @@ module _
   entry_in_normal (arr vs) i h = nth_normal vs i h.1
   entry_in_normal (obj vs) i h = nth_normal vs i h.2
 
-  pub holds : (info : Plain) (id : List ℕ) (len : ℕ) (p : List ℕ) → IsNormal info → HasShape (shape_of (Kinds.Obj Tables.PkgInfo)) info → len < 2 ^ 64 → payload_or_overflow (info_with_id_and_size info id len) ≡ Ok p → HoldsEntry p (info_with_id_and_size info id len)
+  pub holds : (info : Plain) (id : List ℕ) (len : ℕ) (p : List ℕ) → IsNormal info → HasShape (shape_of (Kinds.Obj Tables.PkgInfo)) info → len < 2 ^ 64 → payload_or_overflow (info_without_zeros_with_id_and_file_size info id len) ≡ Ok p → HoldsEntry p (info_without_zeros_with_id_and_file_size info id len)
   holds info id len p good shaped small made =
-      let e : Plain = info_with_id_and_size info id len in
+      let e : Plain = info_without_zeros_with_id_and_file_size info id len in
       let n : IsNormal e = entry_normal info id len good small in
       let is : p ≡ canonical e = (written_is e p made).0 in
       let back : root_value_with_shape (canonical e) (shape_of (Kinds.Obj Tables.PkgInfo)) ≡ Some e = read_back (shape_of (Kinds.Obj Tables.PkgInfo)) e n (entry_shape info id len shaped) (within e (overflows e n) (written_is e p made).1) in
@@ -110,24 +110,24 @@ module _
       })
 
 -- the info of a package has the shape of one
-package_info_shape : FoundShapes → (payload : List ℕ) → HasShape (shape_of (Kinds.Obj Tables.PkgInfo)) (entry_in (root_value Tables.Package payload) 0)
-package_info_shape shapes payload = info_of_package (root_value Tables.Package payload) (value_shape shapes payload (Kinds.Obj Tables.Package) (root_word_of_payload payload))
+package_info_shape : FoundShapes → (payload : List ℕ) → HasShape (shape_of (Kinds.Obj Tables.PkgInfo)) (entry_in (root_value_of_payload Tables.Package payload) 0)
+package_info_shape shapes payload = info_of_package (root_value_of_payload Tables.Package payload) (value_shape shapes payload (Kinds.Obj Tables.Package) (root_word_of_payload payload))
 
 -- what a law of `adb_schema` says
 abbrev pub SoundContainers : Type 0
-SoundContainers = (which : Which) (file : List ℕ) → container_fault_except_contents which file ≡ None → IsSoundValue which (root_value which (payload_in file))
+SoundContainers = (which : Which) (file : List ℕ) → container_fault_except_contents which file ≡ None → IsSoundValue which (root_value_of_payload which (payload_in file))
 
-package_version : SoundContainers → (file : List ℕ) → container_fault_except_contents Tables.Package file ≡ None → is_version (text_in (entry_in (entry_in (root_value Tables.Package (payload_in file)) 0) 1)) ≡ true
+package_version : SoundContainers → (file : List ℕ) → container_fault_except_contents Tables.Package file ≡ None → is_version (text_in (entry_in (entry_in (root_value_of_payload Tables.Package (payload_in file)) 0) 1)) ≡ true
 package_version containers file sound =
-    let held : IsSoundPackage Tables.Package (root_value Tables.Package (payload_in file)) = (containers Tables.Package file sound).rules in
+    let held : IsSoundPackage Tables.Package (root_value_of_payload Tables.Package (payload_in file)) = (containers Tables.Package file sound).rules in
     let info = held.info in
     info.version
 
 -- ---- what an entry is ordered by
 
-pub keyed_of : SoundContainers → (file name version id : List ℕ) (info : Plain) → info ≡ entry_in (root_value Tables.Package (payload_in file)) 0 → name ≡ text_in (entry_in info 0) → version ≡ text_in (entry_in info 1) → id ≡ package_id file → container_fault_except_contents Tables.Package file ≡ None → IsEntryWithKeys name version id (entry_of_package file)
+pub keyed_of : SoundContainers → (file name version id : List ℕ) (info : Plain) → info ≡ entry_in (root_value_of_payload Tables.Package (payload_in file)) 0 → name ≡ text_in (entry_in info 0) → version ≡ text_in (entry_in info 1) → id ≡ package_id file → container_fault_except_contents Tables.Package file ≡ None → IsEntryWithKeys name version id (index_entry_of_package_file file)
 keyed_of containers file name version id info is e0 e1 e2 sound =
-    let here : Plain = entry_in (root_value Tables.Package (payload_in file)) 0 in
+    let here : Plain = entry_in (root_value_of_payload Tables.Package (payload_in file)) 0 in
     let v : version ≡ text_in (entry_in here 1) = e1 ∙ ap (λ i. text_in (entry_in i 1)) is in
     record {
       by_name = e0 ∙ (ap (λ i. text_in (entry_in i 0)) is ∙ sym (entry_name here (package_id file) (length file)));
@@ -147,23 +147,23 @@ pub holds_found : FoundShapes →
     ((shape : Shape) (v : Plain) → IsNormal v → HasShape shape v → payload_size_of v ≤ MOST_BYTES → root_value_with_shape (canonical v) shape ≡ Some v)
     → ((v : Plain) → IsNormal v → is_some (overflow_of v) ≡ exceeds_a_limit (payload_size_of v, value_count v))
     → ((payload : List ℕ) → All (λ b. b < 256) payload → (shape : Shape) (word : ℕ) → IfSome (plain_of payload shape word) IsNormal)
-    → (file : List ℕ) (value : Plain) (payload : List ℕ) → value ≡ root_value Tables.Package (payload_in file) → payload ≡ payload_in file → All (λ b. b < 256) file → length file < 2 ^ 64
-    → (found : Option (Vec ℕ Global)) → IfSome found (λ own. payload_or_overflow (info_with_id_and_size (entry_in value 0) (sha256 payload) (length file)) ≡ Ok own.items) → IfSome found (λ own. HoldsEntry own.items (entry_of_package file))
+    → (file : List ℕ) (value : Plain) (payload : List ℕ) → value ≡ root_value_of_payload Tables.Package (payload_in file) → payload ≡ payload_in file → All (λ b. b < 256) file → length file < 2 ^ 64
+    → (found : Option (Vec ℕ Global)) → IfSome found (λ own. payload_or_overflow (info_without_zeros_with_id_and_file_size (entry_in value 0) (sha256 payload) (length file)) ≡ Ok own.items) → IfSome found (λ own. HoldsEntry own.items (index_entry_of_package_file file))
 holds_found shapes read_back overflows normal file value payload is_value is_payload bytes small found h =
-    let info : Plain = entry_in (root_value Tables.Package (payload_in file)) 0 in
-    let value_is_normal : IsNormal (root_value Tables.Package (payload_in file)) = value_normal read_back overflows normal (payload_in file) (Kinds.Obj Tables.Package) (root_word_of_payload (payload_in file)) (payload_all (λ b. b < 256) file bytes) in
+    let info : Plain = entry_in (root_value_of_payload Tables.Package (payload_in file)) 0 in
+    let value_is_normal : IsNormal (root_value_of_payload Tables.Package (payload_in file)) = value_normal read_back overflows normal (payload_in file) (Kinds.Obj Tables.Package) (root_word_of_payload (payload_in file)) (payload_all (λ b. b < 256) file bytes) in
     if_some _ _ found (λ own made. holds read_back overflows normal info (package_id file) (length file) own.items
-    (entry_in_normal read_back overflows normal (root_value Tables.Package (payload_in file)) 0 value_is_normal)
+    (entry_in_normal read_back overflows normal (root_value_of_payload Tables.Package (payload_in file)) 0 value_is_normal)
     (package_info_shape shapes (payload_in file)) small
-    ((λ j. payload_or_overflow (info_with_id_and_size (entry_in (sym is_value j) 0) (sha256 (sym is_payload j)) (length file))) ∙ made)) h
+    ((λ j. payload_or_overflow (info_without_zeros_with_id_and_file_size (entry_in (sym is_value j) 0) (sha256 (sym is_payload j)) (length file))) ∙ made)) h
 
 -- ---- the entry of any package
 
-pub entry_of_shape : FoundShapes → (file : List ℕ) → HasShape (shape_of (Kinds.Obj Tables.PkgInfo)) (entry_of_package file)
-entry_of_shape shapes file = entry_shape (entry_in (root_value Tables.Package (payload_in file)) 0) (package_id file) (length file) (package_info_shape shapes (payload_in file))
+pub entry_of_shape : FoundShapes → (file : List ℕ) → HasShape (shape_of (Kinds.Obj Tables.PkgInfo)) (index_entry_of_package_file file)
+entry_of_shape shapes file = entry_shape (entry_in (root_value_of_payload Tables.Package (payload_in file)) 0) (package_id file) (length file) (package_info_shape shapes (payload_in file))
 
-pub entry_of_version : SoundContainers → (file : List ℕ) → container_fault_except_contents Tables.Package file ≡ None → is_version (text_in (entry_in (entry_of_package file) 1)) ≡ true
-entry_of_version containers file sound = ap is_version (entry_version (entry_in (root_value Tables.Package (payload_in file)) 0) (package_id file) (length file)) ∙ package_version containers file sound
+pub entry_of_version : SoundContainers → (file : List ℕ) → container_fault_except_contents Tables.Package file ≡ None → is_version (text_in (entry_in (index_entry_of_package_file file) 1)) ≡ true
+entry_of_version containers file sound = ap is_version (entry_version (entry_in (root_value_of_payload Tables.Package (payload_in file)) 0) (package_id file) (length file)) ∙ package_version containers file sound
 
 all_normal : ((payload : List ℕ) → All (λ b. b < 256) payload → (shape : Shape) (word : ℕ) → IfSome (plain_of payload shape word) IsNormal) → (p : List ℕ) (k : Kind) (w : ℕ) → All (λ b. b < 256) p → IsNormal (value_at p k w)
 unfolding value_at IsNormal
@@ -187,7 +187,7 @@ in_normal (blob b) i h = tt
 in_normal (arr vs) i h = nth_is_normal vs i h.1
 in_normal (obj vs) i h = nth_is_normal vs i h.2
 
-pub entry_of_normal : ((payload : List ℕ) → All (λ b. b < 256) payload → (shape : Shape) (word : ℕ) → IfSome (plain_of payload shape word) IsNormal) → (file : List ℕ) → All (λ b. b < 256) file → length file < 2 ^ 64 → IsNormal (entry_of_package file)
+pub entry_of_normal : ((payload : List ℕ) → All (λ b. b < 256) payload → (shape : Shape) (word : ℕ) → IfSome (plain_of payload shape word) IsNormal) → (file : List ℕ) → All (λ b. b < 256) file → length file < 2 ^ 64 → IsNormal (index_entry_of_package_file file)
 entry_of_normal normal file bytes small =
-    entry_normal (entry_in (root_value Tables.Package (payload_in file)) 0) (package_id file) (length file)
-    (in_normal (root_value Tables.Package (payload_in file)) 0 (all_normal normal (payload_in file) (Kinds.Obj Tables.Package) (root_word_of_payload (payload_in file)) (payload_all (λ b. b < 256) file bytes))) small
+    entry_normal (entry_in (root_value_of_payload Tables.Package (payload_in file)) 0) (package_id file) (length file)
+    (in_normal (root_value_of_payload Tables.Package (payload_in file)) 0 (all_normal normal (payload_in file) (Kinds.Obj Tables.Package) (root_word_of_payload (payload_in file)) (payload_all (λ b. b < 256) file bytes))) small

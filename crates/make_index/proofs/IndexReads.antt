@@ -13,7 +13,7 @@ use Rattle.command_core.specs.Files.{without_dot_slash}
 use Rattle.command_core.specs.declared.operands.Operand.{Operand}
 use Rattle.make_index.specs.Index.{entry_before_others_or_fault, found_entries, found_entry}
 use Rattle.make_index.specs.Kept.{AgreesUnlessMemory, AgreesUnlessMemoryOrDisk}
-use Rattle.make_index.specs.Files.{reads_of, AreOperandReadsFileBytes}
+use Rattle.make_index.specs.Files.{reads_of, OperandReadsFindOnlyValidFileBytes}
 use Rattle.base_core.specs.Files.{AreFileBytes}
 use Rattle.make_info.specs.declared.fault.MakeFault.{MakeFault}
 use Rattle.make_info.specs.declared.fault.MakeFault.TheVariants.{FileMissing, FileBad, InfoBad, TooLarge, Disk, Memory}
@@ -115,9 +115,9 @@ with_before : (found : ℕ → List ℕ → Option (List ℕ)) (i : ℕ) (f : Op
 unfolding found_with
 with_before found i f k lt = λ j q. if ne_eqb k i (λ e. omega (arith, e, lt)) j then f else found k q
 
-with_value_at_index : (found : ℕ → List ℕ → Option (List ℕ)) (i : ℕ) (f : Option (List ℕ)) (q : List ℕ) → found_with found i f i q ≡ f
+with_value_set_at_index : (found : ℕ → List ℕ → Option (List ℕ)) (i : ℕ) (f : Option (List ℕ)) (q : List ℕ) → found_with found i f i q ≡ f
 unfolding found_with
-with_value_at_index found i f q = ap (λ (b : Bool). if b then f else found i q) (eq-eqb i i refl)
+with_value_set_at_index found i f q = ap (λ (b : Bool). if b then f else found i q) (eq-eqb i i refl)
 
 with_files : (found : ℕ → List ℕ → Option (List ℕ)) (i : ℕ) (f : Option (List ℕ)) → IfSome f AreFileBytes → ((k : ℕ) (q : List ℕ) → IfSome (found k q) AreFileBytes) → (k : ℕ) (q : List ℕ) → IfSome (found_with found i f k q) AreFileBytes
 unfolding found_with
@@ -127,7 +127,7 @@ with_files found i f one files k q =
       | false ↦ files k q
     ]
 
-files_all : (read : ℕ → List ℕ → Option (List ℕ)) → ((k : ℕ) (q : List ℕ) → IfSome (read k q) AreFileBytes) → (n : ℕ) (os : List Operand) → AreOperandReadsFileBytes read n os
+files_all : (read : ℕ → List ℕ → Option (List ℕ)) → ((k : ℕ) (q : List ℕ) → IfSome (read k q) AreFileBytes) → (n : ℕ) (os : List Operand) → OperandReadsFindOnlyValidFileBytes read n os
 files_all read files n [] = tt
 files_all read files n (o ∷ os) = (λ file is. subst (λ (x : Option (List ℕ)). IfSome x AreFileBytes) is (files n (without_dot_slash o.text)), files_all read files (n + 1) os)
 
@@ -138,24 +138,24 @@ read_more os i o es new e at so f file one is = record {
   rest = λ later agree.
       so_far_more later os i o es new e at
       (so.rest later (λ k lt. agree k (omega (lt, arith)) ∙ with_before so.found i f k lt))
-      (ap (found_entry o.place) (ap (λ r. r (without_dot_slash o.text)) (agree i (omega arith)) ∙ with_value_at_index so.found i f (without_dot_slash o.text)) ∙ one)
+      (ap (found_entry o.place) (ap (λ r. r (without_dot_slash o.text)) (agree i (omega arith)) ∙ with_value_set_at_index so.found i f (without_dot_slash o.text)) ∙ one)
       is;
 }
 
-pub read_all_is : (os : List Operand) (i : ℕ) (es : List Plain) → length os ≤ i → IsReadTo os i es → (read : ℕ → List ℕ → Option (List ℕ)) × AreOperandReadsFileBytes read 0 os × (found_entries read 0 os ≡ Ok es)
+pub read_all_is : (os : List Operand) (i : ℕ) (es : List Plain) → length os ≤ i → IsReadTo os i es → (read : ℕ → List ℕ → Option (List ℕ)) × OperandReadsFindOnlyValidFileBytes read 0 os × (found_entries read 0 os ≡ Ok es)
 read_all_is os i es past so = (so.found, files_all so.found so.files 0 os, so_far_all so.found os i es past (so.rest so.found (λ k lt. refl)))
 
-pub read_err : {A B : Type 0} (view : A → List Plain) (one : B → Plain) (os : List Operand) (i : ℕ) (o : Operand) (es : List Plain) (fault : MakeFault) (r : Result A MakeFault) → slice_get os i ≡ Some o → IsReadTo os i es → (found : Option (List ℕ)) × IfSome found AreFileBytes × AgreesUnlessMemoryOrDisk one (Err fault) (found_entry o.place found) → r ≡ Err fault → (read : ℕ → List ℕ → Option (List ℕ)) × AreOperandReadsFileBytes read 0 os × AgreesUnlessMemoryOrDisk view r (found_entries read 0 os)
+pub read_err : {A B : Type 0} (view : A → List Plain) (one : B → Plain) (os : List Operand) (i : ℕ) (o : Operand) (es : List Plain) (fault : MakeFault) (r : Result A MakeFault) → slice_get os i ≡ Some o → IsReadTo os i es → (found : Option (List ℕ)) × IfSome found AreFileBytes × AgreesUnlessMemoryOrDisk one (Err fault) (found_entry o.place found) → r ≡ Err fault → (read : ℕ → List ℕ → Option (List ℕ)) × OperandReadsFindOnlyValidFileBytes read 0 os × AgreesUnlessMemoryOrDisk view r (found_entries read 0 os)
 read_err view one os i o es fault r at so made e =
     let f : Option (List ℕ) = made.0 in (
       found_with so.found i f,
       files_all (found_with so.found i f) (with_files so.found i f made.1 so.files) 0 os,
       so_far_err view (found_with so.found i f) os i o es fault r at (so.rest (found_with so.found i f) (λ k lt. with_before so.found i f k lt)) one
-          (subst (λ x. AgreesUnlessMemoryOrDisk one (Err fault) (found_entry o.place x)) (sym (with_value_at_index so.found i f (without_dot_slash o.text))) made.2) e,
+          (subst (λ x. AgreesUnlessMemoryOrDisk one (Err fault) (found_entry o.place x)) (sym (with_value_set_at_index so.found i f (without_dot_slash o.text))) made.2) e,
     )
 
 -- for lack of memory nothing is said of what was found
-pub read_stopped : {A : Type 0} (view : A → List Plain) (os : List Operand) (r : Result A MakeFault) → IsErrAnd r (λ e. e ≡ Memory) → (read : ℕ → List ℕ → Option (List ℕ)) × AreOperandReadsFileBytes read 0 os × AgreesUnlessMemoryOrDisk view r (found_entries read 0 os)
+pub read_stopped : {A : Type 0} (view : A → List Plain) (os : List Operand) (r : Result A MakeFault) → IsErrAnd r (λ e. e ≡ Memory) → (read : ℕ → List ℕ → Option (List ℕ)) × OperandReadsFindOnlyValidFileBytes read 0 os × AgreesUnlessMemoryOrDisk view r (found_entries read 0 os)
 read_stopped view os (Ok x) e = absurd e
 read_stopped view os (Err fault) e =
     let nothing : ℕ → List ℕ → Option (List ℕ) = λ k q. None in

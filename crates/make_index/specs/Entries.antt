@@ -6,11 +6,12 @@ use Rattle.std.specs.Prelude.{ℕ, List, length}
 use Rattle.adb_view.specs.Plain.{Plain}
 use Rattle.adb_view.specs.FieldIndexes.{PACKAGE_INFO}
 use Rattle.adb_view.specs.Values.{entry_in}
-use Rattle.adb_copy.specs.Zeros.{info_with_id_and_size}
+use Rattle.adb_copy.specs.Zeros.{info_without_zeros_with_id_and_file_size}
 use Rattle.pkg_core.specs.Whole.{package_id, package_with_contents}
 
 -- the entry that an index has for the package in the file with these bytes
-abbrev pub entry_of_package : List ℕ → Plain
-entry_of_package file =
-    info_with_id_and_size (entry_in (package_with_contents file).value PACKAGE_INFO) (package_id file)
+abbrev pub index_entry_of_package_file : List ℕ → Plain
+index_entry_of_package_file file =
+    info_without_zeros_with_id_and_file_size (entry_in (package_with_contents file).value PACKAGE_INFO)
+    (package_id file)
     (length file)

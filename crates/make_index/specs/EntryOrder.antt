@@ -23,8 +23,8 @@ id_of_index_entry entry = text_in (entry_in entry INFO_HASHES)
 
 -- the order of the entries of an index: by name, then by version, then by the text of the version (byte
 -- by byte), then by id
-unfoldable pub entry_cmp : Plain → Plain → Ordering
-entry_cmp =
+unfoldable pub index_entry_cmp : Plain → Plain → Ordering
+index_entry_cmp =
     then_cmp (on name_of_index_entry bytes_cmp)
     (then_cmp (on version_of_index_entry version_cmp)
     (then_cmp (on version_of_index_entry bytes_cmp) (on id_of_index_entry bytes_cmp)))

@@ -7,7 +7,7 @@ use Rattle.std.specs.List.{find}
 use Rattle.base_core.specs.declared.cause.Cause.{Cause}
 use Rattle.adb_view.specs.Plain.{Plain, none, more, blob_or_null, array_or_null, trimmed_object_or_null}
 use Rattle.pkg_core.specs.adb_schema.declared.read.TheConstants.{INDEX_WORD}
-use Rattle.adb_copy.specs.adb_write.Canonical.{PayloadCounts, payload_or_overflow}
+use Rattle.adb_copy.specs.adb_write.Canonical.{ByteAndValueCounts, payload_or_overflow}
 use Rattle.adb_copy.specs.adb_write.File.{file_of}
 use Rattle.pkg_core.specs.Whole.{package_fault}
 use Rattle.command_core.specs.Command.{CommandLine}
@@ -18,8 +18,8 @@ use Rattle.make_info.specs.Reads.{Reads}
 use Rattle.make_info.specs.Values.{plains_of_list}
 use Rattle.make_info.specs.declared.fault.MakeFault.{MakeFault}
 use Rattle.make_info.specs.declared.fault.MakeFault.TheVariants.{FileMissing, FileBad, TooLarge}
-use Rattle.make_index.specs.Entries.{entry_of_package}
-use Rattle.make_index.specs.EntryOrder.{entry_cmp}
+use Rattle.make_index.specs.Entries.{index_entry_of_package_file}
+use Rattle.make_index.specs.EntryOrder.{index_entry_cmp}
 use Rattle.base_core.specs.Sorted.{sorted_by}
 
 -- ---- the value
@@ -36,7 +36,7 @@ value_of_index description entries =
 -- the entry of the package in the file with these bytes. If a test of the file failed (`cause`), the
 -- refusal at the place of the operand that names the file
 abbrev pub entry_unless_fault : ℕ → List ℕ → Option Cause → Result Plain MakeFault
-entry_unless_fault place file None = Ok (entry_of_package file)
+entry_unless_fault place file None = Ok (index_entry_of_package_file file)
 entry_unless_fault place file (Some cause) = Err (FileBad place cause)
 
 -- the entry of the package that was found under the name of the operand at this place. If no file was
@@ -64,7 +64,7 @@ found_entries read n (o ∷ operands) =
 
 -- the bytes of the index with this payload. Or, if the payload exceeds a limit of the writer, the error
 -- with the two counts at which it does
-abbrev pub index_container : Result (List ℕ) PayloadCounts → Result (List ℕ) MakeFault
+abbrev pub index_container : Result (List ℕ) ByteAndValueCounts → Result (List ℕ) MakeFault
 index_container (Ok payload) = Ok (file_of INDEX_WORD payload)
 index_container (Err counts) = Err (TooLarge counts.0 counts.1)
 
@@ -72,7 +72,7 @@ index_container (Err counts) = Err (TooLarge counts.0 counts.1)
 -- if its payload exceeds a limit of the writer
 unfoldable pub index_of_entries : List ℕ → List Plain → Result (List ℕ) MakeFault
 index_of_entries description entries =
-    index_container (payload_or_overflow (value_of_index description (sorted_by entry_cmp entries)))
+    index_container (payload_or_overflow (value_of_index description (sorted_by index_entry_cmp entries)))
 
 -- the bytes of the index with the entries that were found, or the refusal that was found in place of them
 abbrev pub index_of_entries_or_fault : List ℕ → Result (List Plain) MakeFault → Result (List ℕ) MakeFault
@@ -94,10 +94,12 @@ text_or_empty (Some v) = v.text
 
 -- the description of an index: the text of the first value of `-d`; empty if there is none. `values` are
 -- the values of all options
-abbrev pub description_in : List OptionValue → List ℕ
-description_in values = text_or_empty (find (λ (v : OptionValue). v.letter == DESCRIPTION) values)
+abbrev pub first_description_or_empty : List OptionValue → List ℕ
+first_description_or_empty values =
+    text_or_empty (find (λ (v : OptionValue). v.letter == DESCRIPTION) values)
 
 -- the index of a command: the container's bytes, or the first refusal, given what each read finds under
 -- a name; reads are numbered from 0
 unfoldable pub made_index : CommandLine → Reads → Result (List ℕ) MakeFault
-made_index command read = index_of_operands (description_in command.values) command.operands read
+made_index command read =
+    index_of_operands (first_description_or_empty command.values) command.operands read

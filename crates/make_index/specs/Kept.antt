@@ -6,7 +6,7 @@ use Rattle.std.specs.Prelude.{◌≡◌, ℕ, List, true, IsTrue, is_none, Optio
 use Rattle.base_core.specs.declared.cause.Cause.{Cause}
 use Rattle.adb_view.specs.Head.{payload_head_fault, root_word_of_payload}
 use Rattle.adb_view.specs.Plain.{Plain}
-use Rattle.pkg_core.specs.adb_schema.Soundness.{root_value}
+use Rattle.pkg_core.specs.adb_schema.Soundness.{root_value_of_payload}
 use Rattle.adb_view.specs.FieldIndexes.{INFO_FILE_SIZE, INFO_HASHES}
 use Rattle.adb_view.specs.Values.{entry_in, int_in, is_sound, text_in}
 use Rattle.adb_view.specs.declared.tables.Which.TheVariants.{PkgInfo}
@@ -14,8 +14,8 @@ use Rattle.adb_view.specs.declared.tables.Kind.TheVariants.{Obj}
 use Rattle.version_core.specs.Order.{is_version}
 use Rattle.make_info.specs.declared.fault.MakeFault.{MakeFault}
 use Rattle.make_info.specs.declared.fault.MakeFault.TheVariants.{FileBad, Disk, Memory}
-use Rattle.make_index.specs.Entries.{entry_of_package}
-use Rattle.adb_copy.specs.Zeros.{info_with_id_and_size}
+use Rattle.make_index.specs.Entries.{index_entry_of_package_file}
+use Rattle.adb_copy.specs.Zeros.{info_without_zeros_with_id_and_file_size}
 use Rattle.make_index.specs.EntryOrder.{id_of_index_entry, name_of_index_entry, version_of_index_entry}
 use Rattle.make_index.specs.declared.source.EntrySource.{EntrySource}
 use Rattle.make_index.specs.declared.source.EntrySource.TheVariants.{Payload, File}
@@ -24,14 +24,14 @@ use Rattle.make_index.specs.declared.source.EntrySource.TheVariants.{Payload, Fi
 
 -- an entry, built again from its own fields, as it is written into the payload of an index
 abbrev pub copy_of_entry : Plain → Plain
-copy_of_entry entry = info_with_id_and_size entry (text_in (entry_in entry INFO_HASHES))
+copy_of_entry entry = info_without_zeros_with_id_and_file_size entry (text_in (entry_in entry INFO_HASHES))
     (int_in (entry_in entry INFO_FILE_SIZE))
 
 -- the entry that is written from what is kept of a package: a payload with the entry, or the package's
 -- file
 abbrev pub entry_of_source : EntrySource → Plain
-entry_of_source (Payload own) = copy_of_entry (root_value PkgInfo own.payload.items)
-entry_of_source (File own) = entry_of_package own.file.items
+entry_of_source (Payload own) = copy_of_entry (root_value_of_payload PkgInfo own.payload.items)
+entry_of_source (File own) = index_entry_of_package_file own.file.items
 
 -- the payload can be read, and the entry is the copy of its root
 pub record HoldsEntry (payload : List ℕ) (entry : Plain) : Type 0 where
@@ -40,7 +40,7 @@ pub record HoldsEntry (payload : List ℕ) (entry : Plain) : Type 0 where
   -- the payload's root is the sound information of a package
   pub sound : is_sound payload (Obj PkgInfo) (root_word_of_payload payload) ≡ true
   -- the entry is the copy of this information
-  pub value : copy_of_entry (root_value PkgInfo payload) ≡ entry
+  pub value : copy_of_entry (root_value_of_payload PkgInfo payload) ≡ entry
 
 -- the name, the version and the id are those by which this entry is ordered; and the version is valid
 pub record IsEntryWithKeys (name version id : List ℕ) (entry : Plain) : Type 0 where

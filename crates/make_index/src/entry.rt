@@ -1,11 +1,11 @@
 //! An entry of an index: the tests of its package, and its order among the others.
 //! The rules are in `docs/commands.md`, "`mkndx PACKAGE..`" (the order of packages, and that each
 //! must pass all tests of `verify`), and "`verify FILE..`" there.
-ghost use Rattle.pkg_core.specs.adb_schema.Soundness.{container_fault_except_contents, payload_in, root_value};
+ghost use Rattle.pkg_core.specs.adb_schema.Soundness.{container_fault_except_contents, payload_in, root_value_of_payload};
 ghost use Rattle.adb_copy.specs.adb_values.Drafts.{draft_with};
 ghost use Rattle.base_core.specs.declared.cause.Cause.{Cause};
-ghost use Rattle.make_index.specs.Entries.{entry_of_package};
-ghost use Rattle.make_index.specs.EntryOrder.{entry_cmp};
+ghost use Rattle.make_index.specs.Entries.{index_entry_of_package_file};
+ghost use Rattle.make_index.specs.EntryOrder.{index_entry_cmp};
 ghost use Rattle.make_index.specs.Index.{found_entry};
 ghost use Rattle.make_index.specs.Kept.{entry_of_source, HoldsEntry, IsEntryWithKeys, AgreesUnlessMemory, IsRefusedAt};
 ghost use Rattle.pkg_core.specs.Contents.{fault_of_files_read};
@@ -76,7 +76,7 @@ impl Entry {
 
     /// The order of two entries: by name, then by version, then by the version's text, then by id.
     pub(crate) fn compare(&self, other: &Entry) -> Ordering
-        ensures { result ≡ entry_cmp (entry_view self.now) (entry_view other.now) }
+        ensures { result ≡ index_entry_cmp (entry_view self.now) (entry_view other.now) }
     {
         let order = self.name.cmp(&other.name);
         if order.is_ne() {
@@ -141,10 +141,12 @@ fn read_parts(alloc: Global, place: u32, file: &[u8]) -> Result<Parts, MakeFault
         ≡ None) }
     // The parts give the name, the version and the id of the package's entry.
     ensures keys { IfOk result (λ parts.
-        IsEntryWithKeys parts.name.items parts.version.items parts.id (entry_of_package file.now)) }
+        IsEntryWithKeys parts.name.items parts.version.items parts.id
+        (index_entry_of_package_file file.now)) }
     // The entry of the package is the copy of the root of a returned payload (*HoldsEntry*).
     ensures payload { IfOk result (λ parts.
-        IfSome parts.payload (λ payload. HoldsEntry payload.items (entry_of_package file.now))) }
+        IfSome parts.payload (λ payload. HoldsEntry payload.items
+        (index_entry_of_package_file file.now))) }
 {
     // Laws that the proof needs; they compute nothing.
     a_canonical_payload_is_read_back();
@@ -186,7 +188,7 @@ pub(crate) fn open_tested<'a>(
         (λ _. container_fault_except_contents Tables.Package file.entry.now ≡ None) }
     // The value is that of the root in the file.
     ensures value { IfOk result (λ pkg.
-        opened_value pkg ≡ root_value Tables.Package (payload_in file.entry.now)) }
+        opened_value pkg ≡ root_value_of_payload Tables.Package (payload_in file.entry.now)) }
     // The payload is that of the file's first block.
     ensures payload { IfOk result (λ pkg. opened_payload pkg ≡ payload_in file.entry.now) }
 {

@@ -14,12 +14,12 @@ ghost use Rattle.adb_copy.specs.adb_write.Canonical.{payload_or_overflow, MOST_B
 ghost use Rattle.base_core.specs.Calls.{IfObservable};
 ghost use Rattle.base_core.specs.Read.{OnlyReads, bytes_in};
 ghost use Rattle.base_core.specs.Tree.{files_of};
-ghost use Rattle.make_index.specs.Entries.{entry_of_package};
-ghost use Rattle.make_index.specs.EntryOrder.{entry_cmp, version_of_index_entry, id_of_index_entry, name_of_index_entry};
+ghost use Rattle.make_index.specs.Entries.{index_entry_of_package_file};
+ghost use Rattle.make_index.specs.EntryOrder.{index_entry_cmp, version_of_index_entry, id_of_index_entry, name_of_index_entry};
 ghost use Rattle.base_core.specs.Sorted.{sorted_by};
 ghost use Rattle.base_core.specs.Files.{AreFileBytes};
-ghost use Rattle.make_index.specs.Files.{AreOperandReadsFileBytes, reads_of};
-ghost use Rattle.make_index.specs.Index.{description_in, index_of_entries, value_of_index, found_entries, found_entry, made_index};
+ghost use Rattle.make_index.specs.Files.{OperandReadsFindOnlyValidFileBytes, reads_of};
+ghost use Rattle.make_index.specs.Index.{first_description_or_empty, index_of_entries, value_of_index, found_entries, found_entry, made_index};
 ghost use Rattle.make_index.specs.Kept.{AgreesUnlessMemory, AgreesUnlessMemoryOrDisk};
 ghost use Rattle.make_index.specs.Views.{entries_view, entry_view};
 ghost use Rattle.make_info.specs.Faults.{IsOverflowFault};
@@ -62,7 +62,7 @@ pub fn make<T: Tree>(alloc: Global, command: &Command, tree: &mut T) -> Result<V
         (reads_of v))) }
     // For every tree, the result is that for some result of each read (`read`). The read of the
     // first operand has the number 0.
-    ensures found { (read : Reads) × AreOperandReadsFileBytes read 0 command.now.operands
+    ensures found { (read : Reads) × OperandReadsFindOnlyValidFileBytes read 0 command.now.operands
         × AgreesUnlessMemoryOrDisk (λ file. file.items) result (made_index command.now read) }
     // The tree is only read, and `Disk` has a fault of the tree as its cause.
     ensures tree { OnlyReads MakeFault.Disk (T.history tree.old) (T.history tree.new)
@@ -76,7 +76,7 @@ pub fn make<T: Tree>(alloc: Global, command: &Command, tree: &mut T) -> Result<V
 
 /// The description that a command gives by `-d`, or nothing.
 fn description(values: &Values) -> &[u8]
-    ensures { result.now ≡ description_in values.now }
+    ensures { result.now ≡ first_description_or_empty values.now }
 {
     match values.first(DESCRIPTION) {
         Some(value) => value.text.as_bytes(),
@@ -99,7 +99,7 @@ fn read_entries<T: Tree>(
     ensures made { IfObservable (T.history tree.old) (λ v.
         AgreesUnlessMemoryOrDisk entries_view result (found_entries (reads_of v) 0 operands.now)) }
     // For every tree, the result is that for some result of each read (`read`).
-    ensures found { (read : Reads) × AreOperandReadsFileBytes read 0 operands.now
+    ensures found { (read : Reads) × OperandReadsFindOnlyValidFileBytes read 0 operands.now
         × AgreesUnlessMemoryOrDisk entries_view result (found_entries read 0 operands.now) }
     // The tree is only read: no file changes, no I/O error is hidden, and no call is a misuse.
     ensures tree { OnlyReads MakeFault.Disk (T.history tree.old) (T.history tree.new)
@@ -182,7 +182,8 @@ fn index_file(alloc: Global, description: &[u8], entries: Vec<Entry>) -> Result<
 /// Sorts entries in the order of an index; equal ones keep their order.
 fn sort_entries(entries: &mut Vec<Entry>) -> Result<(), AllocError>
     ensures { IfOk result (λ _.
-        map entry_view entries.new.items ≡ sorted_by entry_cmp (map entry_view entries.old.items)) }
+        map entry_view entries.new.items
+        ≡ sorted_by index_entry_cmp (map entry_view entries.old.items)) }
 {
     // A law that the proof needs; it computes nothing.
     order_is_total();
@@ -243,13 +244,13 @@ fn write_entries(alloc: Global, draft: &mut Draft, entries: &[Entry]) -> Result<
 pub fn an_entry_is_an_info()
     // The entry is an object of the fields of table 3.
     ensures shape { (file : List ℕ)
-        → HasShape (shape_of (Kinds.Obj Tables.PkgInfo)) (entry_of_package file) }
+        → HasShape (shape_of (Kinds.Obj Tables.PkgInfo)) (index_entry_of_package_file file) }
     // The entry is normal if the package's file has bytes that a file may have.
     ensures normal { (file : List ℕ) → All (λ b. b < 256) file → length file < 2 ^ 64
-        → IsNormal (entry_of_package file) }
+        → IsNormal (index_entry_of_package_file file) }
     // The entry has a valid version if the package is sound.
     ensures version { (file : List ℕ) → container_fault_except_contents Tables.Package file ≡ None
-        → is_version (version_of_index_entry (entry_of_package file)) ≡ true }
+        → is_version (version_of_index_entry (index_entry_of_package_file file)) ≡ true }
 {
     // Laws that the proof needs; they compute nothing.
     sound_containers_hold_sound_values();
@@ -261,12 +262,14 @@ pub fn an_entry_is_an_info()
 /// the order of equal entries.
 pub fn an_index_is_in_order()
     // The sorted list has the same entries.
-    ensures same { (entries : List Plain) → IsPermutation entries (sorted_by entry_cmp entries) }
+    ensures same { (entries : List Plain)
+        → IsPermutation entries (sorted_by index_entry_cmp entries) }
     // No entry is before a smaller one.
-    ensures sorted { (entries : List Plain) → IsSorted entry_cmp (sorted_by entry_cmp entries) }
+    ensures sorted { (entries : List Plain)
+        → IsSorted index_entry_cmp (sorted_by index_entry_cmp entries) }
     // Equal entries keep their order, which is that of the operands.
     ensures stable { (entries : List Plain)
-        → IsStable entry_cmp entries (sorted_by entry_cmp entries) }
+        → IsStable index_entry_cmp entries (sorted_by index_entry_cmp entries) }
 {
     // A law that the proof needs; it computes nothing.
     order_is_total();
@@ -278,22 +281,24 @@ pub fn an_index_is_in_order()
 pub fn entries_stand_by_name_version_and_id()
     // The entry with the smaller name is first.
     ensures name { (a b : Plain) → bytes_cmp (name_of_index_entry a) (name_of_index_entry b) ≡ Less
-        → entry_cmp a b ≡ Less }
+        → index_entry_cmp a b ≡ Less }
     // Of equal names, the one with the smaller version is first.
     ensures version { (a b : Plain) → bytes_cmp (name_of_index_entry a) (name_of_index_entry b)
         ≡ Equal
         → version_cmp (version_of_index_entry a) (version_of_index_entry b) ≡ Less
-        → entry_cmp a b ≡ Less }
+        → index_entry_cmp a b ≡ Less }
     // Of equal versions, the one whose version is the smaller text is first.
     ensures text { (a b : Plain) → bytes_cmp (name_of_index_entry a) (name_of_index_entry b) ≡ Equal
         → version_cmp (version_of_index_entry a) (version_of_index_entry b) ≡ Equal
-        → bytes_cmp (version_of_index_entry a) (version_of_index_entry b) ≡ Less → entry_cmp a b
+        → bytes_cmp (version_of_index_entry a) (version_of_index_entry b) ≡ Less
+        → index_entry_cmp a b
         ≡ Less }
     // Of equal texts, the one with the smaller id is first.
     ensures id { (a b : Plain) → bytes_cmp (name_of_index_entry a) (name_of_index_entry b) ≡ Equal
         → version_cmp (version_of_index_entry a) (version_of_index_entry b) ≡ Equal
         → bytes_cmp (version_of_index_entry a) (version_of_index_entry b) ≡ Equal
-        → bytes_cmp (id_of_index_entry a) (id_of_index_entry b) ≡ Less → entry_cmp a b ≡ Less }
+        → bytes_cmp (id_of_index_entry a) (id_of_index_entry b) ≡ Less → index_entry_cmp a b
+        ≡ Less }
 {}
 
 /// The name, the version and the id by which an entry is ordered are its fields `name`, `version`

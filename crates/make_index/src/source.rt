@@ -2,15 +2,15 @@
 //! `docs/DECISIONS.md`, "Making", has the rule: the file of a package whose information alone
 //! exceeds a limit of the writer is kept to the end. `docs/commands.md`, "`mkndx PACKAGE..`",
 //! defines an entry.
-ghost use Rattle.pkg_core.specs.adb_schema.Soundness.{container_fault_except_contents, root_value};
+ghost use Rattle.pkg_core.specs.adb_schema.Soundness.{container_fault_except_contents, root_value_of_payload};
 ghost use Rattle.adb_view.specs.FieldIndexes.{PACKAGE_INFO};
 ghost use Rattle.adb_view.specs.Values.{entry_in, is_sound, value_at};
 ghost use Rattle.adb_view.specs.Adb.{payload_of};
 ghost use Rattle.adb_view.specs.Head.{payload_head_fault, root_word_of_payload};
 ghost use Rattle.adb_copy.specs.adb_values.Drafts.{draft_with};
 ghost use Rattle.adb_copy.specs.adb_write.Canonical.{payload_or_overflow};
-ghost use Rattle.make_index.specs.Entries.{entry_of_package};
-ghost use Rattle.adb_copy.specs.Zeros.{info_with_id_and_size};
+ghost use Rattle.make_index.specs.Entries.{index_entry_of_package_file};
+ghost use Rattle.adb_copy.specs.Zeros.{info_without_zeros_with_id_and_file_size};
 ghost use Rattle.pkg_core.specs.Opened.{opened_payload, opened_value};
 ghost use Rattle.sha2.specs.Sha256.{sha256};
 ghost use Rattle.std.specs.Prelude.{◌≡◌, true, is_none, ◌<◌, ◌^◌, Ok, IfOk, IfSome, OnOk};
@@ -79,7 +79,7 @@ impl EntryPayload {
         // On Ok, the draft has one value more: the copy of the entry that is the root of this
         // payload.
         ensures { OnOk result (draft.new ≡ draft_with
-            (copy_of_entry (root_value Tables.PkgInfo self.now.payload.items)) draft.old) }
+            (copy_of_entry (root_value_of_payload Tables.PkgInfo self.now.payload.items)) draft.old) }
     {
         // The payload was written by this program, so its head passes the test.
         let Ok(adb) = Adb::new(&self.payload) else {
@@ -96,7 +96,7 @@ impl PackageFile {
     fn write(&self, alloc: Global, draft: &mut Draft) -> Result<(), AllocError>
         // On Ok, the draft has one value more: the entry of the package in this file.
         ensures { OnOk result
-            (draft.new ≡ draft_with (entry_of_package self.now.file.items) draft.old) }
+            (draft.new ≡ draft_with (index_entry_of_package_file self.now.file.items) draft.old) }
     {
         match Package::new(alloc, &self.file) {
             Ok(pkg) => write_package(alloc, draft, &pkg, &pkg.id(), self.file.len() as u64),
@@ -120,7 +120,8 @@ fn write_package(
     // On Ok, the draft has one value more: the information of the package, with its id and the
     // length of its file.
     ensures { OnOk result (draft.new ≡ draft_with
-        (info_with_id_and_size (entry_in (opened_value pkg.now) PACKAGE_INFO) (sha256
+        (info_without_zeros_with_id_and_file_size (entry_in (opened_value pkg.now) PACKAGE_INFO)
+        (sha256
         (opened_payload pkg.now))
         len) draft.old) }
 {
@@ -141,7 +142,7 @@ fn write_entry_info(
 ) -> Result<(), AllocError>
     // The word refers to a sound object of the fields of table 3.
     requires { is_sound (payload_of adb) (Kinds.Obj Tables.PkgInfo) info ≡ true }
-    ensures { OnOk result (draft.new ≡ draft_with (info_with_id_and_size
+    ensures { OnOk result (draft.new ≡ draft_with (info_without_zeros_with_id_and_file_size
         (value_at (payload_of adb.entry) (Kinds.Obj Tables.PkgInfo) info) id.now len) draft.old) }
 {
     let mut known = KnownTexts::new(alloc);
@@ -162,7 +163,8 @@ pub(crate) fn entry_payload(
     ensures small { len < 2 ^ 64 }
     // If a payload is returned, it is that of the entry.
     ensures payload { IfOk result (λ found. IfSome found (λ payload. payload_or_overflow
-        (info_with_id_and_size (entry_in (opened_value pkg.now) PACKAGE_INFO) (sha256
+        (info_without_zeros_with_id_and_file_size (entry_in (opened_value pkg.now) PACKAGE_INFO)
+        (sha256
         (opened_payload pkg.now))
         len) ≡ Ok payload.items)) }
 {

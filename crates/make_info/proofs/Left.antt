@@ -5,7 +5,7 @@ use Rattle.std.specs.List.{slice_get}
 use Rattle.std.specs.Option.{option_map, option_or}
 use Rattle.command_core.specs.declared.values.OptionValue.{OptionValue}
 use Rattle.make_info.specs.declared.field.Field.{Field}
-use Rattle.make_info.specs.FieldTexts.{first_text_for, values_of_info, is_info_option, option_text_for_field}
+use Rattle.make_info.specs.FieldTexts.{first_text_for, values_of_info_options, is_info_option, option_text_for_field}
 
 -- what is left of a list where an element stands
 pub left_at : {X : Type 0} (xs : List X) (i : ℕ) (x : X) → slice_get xs i ≡ Some x → drop i xs ≡ x ∷ drop (i + 1) xs
@@ -42,10 +42,10 @@ value_not_here f vs i v found r at is some h =
 
 -- ---- the values of `-I`
 
-pub info_here : (vs : List OptionValue) (i : ℕ) (v : OptionValue) → slice_get vs i ≡ Some v → is_info_option v ≡ true → values_of_info (drop i vs) ≡ v ∷ values_of_info (drop (i + 1) vs)
+pub info_here : (vs : List OptionValue) (i : ℕ) (v : OptionValue) → slice_get vs i ≡ Some v → is_info_option v ≡ true → values_of_info_options (drop i vs) ≡ v ∷ values_of_info_options (drop (i + 1) vs)
 info_here vs i v at is =
-    ap values_of_info (left_at vs i v at) ∙ ap (λ b. cond b (v ∷ values_of_info (drop (i + 1) vs)) (values_of_info (drop (i + 1) vs))) is
+    ap values_of_info_options (left_at vs i v at) ∙ ap (λ b. cond b (v ∷ values_of_info_options (drop (i + 1) vs)) (values_of_info_options (drop (i + 1) vs))) is
 
-pub info_not_here : (vs : List OptionValue) (i : ℕ) (v : OptionValue) → slice_get vs i ≡ Some v → is_info_option v ≡ false → values_of_info (drop i vs) ≡ values_of_info (drop (i + 1) vs)
+pub info_not_here : (vs : List OptionValue) (i : ℕ) (v : OptionValue) → slice_get vs i ≡ Some v → is_info_option v ≡ false → values_of_info_options (drop i vs) ≡ values_of_info_options (drop (i + 1) vs)
 info_not_here vs i v at is =
-    ap values_of_info (left_at vs i v at) ∙ ap (λ b. cond b (v ∷ values_of_info (drop (i + 1) vs)) (values_of_info (drop (i + 1) vs))) is
+    ap values_of_info_options (left_at vs i v at) ∙ ap (λ b. cond b (v ∷ values_of_info_options (drop (i + 1) vs)) (values_of_info_options (drop (i + 1) vs))) is

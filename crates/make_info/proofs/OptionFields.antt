@@ -5,11 +5,11 @@ use Rattle.adb_view.specs.declared.tables.Which.TheVariants.{PkgInfo}
 use Rattle.make_info.specs.declared.field.Field.{Field}
 use Rattle.make_info.specs.declared.field.Field.TheVariants as Fields
 use Rattle.make_info.specs.Fields.{field_word}
-use Rattle.make_info.specs.Information.{FieldWithValue, information_fields}
+use Rattle.make_info.specs.Information.{FieldWithValue, information_fields_with_installed_size}
 use Rattle.make_info.specs.Named.{value_by_name, value_of_field}
 
 pub option_field : (f : Field) (info : List FieldWithValue) (size : ℕ)
-    → value_by_name (field_word f) (table PkgInfo) (information_fields info size) ≡ value_of_field f info
+    → value_by_name (field_word f) (table PkgInfo) (information_fields_with_installed_size info size) ≡ value_of_field f info
 option_field Fields.Name info size = refl
 option_field Fields.Version info size = refl
 option_field Fields.Description info size = refl

@@ -11,15 +11,15 @@ use Rattle.dep_core.specs.Dependency.{is_package_name}
 use Rattle.command_core.specs.Applets.{required_option_letter}
 use Rattle.command_core.specs.Command.{CommandLine}
 use Rattle.command_core.specs.Sound.{IsValidCommand}
-use Rattle.command_core.specs.Values.{first_value, is_given}
+use Rattle.command_core.specs.Values.{first_value_with_letter, is_given}
 use Rattle.command_core.specs.declared.command.Applet.TheVariants.{Mkndx, Mkpkg}
 use Rattle.command_core.specs.declared.values.OptionValue.{OptionValue}
 use Rattle.make_info.specs.declared.field.Field.{Field}
 use Rattle.make_info.specs.declared.field.Field.TheVariants as Fields
 use Rattle.make_info.specs.Fields.{kind_of_field, values_by_kind, text_value_if}
 use Rattle.command_core.specs.Files.{most_output_path_bytes}
-use Rattle.make_info.specs.FieldTexts.{FieldText, file_name_in, first_text_for, field_text_in, value_if_passes, values_of_info, is_option_for_field, gives_value_for_field, is_info_option, is_default_output_too_long, package_name_in, named_output, default_output, package_file_name_of, value_if_for_field, package_version_in}
-use Rattle.make_info.specs.Information.{FieldWithValue, items_of_valid_options, place_of_first_offending_option, information, information_of, repeats_single_field, field_with_value, items_of_text, items_of_option, lacks_name_or_version, offends, unless_offence}
+use Rattle.make_info.specs.FieldTexts.{FieldText, value_text_without_dot_slash, first_text_for, field_text_in, value_if_passes, values_of_info_options, is_option_for_field, gives_value_for_field, is_info_option, is_default_output_too_long, package_name_in, named_output, default_output, package_file_name_of, value_if_for_field, package_version_in}
+use Rattle.make_info.specs.Information.{FieldWithValue, items_of_valid_options, place_of_first_offending_option_after, information, information_of_options_before_place, repeats_single_field, field_with_value, items_of_text, items_of_option, lacks_name_or_version, offends, unless_offence}
 use Rattle.make_info.specs.Output.{output_if_information_valid, is_mkpkg, output_name, package_output}
 use Rattle.make_info.proofs.Outputs.{AreOutputs, allowed, named_short, no_value, own_fits, unoffended}
 use Rattle.make_info.proofs.Reading.{same_field}
@@ -43,7 +43,7 @@ output_short law command name is h =
 found_output : (vs : List OptionValue) → is_given OUTPUT vs ≡ true → is_some (named_output vs) ≡ true
 found_output [] h = cc
 found_output (v ∷ vs) h =
-    elim (v.letter == OUTPUT) as (λ b. (b || is_given OUTPUT vs) ≡ true → is_some (option_map file_name_in (cond b (Some v) (first_value OUTPUT vs))) ≡ true) [
+    elim (v.letter == OUTPUT) as (λ b. (b || is_given OUTPUT vs) ≡ true → is_some (option_map value_text_without_dot_slash (cond b (Some v) (first_value_with_letter OUTPUT vs))) ≡ true) [
       | true ↦ λ e. refl
       | false ↦ λ e. found_output vs e
     ] h
@@ -92,25 +92,25 @@ module _ (f : Field) (is_good : List ℕ → Bool) (strict : IsStrict f is_good)
 
   module _ (too_long : Bool) where
     abbrev Later : List OptionValue → Option (List ℕ) → Type 0
-    Later rest later = (before : List OptionValue) → place_of_first_offending_option too_long before rest ≡ None → list_any (is_option_for_field f) rest ≡ true → is_some (option_and_then (value_if_passes is_good) later) ≡ true
+    Later rest later = (before : List OptionValue) → place_of_first_offending_option_after too_long before rest ≡ None → list_any (is_option_for_field f) rest ≡ true → is_some (option_and_then (value_if_passes is_good) later) ≡ true
 
-    by_field : (v : OptionValue) (before rest : List OptionValue) (later : Option (List ℕ)) (b : Bool) → is_option_for_field f v ≡ b → offends too_long before v ≡ false → place_of_first_offending_option too_long (before ++ v ∷ []) rest ≡ None
+    by_field : (v : OptionValue) (before rest : List OptionValue) (later : Option (List ℕ)) (b : Bool) → is_option_for_field f v ≡ b → offends too_long before v ≡ false → place_of_first_offending_option_after too_long (before ++ v ∷ []) rest ≡ None
         → (b || list_any (is_option_for_field f) rest) ≡ true → Later rest later → is_some (option_and_then (value_if_passes is_good) (option_or (value_if_for_field f (field_text_in v.text)) later)) ≡ true
     by_field v before rest later true here fine none any more =
         first_or is_good (value_if_for_field f (field_text_in v.text)) later (good_here (field_text_in v.text) (no_offence (is_some (items_of_option v)) (repeats_single_field before v || (too_long && is_option_for_field Fields.Version v)) fine) here)
     by_field v before rest later false here fine none any more =
         later_or is_good (value_if_for_field f (field_text_in v.text)) later (no_value f (field_text_in v.text) here) (more (before ++ v ∷ []) none any)
 
-    by_info : (v : OptionValue) (before rest : List OptionValue) (later : Option (List ℕ)) (b : Bool) → place_of_first_offending_option too_long before (cond b (v ∷ rest) rest) ≡ None → list_any (is_option_for_field f) (cond b (v ∷ rest) rest) ≡ true
+    by_info : (v : OptionValue) (before rest : List OptionValue) (later : Option (List ℕ)) (b : Bool) → place_of_first_offending_option_after too_long before (cond b (v ∷ rest) rest) ≡ None → list_any (is_option_for_field f) (cond b (v ∷ rest) rest) ≡ true
         → Later rest later → is_some (option_and_then (value_if_passes is_good) (option_or (cond b (value_if_for_field f (field_text_in v.text)) None) later)) ≡ true
     by_info v before rest later true none any more =
-        let parts = none_at (offends too_long before v) v.place (place_of_first_offending_option too_long (before ++ v ∷ []) rest) none in
+        let parts = none_at (offends too_long before v) v.place (place_of_first_offending_option_after too_long (before ++ v ∷ []) rest) none in
         by_field v before rest later (is_option_for_field f v) refl parts.0 parts.1 any more
     by_info v before rest later false none any more = more before none any
 
-    good_first : (before vs : List OptionValue) → place_of_first_offending_option too_long before (values_of_info vs) ≡ None → list_any (is_option_for_field f) (values_of_info vs) ≡ true → is_some (option_and_then (value_if_passes is_good) (first_text_for f vs)) ≡ true
+    good_first : (before vs : List OptionValue) → place_of_first_offending_option_after too_long before (values_of_info_options vs) ≡ None → list_any (is_option_for_field f) (values_of_info_options vs) ≡ true → is_some (option_and_then (value_if_passes is_good) (first_text_for f vs)) ≡ true
     good_first before [] none any = cc
-    good_first before (v ∷ vs) none any = by_info v before (values_of_info vs) (first_text_for f vs) (is_info_option v) none any (λ earlier n a. good_first earlier vs n a)
+    good_first before (v ∷ vs) none any = by_info v before (values_of_info_options vs) (first_text_for f vs) (is_info_option v) none any (λ earlier n a. good_first earlier vs n a)
 
 both_there : (name version : Option (List ℕ)) → is_some name ≡ true → is_some version ≡ true → is_some (package_file_name_of name version) ≡ true
 both_there None version n v = cc
@@ -130,12 +130,12 @@ told_all : (o : Option ℕ) (otherwise : Result (List FieldWithValue) ℕ) → i
 told_all None otherwise h = h
 told_all (Some place) otherwise h = cc
 
-own_there : (values : List OptionValue) (behind : ℕ) → is_ok (information_of values behind) ≡ true → is_some (default_output values) ≡ true
-unfolding information_of
+own_there : (values : List OptionValue) (behind : ℕ) → is_ok (information_of_options_before_place values behind) ≡ true → is_some (default_output values) ≡ true
+unfolding information_of_options_before_place
 own_there values behind h =
-    let told = values_of_info values in
+    let told = values_of_info_options values in
     let none = unoffended values behind h in
-    let given = not_lacking (list_any (is_option_for_field Fields.Name) told) (list_any (is_option_for_field Fields.Version) told) behind (items_of_valid_options told) (told_all (place_of_first_offending_option (is_default_output_too_long values) [] told) (if lacks_name_or_version told then Err behind else Ok (items_of_valid_options told)) h) in
+    let given = not_lacking (list_any (is_option_for_field Fields.Name) told) (list_any (is_option_for_field Fields.Version) told) behind (items_of_valid_options told) (told_all (place_of_first_offending_option_after (is_default_output_too_long values) [] told) (if lacks_name_or_version told then Err behind else Ok (items_of_valid_options told)) h) in
     both_there (package_name_in values) (package_version_in values)
     (good_first Fields.Name is_package_name (λ value said. strict_by (is_package_name value) value said) (is_default_output_too_long values) [] values none given.0)
     (good_first Fields.Version is_version (λ value said. strict_by (is_version value) value said) (is_default_output_too_long values) [] values none given.1)

@@ -3,7 +3,7 @@
 use Rattle.std.specs.Prelude.{◌≡◌, ℕ, List, Result, Err}
 use Rattle.base_core.specs.declared.tree.TreeFault.{TreeFault}
 use Rattle.base_core.specs.declared.tree.TreeFault.TheVariants as Trees
-use Rattle.adb_values.specs.adb_write.Canonical.{PayloadCounts}
+use Rattle.adb_values.specs.adb_write.Canonical.{ByteAndValueCounts}
 use Rattle.adb_values.specs.adb_write.declared.writer.WriteFault.{WriteFault}
 use Rattle.adb_values.specs.adb_write.declared.writer.WriteFault.TheVariants as Writes
 use Rattle.make_info.specs.declared.fault.MakeFault.{MakeFault}
@@ -31,7 +31,7 @@ IsInfoFault Memory answer = Unit {0}
 
 -- the fault of writing a payload, whose definition gives `written`: `TooLarge` with the counts in
 -- `written`, or out of memory, which says nothing about `written`. No other fault
-abbrev pub IsOverflowFault : MakeFault → Result (List ℕ) PayloadCounts → Type 0
+abbrev pub IsOverflowFault : MakeFault → Result (List ℕ) ByteAndValueCounts → Type 0
 IsOverflowFault (TooLarge bytes values) written = written ≡ Err (bytes, values)
 IsOverflowFault Memory written = Unit {0}
 IsOverflowFault fault written = ⊥

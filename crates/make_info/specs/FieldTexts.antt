@@ -9,7 +9,7 @@ use Rattle.std.specs.Str.{bytes_eq}
 use Rattle.version_core.specs.Order.{is_version}
 use Rattle.dep_core.specs.Dependency.{is_package_name}
 use Rattle.root_names.specs.PackagePath.{package_file_name}
-use Rattle.command_core.specs.Values.{first_value}
+use Rattle.command_core.specs.Values.{first_value_with_letter}
 use Rattle.make_info.specs.declared.information.TheConstants.{COLON}
 use Rattle.command_core.specs.Files.{most_output_path_bytes, without_dot_slash}
 use Rattle.command_core.specs.declared.values.OptionValue.{OptionValue}
@@ -54,8 +54,8 @@ abbrev pub is_info_option : OptionValue → Bool
 is_info_option v = v.letter == INFO
 
 -- the values of `-I`, in the order given
-abbrev pub values_of_info : List OptionValue → List OptionValue
-values_of_info values = filter is_info_option values
+abbrev pub values_of_info_options : List OptionValue → List OptionValue
+values_of_info_options values = filter is_info_option values
 
 -- the text VALUE of FIELD:VALUE, if FIELD is this field
 abbrev pub value_if_for_field : Field → Option FieldText → Option (List ℕ)
@@ -98,12 +98,12 @@ abbrev pub default_output : List OptionValue → Option (List ℕ)
 default_output values = package_file_name_of (package_name_in values) (package_version_in values)
 
 -- the name of the file in a value of `-o`, without a leading `./`
-abbrev pub file_name_in : OptionValue → List ℕ
-file_name_in v = without_dot_slash v.text
+abbrev pub value_text_without_dot_slash : OptionValue → List ℕ
+value_text_without_dot_slash v = without_dot_slash v.text
 
 -- the file that `-o` names, if it was given
 abbrev pub named_output : List OptionValue → Option (List ℕ)
-named_output values = option_map file_name_in (first_value OUTPUT values)
+named_output values = option_map value_text_without_dot_slash (first_value_with_letter OUTPUT values)
 
 -- whether a file's name is too long: its scratch name, eight bytes longer, would be no name; if no
 -- output is known, nothing is too long

@@ -99,9 +99,9 @@ text_value_if false value = None
 
 -- the one value of a field of hexadecimal digits, given the result of decoding them: the decoded bytes;
 -- None if the text is not hexadecimal
-abbrev pub values_of_hex_digits : Result (List ℕ) FromHexError → Option (List FieldValue)
-values_of_hex_digits (Ok bytes) = Some (text bytes ∷ [])
-values_of_hex_digits (Err e) = None
+abbrev pub field_values_of_decoded_hex : Result (List ℕ) FromHexError → Option (List FieldValue)
+field_values_of_decoded_hex (Ok bytes) = Some (text bytes ∷ [])
+field_values_of_decoded_hex (Err e) = None
 
 -- the number that a text encodes; None if it is none, has a leading zero or more than 64 bits
 abbrev pub decimal_number : List ℕ → Option ℕ
@@ -114,20 +114,20 @@ abbrev pub is_nonempty : List ℕ → Bool
 is_nonempty part = nat_lt 0 (length part)
 
 -- the parts of a text between spaces (32) that are not empty; a tab separates no parts
-abbrev pub nonempty_parts : List ℕ → List (List ℕ)
-nonempty_parts value = filter is_nonempty (slice_split (λ b. b == 32) value)
+abbrev pub nonempty_parts_between_spaces : List ℕ → List (List ℕ)
+nonempty_parts_between_spaces value = filter is_nonempty (slice_split (λ b. b == 32) value)
 
 -- the values of a field of texts: each part between spaces is one value
 abbrev pub text_values : List (List ℕ) → List FieldValue
 text_values parts = map text parts
 
 -- a dependency, if it has no tag: only world may have tags, a package never
-abbrev pub if_untagged : Dependency → Option Dependency
-if_untagged d = if is_some d.tag then None else Some d
+abbrev pub dependency_if_untagged : Dependency → Option Dependency
+dependency_if_untagged d = if is_some d.tag then None else Some d
 
 -- the dependency that a text encodes, if it encodes one without a tag
 abbrev pub untagged_dependency_in : List ℕ → Option Dependency
-untagged_dependency_in part = option_and_then if_untagged (dependency_of part)
+untagged_dependency_in part = option_and_then dependency_if_untagged (dependency_of part)
 
 -- the value of the dependency `d`, followed by other values; None if `d` or `others` is None
 abbrev pub dependency_value_and_others : Option Dependency → Option (List FieldValue)
@@ -147,7 +147,7 @@ abbrev pub values_by_kind : Kind → List ℕ → Option (List FieldValue)
 values_by_kind Kinds.PackageName value = text_value_if (is_package_name value) value
 values_by_kind Kinds.PackageVersion value = text_value_if (is_version value) value
 values_by_kind Kinds.AnyText value = text_value_if true value
-values_by_kind Kinds.HexDigits value = values_of_hex_digits (decode_of value)
+values_by_kind Kinds.HexDigits value = field_values_of_decoded_hex (decode_of value)
 values_by_kind Kinds.Number value = option_map (λ n. number n ∷ []) (decimal_number value)
-values_by_kind Kinds.Dependencies value = dependency_values_in (nonempty_parts value)
-values_by_kind Kinds.Texts value = Some (text_values (nonempty_parts value))
+values_by_kind Kinds.Dependencies value = dependency_values_in (nonempty_parts_between_spaces value)
+values_by_kind Kinds.Texts value = Some (text_values (nonempty_parts_between_spaces value))

@@ -10,8 +10,8 @@ use Rattle.dep_core.specs.Value.{DepValue, dep_value}
 use Rattle.make_info.specs.declared.field.Field.{Field}
 use Rattle.make_info.specs.declared.field.Field.TheVariants as Fields
 use Rattle.make_info.specs.Fields.{FieldValue, text, number, need, may_repeat, kind_of_field, values_by_kind}
-use Rattle.make_info.specs.FieldTexts.{FieldText, field_text_in, values_of_info, is_option_for_field, is_same_field, is_default_output_too_long}
-use Rattle.make_info.specs.Values.{number_value, size_value}
+use Rattle.make_info.specs.FieldTexts.{FieldText, field_text_in, values_of_info_options, is_option_for_field, is_same_field, is_default_output_too_long}
+use Rattle.make_info.specs.Values.{number_or_null, size_or_null_if_zero}
 
 -- An item of a package's information: a field with one value. The information is the list of all items,
 -- in the order in which `-I` gives them. A list field has one item for each part of each text, another
@@ -28,15 +28,16 @@ field_with_value f value = record { field = f; value = value }
 
 -- the items `before`, followed by one item of the field for each of the values. None if the values are
 -- None, as the text was not allowed
-abbrev pub items_with_values_of_field :
+abbrev pub items_followed_by_values_of_field :
     List FieldWithValue → Field → Option (List FieldValue) → Option (List FieldWithValue)
-items_with_values_of_field before f values =
+items_followed_by_values_of_field before f values =
     option_map (λ values. before ++ map (field_with_value f) values) values
 
 -- the items of a text FIELD:VALUE; None if VALUE is not in the field's grammar
 abbrev pub items_of_text : FieldText → Option (List FieldWithValue)
 items_of_text given =
-    items_with_values_of_field [] given.field (values_by_kind (kind_of_field given.field) given.value)
+    items_followed_by_values_of_field [] given.field
+    (values_by_kind (kind_of_field given.field) given.value)
 
 -- the items of one value of `-I`; None if it is no FIELD:VALUE, or the value is not in the field's
 -- grammar
@@ -64,11 +65,11 @@ offends too_long before v =
     || (repeats_single_field before v || (too_long && is_option_for_field Fields.Version v))
 
 -- the place of the first of the given values that offends; `before` are the values of `-I` before them
-abbrev pub place_of_first_offending_option : Bool → List OptionValue → List OptionValue → Option ℕ
-place_of_first_offending_option too_long before [] = None
-place_of_first_offending_option too_long before (v ∷ vs) =
+abbrev pub place_of_first_offending_option_after : Bool → List OptionValue → List OptionValue → Option ℕ
+place_of_first_offending_option_after too_long before [] = None
+place_of_first_offending_option_after too_long before (v ∷ vs) =
     if offends too_long before v then Some v.place
-    else place_of_first_offending_option too_long (before ++ v ∷ []) vs
+    else place_of_first_offending_option_after too_long (before ++ v ∷ []) vs
 
 -- whether none of the values of `-I` is for the package's name, or none is for its version
 abbrev pub lacks_name_or_version : List OptionValue → Bool
@@ -89,16 +90,16 @@ unless_offence (Some place) otherwise = Err place
 -- the information that the values of all options give, or the first place that offends as an error. This
 -- is the place of a value of `-I`; or, if the name or the version is missing, `behind`, the place after
 -- the last argument
-unfoldable pub information_of : List OptionValue → ℕ → Result (List FieldWithValue) ℕ
-information_of values behind =
-    let own = values_of_info values in
-    unless_offence (place_of_first_offending_option (is_default_output_too_long values) [] own)
+unfoldable pub information_of_options_before_place : List OptionValue → ℕ → Result (List FieldWithValue) ℕ
+information_of_options_before_place values behind =
+    let own = values_of_info_options values in
+    unless_offence (place_of_first_offending_option_after (is_default_output_too_long values) [] own)
     (if lacks_name_or_version own then Err behind else Ok (items_of_valid_options own))
 
 -- the information of a command line, or the first place that offends; a missing name or version is
 -- reported at the place after its last argument
 abbrev pub information : CommandLine → Result (List FieldWithValue) ℕ
-information command = information_of command.values command.behind
+information command = information_of_options_before_place command.values command.behind
 
 -- ---- the value of an information
 
@@ -106,7 +107,7 @@ information command = information_of command.values command.behind
 abbrev pub dependency_object : DepValue → Plain
 dependency_object v =
     trimmed_object_or_null
-    (more (blob_or_null v.name) (more (blob_or_null v.version) (more (number_value v.matching) none)))
+    (more (blob_or_null v.name) (more (blob_or_null v.version) (more (number_or_null v.matching) none)))
 
 -- the plain value of one value of a field; an empty text is Null
 abbrev pub plain_value : FieldValue → Plain
@@ -140,23 +141,24 @@ value_of_list_field f info = array_or_null (plain_values_of_field f info)
 
 -- the 22 fields of table 3 in order; `size` is the installed size, the sum of the sizes of the files. The
 -- fields hashes (3), file-size (13), layer (20) and the unused one (22) are Null
-abbrev pub information_fields : List FieldWithValue → ℕ → Plains
-information_fields info size =
+abbrev pub information_fields_with_installed_size : List FieldWithValue → ℕ → Plains
+information_fields_with_installed_size info size =
     more (value_of_single_field Fields.Name info)
     (more (value_of_single_field Fields.Version info) (more null
     (more (value_of_single_field Fields.Description info) (more (value_of_single_field Fields.Arch info)
     (more (value_of_single_field Fields.License info) (more (value_of_single_field Fields.Origin info)
     (more (value_of_single_field Fields.Maintainer info) (more (value_of_single_field Fields.Url info)
     (more (value_of_single_field Fields.RepoCommit info) (more (value_of_single_field Fields.BuildTime info)
-    (more (size_value size) (more null (more (value_of_single_field Fields.ProviderPriority info)
+    (more (size_or_null_if_zero size) (more null (more (value_of_single_field Fields.ProviderPriority info)
     (more (value_of_list_field Fields.Depends info) (more (value_of_list_field Fields.Provides info)
     (more (value_of_list_field Fields.Replaces info) (more (value_of_list_field Fields.InstallIf info)
     (more (value_of_list_field Fields.Recommends info) (more null
     (more (value_of_list_field Fields.Tags info) (more null none)))))))))))))))))))))
 
 -- the object of a package's information; `size` is the installed size, the sum of the sizes of the files
-unfoldable pub information_value : List FieldWithValue → ℕ → Plain
-information_value info size = trimmed_object_or_null (information_fields info size)
+unfoldable pub information_value_with_installed_size : List FieldWithValue → ℕ → Plain
+information_value_with_installed_size info size =
+    trimmed_object_or_null (information_fields_with_installed_size info size)
 
 -- the number that the value is; None if the value is no number
 abbrev pub number_in : FieldValue → Option ℕ

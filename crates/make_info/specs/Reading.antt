@@ -6,7 +6,7 @@ use Rattle.std.specs.List.{find}
 use Rattle.make_info.specs.declared.field.Field.TheVariants as Fields
 use Rattle.make_info.specs.Fields.{is_nonempty, kind_of_field, may_repeat, values_by_kind}
 use Rattle.make_info.specs.FieldTexts.{FieldText, field_text_in, is_same_field}
-use Rattle.make_info.specs.Information.{FieldWithValue, is_item_for, items_with_values_of_field}
+use Rattle.make_info.specs.Information.{FieldWithValue, is_item_for, items_followed_by_values_of_field}
 
 -- the list of this part between spaces alone; no part if it is empty
 abbrev pub nonempty_part : List ℕ → List (List ℕ)
@@ -24,7 +24,8 @@ items_with_text too_long before None = None
 items_with_text too_long before (Some given) =
     if too_long && is_same_field given.field Fields.Version then None else
     if not (may_repeat (kind_of_field given.field)) && has_item_for given before then None else
-    items_with_values_of_field before given.field (values_by_kind (kind_of_field given.field) given.value)
+    items_followed_by_values_of_field before given.field
+    (values_by_kind (kind_of_field given.field) given.value)
 
 -- the items `before`, and those of one more value of `-I` with this text; None if the value offends (is
 -- refused)

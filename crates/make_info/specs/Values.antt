@@ -10,10 +10,10 @@ plains_of_list [] = none
 plains_of_list (v ∷ vs) = more v (plains_of_list vs)
 
 -- the plain value of a size; one of 0 is Null
-abbrev pub size_value : ℕ → Plain
-size_value n = if n == 0 then null else int n
+abbrev pub size_or_null_if_zero : ℕ → Plain
+size_or_null_if_zero n = if n == 0 then null else int n
 
 -- the plain value of an optional number; Null if there is none
-abbrev pub number_value : Option ℕ → Plain
-number_value None = null
-number_value (Some n) = int n
+abbrev pub number_or_null : Option ℕ → Plain
+number_or_null None = null
+number_or_null (Some n) = int n

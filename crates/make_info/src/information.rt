@@ -6,9 +6,9 @@ ghost use Rattle.dep_core.specs.Meets.{dependency};
 ghost use Rattle.hex.specs.Hex.{decode_of};
 ghost use Rattle.make_info.specs.Faults.{IsInfoFault};
 ghost use Rattle.make_info.specs.FieldTexts.{field_text_in};
-ghost use Rattle.make_info.specs.Fields.{values_of_hex_digits, kind_of_field, untagged_dependency_in, dependency_values_in, number, decimal_number, nonempty_parts, values_by_kind, text_value_if, text_values, field_word};
+ghost use Rattle.make_info.specs.Fields.{field_values_of_decoded_hex, kind_of_field, untagged_dependency_in, dependency_values_in, number, decimal_number, nonempty_parts_between_spaces, values_by_kind, text_value_if, text_values, field_word};
 ghost use Rattle.make_info.specs.Reading.{nonempty_part, has_no_name_or_version, items_with_option_text};
-ghost use Rattle.make_info.specs.Information.{information, information_of, is_item_for, field_with_value, items_with_values_of_field, FieldWithValue, place_of_first_offending_option, information_fields};
+ghost use Rattle.make_info.specs.Information.{information, information_of_options_before_place, is_item_for, field_with_value, items_followed_by_values_of_field, FieldWithValue, place_of_first_offending_option_after, information_fields_with_installed_size};
 ghost use Rattle.make_info.specs.Views.{field_text_view, item_view, value_view};
 ghost use Rattle.std.specs.List.{find};
 ghost use Rattle.std.specs.Option.{option_map};
@@ -99,17 +99,18 @@ pub fn read_information<'a>(
 
 // Reads the values of `-I` one by one. `behind` is the place after the last argument, at which a
 // missing name or version is reported.
-#[tactic(auto, unfolding(crate::specs::Information::information_of))]
+#[tactic(auto, unfolding(crate::specs::Information::information_of_options_before_place))]
 fn read_values<'a>(
     alloc: Global,
     values: &'a Values,
     behind: u32,
 ) -> Result<Information<'a>, MakeFault>
     // On Ok, the information is the one that the values describe.
-    ensures ok { IfOk result (λ info. information_of values.entry.now behind ≡ Ok info) }
+    ensures ok { IfOk result
+        (λ info. information_of_options_before_place values.entry.now behind ≡ Ok info) }
     // An error is that of the definition, or out of memory.
     ensures err { IfErr result (λ fault. IsInfoFault fault
-        (information_of values.entry.now behind)) }
+        (information_of_options_before_place values.entry.now behind)) }
 {
     // Whether the output is NAME-VERSION.apk, and this name is too long.
     let too_long = is_default_output_too_long(values);
@@ -239,7 +240,7 @@ impl<'a> Items<'a> {
         // If the result is true, the new items are the old ones and those of the value. If it is
         // false, the definition allows no such value.
         ensures { IfOk result (λ good. (if good then Some self.new else None)
-            ≡ items_with_values_of_field self.old given.entry.field
+            ≡ items_followed_by_values_of_field self.old given.entry.field
             (values_by_kind (kind_of_field given.entry.field) given.entry.value.now)) }
     {
         let FieldText { field, value } = given;
@@ -260,7 +261,8 @@ impl<'a> Items<'a> {
         // If the result is true, the new items are the old ones and those of the value. If it is
         // false, the definition allows no such value.
         ensures { IfOk result (λ good. (if good then Some self.new else None)
-            ≡ items_with_values_of_field self.old field (text_value_if is_good text.entry.now)) }
+            ≡ items_followed_by_values_of_field self.old field
+            (text_value_if is_good text.entry.now)) }
     {
         if !is_good {
             return Ok(false);
@@ -275,7 +277,7 @@ impl<'a> Items<'a> {
         // If the result is true, the new items are the old ones and those of the value. If it is
         // false, the definition allows no such value.
         ensures { IfOk result (λ good. (if good then Some self.new else None)
-            ≡ items_with_values_of_field self.old field (values_of_hex_digits
+            ≡ items_followed_by_values_of_field self.old field (field_values_of_decoded_hex
             (decode_of digits.entry.now))) }
     {
         match hex::decode(self.alloc, digits) {
@@ -294,7 +296,7 @@ impl<'a> Items<'a> {
         // If the result is true, the new items are the old ones and those of the value. If it is
         // false, the definition allows no such value.
         ensures { IfOk result (λ good. (if good then Some self.new else None)
-            ≡ items_with_values_of_field self.old field (option_map (λ n. number n ∷ [])
+            ≡ items_followed_by_values_of_field self.old field (option_map (λ n. number n ∷ [])
             (decimal_number digits.now))) }
     {
         let Some(n) = read_number(digits) else {
@@ -310,8 +312,8 @@ impl<'a> Items<'a> {
         // If the result is true, the new items are the old ones and those of the value. If it is
         // false, the definition allows no such value.
         ensures { IfOk result (λ good. (if good then Some self.new else None)
-            ≡ items_with_values_of_field self.old field (dependency_values_in
-            (nonempty_parts texts.entry.now))) }
+            ≡ items_followed_by_values_of_field self.old field (dependency_values_in
+            (nonempty_parts_between_spaces texts.entry.now))) }
     {
         for part in texts.split(|byte| *byte == b' ') {
             if !self.add_need(field, part)? {
@@ -327,7 +329,7 @@ impl<'a> Items<'a> {
         // If the result is true, the new items are the old ones and those of the value. If it is
         // false, the definition allows no such value.
         ensures { IfOk result (λ good. (if good then Some self.new else None)
-            ≡ items_with_values_of_field self.old field (dependency_values_in
+            ≡ items_followed_by_values_of_field self.old field (dependency_values_in
             (nonempty_part part.entry.now))) }
     {
         if part.is_empty() {
@@ -347,8 +349,8 @@ impl<'a> Items<'a> {
         // If the result is true, the new items are the old ones and those of the value. If it is
         // false, the definition allows no such value.
         ensures { IfOk result (λ good. (if good then Some self.new else None)
-            ≡ items_with_values_of_field self.old field (Some (text_values
-            (nonempty_parts texts.entry.now)))) }
+            ≡ items_followed_by_values_of_field self.old field (Some (text_values
+            (nonempty_parts_between_spaces texts.entry.now)))) }
     {
         for part in texts.split(|byte| *byte == b' ') {
             if !part.is_empty() {
@@ -375,7 +377,8 @@ pub fn read_need(text: &[u8]) -> Option<Dep<'_>>
 /// information.
 pub fn an_option_gives_the_field_of_its_name()
     ensures { (f : Field) (info : List FieldWithValue) (size : ℕ)
-        → value_by_name (field_word f) (table PkgInfo) (information_fields info size)
+        → value_by_name (field_word f) (table PkgInfo)
+        (information_fields_with_installed_size info size)
         ≡ value_of_field f info }
 {}
 
@@ -385,10 +388,10 @@ pub fn an_option_gives_the_field_of_its_name()
 pub fn the_first_value_that_offends_is_reported()
     // A reported value is the first that is refused.
     ensures offends { (too_long : Bool) (values : List OptionValue) (place : ℕ)
-        → place_of_first_offending_option too_long [] values ≡ Some place
+        → place_of_first_offending_option_after too_long [] values ≡ Some place
         → IsPlaceOfFirstOffendingOption too_long values place }
     // If none is reported, none is refused.
     ensures allowed { (too_long : Bool) (values : List OptionValue)
-        → place_of_first_offending_option too_long [] values ≡ None
+        → place_of_first_offending_option_after too_long [] values ≡ None
         → HasNoOffendingOption too_long values }
 {}

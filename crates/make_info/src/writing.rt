@@ -6,8 +6,8 @@ ghost use Rattle.adb_view.specs.Plain.{blob_or_null};
 ghost use Rattle.dep_core.specs.Meets.{dependency};
 ghost use Rattle.dep_core.specs.Value.{dep_value, match_number_of};
 ghost use Rattle.make_info.specs.Columns.{column_value, column_values_by_installed_size};
-ghost use Rattle.make_info.specs.Information.{information_value, value_of_list_field, dependency_object, number_in, replaces_priority, plain_value, value_of_single_field};
-ghost use Rattle.make_info.specs.Values.{number_value, size_value};
+ghost use Rattle.make_info.specs.Information.{information_value_with_installed_size, value_of_list_field, dependency_object, number_in, replaces_priority, plain_value, value_of_single_field};
+ghost use Rattle.make_info.specs.Values.{number_or_null, size_or_null_if_zero};
 ghost use Rattle.make_info.specs.Views.{value_view};
 ghost use Rattle.std.specs.Prelude.{◌≡◌, OnOk};
 
@@ -60,12 +60,13 @@ const COLUMNS: [Column; 22] = [
 impl Information<'_> {
     /// Writes the information, with the size of the package's files (`installed_size`): 22 fields
     /// in order.
-    #[tactic(auto, unfolding(crate::specs::Information::information_value))]
+    #[tactic(auto, unfolding(crate::specs::Information::information_value_with_installed_size))]
     pub fn write(&self, draft: &mut Draft, installed_size: u64) -> Result<(), AllocError>
         // On Ok, the draft has one value more: the information of the package, as an object of
         // table 3.
         ensures { OnOk result
-            (draft.new ≡ draft_with (information_value self.now installed_size) draft.old) }
+            (draft.new ≡ draft_with
+            (information_value_with_installed_size self.now installed_size) draft.old) }
     {
         draft.open_list()?;
         self.entries.write_columns(draft, &COLUMNS, installed_size)?;
@@ -169,7 +170,7 @@ impl Value<'_> {
 
 /// Writes a size; 0 is written as NULL.
 pub fn write_size(draft: &mut Draft, size: u64) -> Result<(), AllocError>
-    ensures { OnOk result (draft.new ≡ draft_with (size_value size) draft.old) }
+    ensures { OnOk result (draft.new ≡ draft_with (size_or_null_if_zero size) draft.old) }
 {
     if size == 0 {
         return draft.null();
@@ -202,7 +203,7 @@ fn write_version(draft: &mut Draft, dep: &Dep<'_>) -> Result<(), AllocError>
 
 /// Writes an optional number; None is written as NULL.
 pub fn write_number(draft: &mut Draft, number: Option<u64>) -> Result<(), AllocError>
-    ensures { OnOk result (draft.new ≡ draft_with (number_value number) draft.old) }
+    ensures { OnOk result (draft.new ≡ draft_with (number_or_null number) draft.old) }
 {
     match number {
         Some(n) => draft.int(n),

@@ -19,7 +19,7 @@ use Rattle.dep_core.specs.Spelling.{SpellsDependency}
 use Rattle.version_core.specs.Order.{is_version}
 use Rattle.make_core.specs.make_info.declared.field.Field.{Field}
 use Rattle.make_core.specs.make_info.declared.field.Field.TheVariants as Fields
-use Rattle.make_core.specs.make_info.Fields.{FieldValue, text, number, need, dependency_value_and_others, decimal_number, if_untagged, is_nonempty, kind_of_field, untagged_dependency_in, dependency_values_in, nonempty_parts, text_value_if, text_values, values_of_hex_digits, values_by_kind}
+use Rattle.make_core.specs.make_info.Fields.{FieldValue, text, number, need, dependency_value_and_others, decimal_number, dependency_if_untagged, is_nonempty, kind_of_field, untagged_dependency_in, dependency_values_in, nonempty_parts_between_spaces, text_value_if, text_values, field_values_of_decoded_hex, values_by_kind}
 use Rattle.make_laws.specs.OptionGrammar.{SaysDependencies, SaysNumber, FieldTextGivesValues, SaysText, SpellDependencies, SpellsBytes, SpellsNumber, spaced_parts}
 
 -- ---- texts
@@ -85,7 +85,7 @@ decoded_from digits bytes s =
     let two = two_each digits bytes s in
     decode_of-even digits (omega arith) ∙ bytes_from 0 digits bytes s
 
-hex_to : (r : Result (List ℕ) FromHexError) (said : List FieldValue) → values_of_hex_digits r ≡ Some said → (bytes : List ℕ) × (r ≡ Ok bytes) × (said ≡ text bytes ∷ [])
+hex_to : (r : Result (List ℕ) FromHexError) (said : List FieldValue) → field_values_of_decoded_hex r ≡ Some said → (bytes : List ℕ) × (r ≡ Ok bytes) × (said ≡ text bytes ∷ [])
 hex_to (Ok bytes) said e = let same : text bytes ∷ [] ≡ said = cc (e) in (bytes, refl, sym same)
 hex_to (Err f) said e = absurd (cc (e))
 
@@ -159,7 +159,7 @@ same_filter : (parts : List (List ℕ)) → filter is_nonempty parts ≡ filter 
 same_filter [] = refl
 same_filter (p ∷ ps) = λ k. cond (some_test p k) (p ∷ same_filter ps k) (same_filter ps k)
 
-same_parts : (value : List ℕ) → nonempty_parts value ≡ spaced_parts value
+same_parts : (value : List ℕ) → nonempty_parts_between_spaces value ≡ spaced_parts value
 same_parts value = same_filter (slice_split (λ b. b == 32) value)
 
 -- ---- dependencies
@@ -169,7 +169,7 @@ module _ (spelled : (t : List ℕ) (d : Dependency) → dependency_of t ≡ Some
   untagged_by d e None is k = let same : d ≡ e = cc (k) in (same, ap (λ (x : Dependency). x.tag) (sym same) ∙ is)
   untagged_by d e (Some t) is k = absurd (cc (k))
 
-  need_by : (o : Option Dependency) (d : Dependency) → option_and_then if_untagged o ≡ Some d → (o ≡ Some d) × (d.tag ≡ None)
+  need_by : (o : Option Dependency) (d : Dependency) → option_and_then dependency_if_untagged o ≡ Some d → (o ≡ Some d) × (d.tag ≡ None)
   need_by None d e = absurd (cc (e))
   need_by (Some x) d e = let both = untagged_by x d x.tag refl e in (ap Some both.0, both.1)
 
@@ -193,31 +193,31 @@ module _ (spelled : (t : List ℕ) (d : Dependency) → dependency_of t ≡ Some
   needs_from (part ∷ parts) (text bytes ∷ xs) s = absurd s
   needs_from (part ∷ parts) (number n ∷ xs) s = absurd s
   needs_from (part ∷ parts) (need d ∷ xs) s =
-      let one : untagged_dependency_in part ≡ Some d = ap (option_and_then if_untagged) (read part d s.0.0) ∙ ap (λ (o : Option (List ℕ)). if is_some o then None else Some d) s.0.1 in
+      let one : untagged_dependency_in part ≡ Some d = ap (option_and_then dependency_if_untagged) (read part d s.0.0) ∙ ap (λ (o : Option (List ℕ)). if is_some o then None else Some d) s.0.1 in
       let more = needs_from parts xs s.1 in
       λ k. dependency_value_and_others (one k) (more k)
 
-  says_needs_to : (value : List ℕ) (said : List FieldValue) → dependency_values_in (nonempty_parts value) ≡ Some said → SaysDependencies value said
+  says_needs_to : (value : List ℕ) (said : List FieldValue) → dependency_values_in (nonempty_parts_between_spaces value) ≡ Some said → SaysDependencies value said
   says_needs_to value said e = needs_to (spaced_parts value) said (ap dependency_values_in (sym (same_parts value)) ∙ e)
 
-  says_needs_from : (value : List ℕ) (said : List FieldValue) → SaysDependencies value said → dependency_values_in (nonempty_parts value) ≡ Some said
+  says_needs_from : (value : List ℕ) (said : List FieldValue) → SaysDependencies value said → dependency_values_in (nonempty_parts_between_spaces value) ≡ Some said
   says_needs_from value said s = ap dependency_values_in (same_parts value) ∙ needs_from (spaced_parts value) said s
 
   -- ---- field by field
 
-  tags_to : (value : List ℕ) (said : List FieldValue) → Some (text_values (nonempty_parts value)) ≡ Some said → said ≡ map text (spaced_parts value)
-  tags_to value said e = let same : text_values (nonempty_parts value) ≡ said = cc (e) in sym same ∙ ap (map text) (same_parts value)
+  tags_to : (value : List ℕ) (said : List FieldValue) → Some (text_values (nonempty_parts_between_spaces value)) ≡ Some said → said ≡ map text (spaced_parts value)
+  tags_to value said e = let same : text_values (nonempty_parts_between_spaces value) ≡ said = cc (e) in sym same ∙ ap (map text) (same_parts value)
 
-  tags_from : (value : List ℕ) (said : List FieldValue) → said ≡ map text (spaced_parts value) → Some (text_values (nonempty_parts value)) ≡ Some said
+  tags_from : (value : List ℕ) (said : List FieldValue) → said ≡ map text (spaced_parts value) → Some (text_values (nonempty_parts_between_spaces value)) ≡ Some said
   tags_from value said e = ap Some (ap (map text) (same_parts value) ∙ sym e)
 
-  hex_said_to : (value : List ℕ) (said : List FieldValue) → values_of_hex_digits (decode_of value) ≡ Some said → (bytes : List ℕ) × SpellsBytes value bytes × (said ≡ text bytes ∷ [])
+  hex_said_to : (value : List ℕ) (said : List FieldValue) → field_values_of_decoded_hex (decode_of value) ≡ Some said → (bytes : List ℕ) × SpellsBytes value bytes × (said ≡ text bytes ∷ [])
   hex_said_to value said e =
       let (bytes, is, says) = hex_to (decode_of value) said e in
       (bytes, decoded_to value bytes is, says)
 
-  hex_said_from : (value : List ℕ) (said : List FieldValue) → (bytes : List ℕ) × SpellsBytes value bytes × (said ≡ text bytes ∷ []) → values_of_hex_digits (decode_of value) ≡ Some said
-  hex_said_from value said (bytes, spells, says) = ap values_of_hex_digits (decoded_from value bytes spells) ∙ ap Some (sym says)
+  hex_said_from : (value : List ℕ) (said : List FieldValue) → (bytes : List ℕ) × SpellsBytes value bytes × (said ≡ text bytes ∷ []) → field_values_of_decoded_hex (decode_of value) ≡ Some said
+  hex_said_from value said (bytes, spells, says) = ap field_values_of_decoded_hex (decoded_from value bytes spells) ∙ ap Some (sym says)
 
   pub says_to : (f : Field) (value : List ℕ) (said : List FieldValue) → values_by_kind (kind_of_field f) value ≡ Some said → FieldTextGivesValues f value said
   says_to Fields.Name value said e = text_to (is_package_name value) value said e

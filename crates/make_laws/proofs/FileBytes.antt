@@ -10,11 +10,11 @@ use Rattle.adb_view.specs.Values.{int_in}
 use Rattle.adb_view.specs.declared.tables.Which.TheVariants.{File}
 use Rattle.adb_view.proofs.ValueEntries.{nth_obj}
 use Rattle.adb_view.specs.Plain.{blob_or_null, null}
-use Rattle.make_core.specs.make_info.Values.{size_value}
+use Rattle.make_core.specs.make_info.Values.{size_or_null_if_zero}
 use Rattle.make_core.specs.package_files.Package.{file_fields, hash_of_kind, is_link_file, kind_of_file, link_text, size_of_kind, target_of_kind, value_of_file}
 use Rattle.make_core.specs.package_files.declared.file.FileKind.{FileKind}
 use Rattle.make_core.specs.package_files.declared.file.FileKind.TheVariants.{Link, Regular}
-use Rattle.make_core.proofs.PackageFiles.{int-size_value}
+use Rattle.make_core.proofs.PackageFiles.{int-size_or_null_if_zero}
 use Rattle.make_laws.specs.NamedFields.{field_named}
 use Rattle.make_laws.specs.SourceBytes.{IsLinkTo, AreBytesOfNoLink}
 
@@ -58,13 +58,13 @@ regular_by bytes false e none = kind_by bytes false e
 abbrev Tells : List ℕ → List ℕ → FileKind → Type 0
 Tells name bytes kind =
     (field_named File (codes "target") (value_of_file (record { name = name; bytes = bytes })) ≡ blob_or_null (target_of_kind kind))
-    × (field_named File (codes "size") (value_of_file (record { name = name; bytes = bytes })) ≡ size_value (size_of_kind kind))
+    × (field_named File (codes "size") (value_of_file (record { name = name; bytes = bytes })) ≡ size_or_null_if_zero (size_of_kind kind))
     × (field_named File (codes "hashes") (value_of_file (record { name = name; bytes = bytes })) ≡ blob_or_null (hash_of_kind kind))
 
 tells : (name bytes : List ℕ) (kind : FileKind) → kind_of_file bytes ≡ kind → Tells name bytes kind
 tells name bytes kind e = (
   nth_obj (file_fields name (kind_of_file bytes)) 5 ∙ ap (λ (k : FileKind). blob_or_null (target_of_kind k)) e,
-  nth_obj (file_fields name (kind_of_file bytes)) 2 ∙ ap (λ (k : FileKind). size_value (size_of_kind k)) e,
+  nth_obj (file_fields name (kind_of_file bytes)) 2 ∙ ap (λ (k : FileKind). size_or_null_if_zero (size_of_kind k)) e,
   nth_obj (file_fields name (kind_of_file bytes)) 4 ∙ ap (λ (k : FileKind). blob_or_null (hash_of_kind k)) e,
 )
 
@@ -77,4 +77,4 @@ pub regular_tells : (name bytes : List ℕ) → AreBytesOfNoLink bytes
     × (field_named File (codes "hashes") (value_of_file (record { name = name; bytes = bytes })) ≡ blob_or_null (sha256 bytes))
 regular_tells name bytes none =
     let all = tells name bytes (Regular (length bytes) (sha256 bytes)) (regular_by bytes (is_link_file bytes) refl none) in
-    (all.0, ap int_in all.1 ∙ int-size_value (length bytes), all.2)
+    (all.0, ap int_in all.1 ∙ int-size_or_null_if_zero (length bytes), all.2)

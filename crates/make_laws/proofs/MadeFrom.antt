@@ -7,13 +7,13 @@ use Rattle.adb_view.specs.Values.{entries_in, entry_in, text_in}
 use Rattle.adb_view.proofs.ValueEntries.{entries_arr, nth_obj, text_blob}
 use Rattle.adb_view.specs.Plain.{Plain, blob_or_null}
 use Rattle.command_core.specs.Command.{CommandLine}
-use Rattle.make_core.specs.make_info.Information.{FieldWithValue, information_value, information, replaces_priority}
+use Rattle.make_core.specs.make_info.Information.{FieldWithValue, information_value_with_installed_size, information, replaces_priority}
 use Rattle.make_core.specs.make_info.Reads.{Reads}
-use Rattle.make_core.specs.make_info.Values.{number_value, plains_of_list}
+use Rattle.make_core.specs.make_info.Values.{number_or_null, plains_of_list}
 use Rattle.make_core.specs.make_package.Making.{made_package, or_info_bad}
 use Rattle.make_core.specs.package_files.Package.{Script, SourceFolder, contents_of_folders, installed_size, package_fields, value_of_folder, value_of_package, value_of_scripts}
 use Rattle.make_core.specs.package_files.Sources.{AreNamesBelowFirstFolder, source_folders_of_first_option, and_then, scripts_from_read, texts_of, values_of_letter}
-use Rattle.make_core.specs.ReadBack.{packed_of_parts, packed_package}
+use Rattle.make_core.specs.ReadBack.{packed_of_parts, package_with_contents_of_command}
 use Rattle.make_core.proofs.ListedNames.{after_ok}
 use Rattle.make_core.proofs.PackageFiles.{folders_stand, list-plains}
 use Rattle.make_core.specs.pkg_core.Whole.{PackageWithContents, package_with_contents}
@@ -22,7 +22,7 @@ use Rattle.make_laws.specs.MadePackages.{HasTriggersOfOptionsInOrder, IsMadePack
 -- what a package that is made is read back as
 abbrev pub ReadsBack : Type 0
 ReadsBack = (command : CommandLine) (names : List (List ℕ)) (read : Reads) (bytes : List ℕ) → AreNamesBelowFirstFolder (values_of_letter FILES command.values) names → made_package command names read ≡ Ok bytes → length bytes < 2 ^ 64
-    → packed_package command names read ≡ Ok (package_with_contents bytes)
+    → package_with_contents_of_command command names read ≡ Ok (package_with_contents bytes)
 
 pub record IsMadeFrom (command : CommandLine) (names : List (List ℕ)) (read : Reads) (pkg : Plain) : Type 0 where
   pub scripts : List Script
@@ -31,7 +31,7 @@ pub record IsMadeFrom (command : CommandLine) (names : List (List ℕ)) (read : 
   pub scripts_read : scripts_from_read read 0 (values_of_letter SCRIPT command.values) ≡ Ok scripts
   pub items_read : or_info_bad (information command) ≡ Ok items
   pub sources_read : source_folders_of_first_option read (length scripts) (values_of_letter FILES command.values) names ≡ Ok sources
-  pub value : pkg ≡ value_of_package (information_value items (installed_size sources)) sources scripts (texts_of (values_of_letter TRIGGER command.values)) (replaces_priority items)
+  pub value : pkg ≡ value_of_package (information_value_with_installed_size items (installed_size sources)) sources scripts (texts_of (values_of_letter TRIGGER command.values)) (replaces_priority items)
 
 pub made_from : ReadsBack → (command : CommandLine) (names : List (List ℕ)) (read : Reads) (bytes : List ℕ) → IsMadePackage command names read bytes → IsMadeFrom command names read (package_in_container bytes)
 made_from back command names read bytes made =
@@ -43,7 +43,7 @@ made_from back command names read bytes made =
     and_then (source_folders_of_first_option read (length one.x) (values_of_letter FILES command.values) names) (packed_of_parts command one.x about)) whole one.gives in
     let three = after_ok (source_folders_of_first_option read (length one.x) (values_of_letter FILES command.values) names) (packed_of_parts command one.x two.x) whole two.gives in
     let gives = three.gives in
-    let v : Plain = value_of_package (information_value two.x (installed_size three.x)) three.x one.x (texts_of (values_of_letter TRIGGER command.values)) (replaces_priority two.x) in
+    let v : Plain = value_of_package (information_value_with_installed_size two.x (installed_size three.x)) three.x one.x (texts_of (values_of_letter TRIGGER command.values)) (replaces_priority two.x) in
     let same : package_with_contents_from_parts v (contents_of_folders 1 three.x) ≡ whole = cc (gives) in
     record {
       scripts = one.x;
@@ -61,7 +61,7 @@ texts_back (t ∷ ts) = λ k. text_blob t k ∷ texts_back ts k
 
 module _ (command : CommandLine) (names : List (List ℕ)) (read : Reads) (pkg : Plain) (m : IsMadeFrom command names read pkg) where
   abbrev info : Plain
-  info = information_value m.items (installed_size m.sources)
+  info = information_value_with_installed_size m.items (installed_size m.sources)
 
   abbrev triggers : List (List ℕ)
   triggers = texts_of (values_of_letter TRIGGER command.values)
@@ -78,7 +78,7 @@ module _ (command : CommandLine) (names : List (List ℕ)) (read : Reads) (pkg :
   pub scripts_are : entry_in pkg 2 ≡ value_of_scripts m.scripts
   scripts_are = part 2 ∙ nth_obj (package_fields info (map value_of_folder m.sources) m.scripts triggers (replaces_priority m.items)) 2
 
-  pub priority_is : entry_in pkg 4 ≡ number_value (replaces_priority m.items)
+  pub priority_is : entry_in pkg 4 ≡ number_or_null (replaces_priority m.items)
   priority_is = part 4 ∙ nth_obj (package_fields info (map value_of_folder m.sources) m.scripts triggers (replaces_priority m.items)) 4
 
   pub triggers_are : HasTriggersOfOptionsInOrder command.values pkg

@@ -9,9 +9,9 @@ use Rattle.adb_view.specs.Values.{int_in}
 use Rattle.adb_view.specs.declared.tables.Which.TheVariants.{PkgInfo}
 use Rattle.adb_view.proofs.ValueEntries.{nth_obj}
 use Rattle.adb_view.specs.Plain.{Plain}
-use Rattle.make_core.specs.make_info.Information.{FieldWithValue, information_fields, information_value}
+use Rattle.make_core.specs.make_info.Information.{FieldWithValue, information_fields_with_installed_size, information_value_with_installed_size}
 use Rattle.make_core.specs.package_files.Package.{Source, SourceFolder, installed_size, kind_of_file, size_of_folder, size_of_kind, value_of_file, value_of_folder}
-use Rattle.make_core.proofs.PackageFiles.{files_stand, int-size_value, size_stands}
+use Rattle.make_core.proofs.PackageFiles.{files_stand, int-size_or_null_if_zero, size_stands}
 use Rattle.make_laws.specs.MadePackages.{listed_file_size}
 use Rattle.make_laws.specs.NamedFields.{field_named}
 
@@ -35,6 +35,6 @@ sizes_told (s ∷ ss) =
     ∙ ((λ k. one k + sizes_told ss k)
     ∙ (sym (sum_by-append listed_file_size here rest) ∙ ap (sum_by listed_file_size) (sym (flat_map-cons files_in (value_of_folder s) (map value_of_folder ss)))))
 
-pub size_is : (items : List FieldWithValue) (size : ℕ) → int_in (field_named PkgInfo (codes "installed-size") (information_value items size)) ≡ size
-unfolding information_value
-size_is items size = ap int_in (nth_obj (information_fields items size) 11) ∙ int-size_value size
+pub size_is : (items : List FieldWithValue) (size : ℕ) → int_in (field_named PkgInfo (codes "installed-size") (information_value_with_installed_size items size)) ≡ size
+unfolding information_value_with_installed_size
+size_is items size = ap int_in (nth_obj (information_fields_with_installed_size items size) 11) ∙ int-size_or_null_if_zero size

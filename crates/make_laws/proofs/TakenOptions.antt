@@ -13,7 +13,7 @@ use Rattle.make_core.specs.make_info.declared.field.Field.{Field}
 use Rattle.make_core.specs.make_info.declared.field.Field.TheVariants as Fields
 use Rattle.make_core.specs.make_info.Fields.{FieldValue, field_word, kind_of_field, may_repeat, values_by_kind}
 use Rattle.make_core.specs.make_info.FieldTexts.{FieldText, field_text_in, is_option_for_field, is_same_field, gives_value_for_field}
-use Rattle.make_core.specs.make_info.Information.{items_of_text, offends, gives_single_field_again, items_with_values_of_field}
+use Rattle.make_core.specs.make_info.Information.{items_of_text, offends, gives_single_field_again, items_followed_by_values_of_field}
 use Rattle.make_core.proofs.make_info.Reading.{same_field}
 use Rattle.make_laws.specs.OptionGrammar.{IsGivenFor, IsAcceptedInfoOption, is_list_field, option_text}
 use Rattle.make_laws.proofs.FieldValues.{says_from, says_to}
@@ -74,12 +74,12 @@ abbrev offends_given : Bool → List OptionValue → Option FieldText → Bool
 offends_given too_long before o =
     not (is_some (option_and_then items_of_text o)) || (gives_single_field_again before o || (too_long && gives_value_for_field Fields.Version o))
 
-some_said : (f : Field) (o : Option (List FieldValue)) → not (is_some (items_with_values_of_field [] f o)) ≡ false → (said : List FieldValue) × (o ≡ Some said)
+some_said : (f : Field) (o : Option (List FieldValue)) → not (is_some (items_followed_by_values_of_field [] f o)) ≡ false → (said : List FieldValue) × (o ≡ Some said)
 some_said f None e = absurd (cc (e))
 some_said f (Some said) e = (said, refl)
 
-said_some : (f : Field) (o : Option (List FieldValue)) (said : List FieldValue) → o ≡ Some said → not (is_some (items_with_values_of_field [] f o)) ≡ false
-said_some f o said e = ap (λ (x : Option (List FieldValue)). not (is_some (items_with_values_of_field [] f x))) e
+said_some : (f : Field) (o : Option (List FieldValue)) (said : List FieldValue) → o ≡ Some said → not (is_some (items_followed_by_values_of_field [] f o)) ≡ false
+said_some f o said e = ap (λ (x : Option (List FieldValue)). not (is_some (items_followed_by_values_of_field [] f x))) e
 
 single_any : (l a : Bool) → (not l && a) ≡ false → l ≡ false → a ≡ false
 single_any true a e is = absurd (cc (is))
@@ -133,7 +133,7 @@ module _ (spelled : (t : List ℕ) (d : Dependency) → dependency_of t ≡ Some
       let g : Option FieldText = Some (record { field = f; value = t.value }) in
       let is : field_text_in v.text ≡ g = ap field_text_in t.given ∙ given f t.value in
       ap (offends_given too_long before) is
-      ∙ all_false (not (is_some (items_with_values_of_field [] f (values_by_kind (kind_of_field f) t.value)))) (not (may_repeat (kind_of_field f)) && list_any (is_option_for_field f) before) (too_long && is_same_field f Fields.Version)
+      ∙ all_false (not (is_some (items_followed_by_values_of_field [] f (values_by_kind (kind_of_field f) t.value)))) (not (may_repeat (kind_of_field f)) && list_any (is_option_for_field f) before) (too_long && is_same_field f Fields.Version)
       (said_some f (values_by_kind (kind_of_field f) t.value) t.said (says_from spelled read f t.value t.said t.allowed))
       (any_single (may_repeat (kind_of_field f)) (list_any (is_option_for_field f) before) (λ single. none_given f before (t.first (sym (list_is f) ∙ single))))
       (apart_version too_long f t.short)

@@ -16,9 +16,9 @@ use Rattle.dep_core.specs.Spelling.{SpellsDependency}
 use Rattle.make_core.specs.make_info.declared.field.Field.{Field}
 use Rattle.make_core.specs.make_info.declared.field.Field.TheVariants as Fields
 use Rattle.make_core.specs.make_info.Fields.{FieldValue, text, number, need, field_word, kind_of_field, values_by_kind}
-use Rattle.make_core.specs.make_info.FieldTexts.{FieldText, field_text_in, is_same_field, is_default_output_too_long, values_of_info}
-use Rattle.make_core.specs.make_info.Information.{FieldWithValue, items_of_valid_options, place_of_first_offending_option, field_with_value, information_fields, information_of, information_value, is_item_for, item_value_or_null, items_of_option, items_of_text, lacks_name_or_version, number_in, offends, plain_value, plain_values_of_field, replaces_priority, unless_offence, value_of_list_field, value_of_single_field, items_with_values_of_field}
-use Rattle.make_core.specs.make_info.Values.{number_value}
+use Rattle.make_core.specs.make_info.FieldTexts.{FieldText, field_text_in, is_same_field, is_default_output_too_long, values_of_info_options}
+use Rattle.make_core.specs.make_info.Information.{FieldWithValue, items_of_valid_options, place_of_first_offending_option_after, field_with_value, information_fields_with_installed_size, information_of_options_before_place, information_value_with_installed_size, is_item_for, item_value_or_null, items_of_option, items_of_text, lacks_name_or_version, number_in, offends, plain_value, plain_values_of_field, replaces_priority, unless_offence, value_of_list_field, value_of_single_field, items_followed_by_values_of_field}
+use Rattle.make_core.specs.make_info.Values.{number_or_null}
 use Rattle.make_core.proofs.make_info.Reading.{same_field}
 use Rattle.make_laws.specs.NamedFields.{field_named}
 use Rattle.make_laws.specs.OptionGrammar.{IsGivenFor, FieldTextGivesValues, option_text}
@@ -57,7 +57,7 @@ other_values f g (x ∷ xs) e =
 
 module _ (spelled : (t : List ℕ) (d : Dependency) → dependency_of t ≡ Some d → SpellsDependency t d) (read : (t : List ℕ) (d : Dependency) → SpellsDependency t d → dependency_of t ≡ Some d) where
   said_by_text : (f : Field) (v : OptionValue) (g : FieldText) (o : Option (List FieldValue)) (items : List FieldWithValue) → field_text_in v.text ≡ Some g → values_by_kind (kind_of_field g.field) g.value ≡ o
-      → items_with_values_of_field [] g.field o ≡ Some items → OptionGivesFieldValues f v (values_for f items)
+      → items_followed_by_values_of_field [] g.field o ≡ Some items → OptionGivesFieldValues f v (values_for f items)
   said_by_text f v g None items is kind e = absurd (cc (e))
   said_by_text f v g (Some said) items is kind e = by_field (is_same_field g.field f) refl
     where
@@ -94,12 +94,12 @@ module _ (spelled : (t : List ℕ) (d : Dependency) → dependency_of t ≡ Some
   allowed_first true b e = refl
   allowed_first false b e = absurd (cc (e))
 
-  pub say_of_field : (f : Field) (too_long : Bool) (before told : List OptionValue) → place_of_first_offending_option too_long before told ≡ None → OptionsGiveFieldValues f told (values_for f (items_of_valid_options told))
+  pub say_of_field : (f : Field) (too_long : Bool) (before told : List OptionValue) → place_of_first_offending_option_after too_long before told ≡ None → OptionsGiveFieldValues f told (values_for f (items_of_valid_options told))
   say_of_field f too_long before [] e = refl
   say_of_field f too_long before (v ∷ vs) e = by_offence (offends too_long before v) refl e (say_of_field f too_long (before ++ v ∷ []) vs)
     where
-      by_offence : (b : Bool) → offends too_long before v ≡ b → (if b then Some v.place else place_of_first_offending_option too_long (before ++ v ∷ []) vs) ≡ None
-          → (place_of_first_offending_option too_long (before ++ v ∷ []) vs ≡ None → OptionsGiveFieldValues f vs (values_for f (items_of_valid_options vs))) → OptionsGiveFieldValues f (v ∷ vs) (values_for f (items_of_valid_options (v ∷ vs)))
+      by_offence : (b : Bool) → offends too_long before v ≡ b → (if b then Some v.place else place_of_first_offending_option_after too_long (before ++ v ∷ []) vs) ≡ None
+          → (place_of_first_offending_option_after too_long (before ++ v ∷ []) vs ≡ None → OptionsGiveFieldValues f vs (values_for f (items_of_valid_options vs))) → OptionsGiveFieldValues f (v ∷ vs) (values_for f (items_of_valid_options (v ∷ vs)))
       by_offence true o e further = absurd (cc (e))
       by_offence false o e further =
           let one = some_items (items_of_option v) (allowed_first (is_some (items_of_option v)) _ o) in
@@ -136,28 +136,28 @@ tells_first : (f : Field) (items : List FieldWithValue) (v : Plain) → v ≡ va
 tells_first f items v e = subst (HasFirstValue (values_for f items)) (sym e) (told_first f items)
 
 abbrev field_at : Field → List FieldWithValue → ℕ → Plain
-field_at f items size = field_named PkgInfo (field_word f) (information_value items size)
+field_at f items size = field_named PkgInfo (field_word f) (information_value_with_installed_size items size)
 
 pub told_info : (f : Field) (items : List FieldWithValue) (size : ℕ) → (f ≡ Fields.ReplacesPriority → ⊥) → HasValuesOfField f (values_for f items) (field_at f items size)
-unfolding information_value
-told_info Fields.Name items size other = tells_first Fields.Name items _ (nth_obj (information_fields items size) 0)
-told_info Fields.Version items size other = tells_first Fields.Version items _ (nth_obj (information_fields items size) 1)
-told_info Fields.Description items size other = tells_first Fields.Description items _ (nth_obj (information_fields items size) 3)
-told_info Fields.Arch items size other = tells_first Fields.Arch items _ (nth_obj (information_fields items size) 4)
-told_info Fields.License items size other = tells_first Fields.License items _ (nth_obj (information_fields items size) 5)
-told_info Fields.Origin items size other = tells_first Fields.Origin items _ (nth_obj (information_fields items size) 6)
-told_info Fields.Maintainer items size other = tells_first Fields.Maintainer items _ (nth_obj (information_fields items size) 7)
-told_info Fields.Url items size other = tells_first Fields.Url items _ (nth_obj (information_fields items size) 8)
-told_info Fields.RepoCommit items size other = tells_first Fields.RepoCommit items _ (nth_obj (information_fields items size) 9)
-told_info Fields.BuildTime items size other = tells_first Fields.BuildTime items _ (nth_obj (information_fields items size) 10)
-told_info Fields.ProviderPriority items size other = tells_first Fields.ProviderPriority items _ (nth_obj (information_fields items size) 13)
+unfolding information_value_with_installed_size
+told_info Fields.Name items size other = tells_first Fields.Name items _ (nth_obj (information_fields_with_installed_size items size) 0)
+told_info Fields.Version items size other = tells_first Fields.Version items _ (nth_obj (information_fields_with_installed_size items size) 1)
+told_info Fields.Description items size other = tells_first Fields.Description items _ (nth_obj (information_fields_with_installed_size items size) 3)
+told_info Fields.Arch items size other = tells_first Fields.Arch items _ (nth_obj (information_fields_with_installed_size items size) 4)
+told_info Fields.License items size other = tells_first Fields.License items _ (nth_obj (information_fields_with_installed_size items size) 5)
+told_info Fields.Origin items size other = tells_first Fields.Origin items _ (nth_obj (information_fields_with_installed_size items size) 6)
+told_info Fields.Maintainer items size other = tells_first Fields.Maintainer items _ (nth_obj (information_fields_with_installed_size items size) 7)
+told_info Fields.Url items size other = tells_first Fields.Url items _ (nth_obj (information_fields_with_installed_size items size) 8)
+told_info Fields.RepoCommit items size other = tells_first Fields.RepoCommit items _ (nth_obj (information_fields_with_installed_size items size) 9)
+told_info Fields.BuildTime items size other = tells_first Fields.BuildTime items _ (nth_obj (information_fields_with_installed_size items size) 10)
+told_info Fields.ProviderPriority items size other = tells_first Fields.ProviderPriority items _ (nth_obj (information_fields_with_installed_size items size) 13)
 told_info Fields.ReplacesPriority items size other = absurd (other refl)
-told_info Fields.Depends items size other = tells_all Fields.Depends items _ (nth_obj (information_fields items size) 14)
-told_info Fields.Provides items size other = tells_all Fields.Provides items _ (nth_obj (information_fields items size) 15)
-told_info Fields.Replaces items size other = tells_all Fields.Replaces items _ (nth_obj (information_fields items size) 16)
-told_info Fields.InstallIf items size other = tells_all Fields.InstallIf items _ (nth_obj (information_fields items size) 17)
-told_info Fields.Recommends items size other = tells_all Fields.Recommends items _ (nth_obj (information_fields items size) 18)
-told_info Fields.Tags items size other = tells_all Fields.Tags items _ (nth_obj (information_fields items size) 20)
+told_info Fields.Depends items size other = tells_all Fields.Depends items _ (nth_obj (information_fields_with_installed_size items size) 14)
+told_info Fields.Provides items size other = tells_all Fields.Provides items _ (nth_obj (information_fields_with_installed_size items size) 15)
+told_info Fields.Replaces items size other = tells_all Fields.Replaces items _ (nth_obj (information_fields_with_installed_size items size) 16)
+told_info Fields.InstallIf items size other = tells_all Fields.InstallIf items _ (nth_obj (information_fields_with_installed_size items size) 17)
+told_info Fields.Recommends items size other = tells_all Fields.Recommends items _ (nth_obj (information_fields_with_installed_size items size) 18)
+told_info Fields.Tags items size other = tells_all Fields.Tags items _ (nth_obj (information_fields_with_installed_size items size) 20)
 
 -- ---- the priority in replacing
 
@@ -183,22 +183,22 @@ all_numbers [] said e = subst AreNumbers (sym e) tt
 all_numbers (v ∷ vs) said (here, further, one, rest, e) =
     subst AreNumbers (sym e) (numbers_append here further (one_number v here one) (all_numbers vs further rest))
 
-first_number : (f : Field) (items : List FieldWithValue) → AreNumbers (values_for f items) → number_value (option_and_then (λ (item : FieldWithValue). number_in item.value) (find (is_item_for f) items)) ≡ item_value_or_null (find (is_item_for f) items)
+first_number : (f : Field) (items : List FieldWithValue) → AreNumbers (values_for f items) → number_or_null (option_and_then (λ (item : FieldWithValue). number_in item.value) (find (is_item_for f) items)) ≡ item_value_or_null (find (is_item_for f) items)
 first_number f [] all = refl
 first_number f (x ∷ xs) all = by_test (is_item_for f x) all (first_number f xs)
   where
-    own : (y : FieldValue) (said : List FieldValue) → AreNumbers (y ∷ said) → number_value (number_in y) ≡ plain_value y
+    own : (y : FieldValue) (said : List FieldValue) → AreNumbers (y ∷ said) → number_or_null (number_in y) ≡ plain_value y
     own (text bytes) said a = absurd a
     own (number n) said a = refl
     own (need d) said a = absurd a
 
     by_test : (b : Bool) → AreNumbers (map (λ (i : FieldWithValue). i.value) (cond b (x ∷ filter (is_item_for f) xs) (filter (is_item_for f) xs)))
-        → (AreNumbers (values_for f xs) → number_value (option_and_then (λ (item : FieldWithValue). number_in item.value) (find (is_item_for f) xs)) ≡ item_value_or_null (find (is_item_for f) xs))
-        → number_value (option_and_then (λ (item : FieldWithValue). number_in item.value) (cond b (Some x) (find (is_item_for f) xs))) ≡ item_value_or_null (cond b (Some x) (find (is_item_for f) xs))
+        → (AreNumbers (values_for f xs) → number_or_null (option_and_then (λ (item : FieldWithValue). number_in item.value) (find (is_item_for f) xs)) ≡ item_value_or_null (find (is_item_for f) xs))
+        → number_or_null (option_and_then (λ (item : FieldWithValue). number_in item.value) (cond b (Some x) (find (is_item_for f) xs))) ≡ item_value_or_null (cond b (Some x) (find (is_item_for f) xs))
     by_test true a further = own x.value (values_for f xs) a
     by_test false a further = further a
 
-pub told_priority : (told : List OptionValue) (items : List FieldWithValue) → OptionsGiveFieldValues Fields.ReplacesPriority told (values_for Fields.ReplacesPriority items) → (v : Plain) → v ≡ number_value (replaces_priority items)
+pub told_priority : (told : List OptionValue) (items : List FieldWithValue) → OptionsGiveFieldValues Fields.ReplacesPriority told (values_for Fields.ReplacesPriority items) → (v : Plain) → v ≡ number_or_null (replaces_priority items)
     → HasValuesOfField Fields.ReplacesPriority (values_for Fields.ReplacesPriority items) v
 told_priority told items say v e =
     tells_first Fields.ReplacesPriority items v (e ∙ first_number Fields.ReplacesPriority items (all_numbers told (values_for Fields.ReplacesPriority items) say))
@@ -206,16 +206,16 @@ told_priority told items say v e =
 -- ---- the information of a command
 
 pub record AreItemsOf (too_long : Bool) (told : List OptionValue) (items : List FieldWithValue) : Type 0 where
-  pub none : place_of_first_offending_option too_long [] told ≡ None
+  pub none : place_of_first_offending_option_after too_long [] told ≡ None
   pub all : items ≡ items_of_valid_options told
 
-items_by : (too_long : Bool) (told : List OptionValue) (behind : ℕ) (items : List FieldWithValue) (o : Option ℕ) (lacks : Bool) → place_of_first_offending_option too_long [] told ≡ o
+items_by : (too_long : Bool) (told : List OptionValue) (behind : ℕ) (items : List FieldWithValue) (o : Option ℕ) (lacks : Bool) → place_of_first_offending_option_after too_long [] told ≡ o
     → unless_offence o (if lacks then Err behind else Ok (items_of_valid_options told)) ≡ Ok items → AreItemsOf too_long told items
 items_by too_long told behind items (Some place) lacks is e = absurd (cc (e))
 items_by too_long told behind items None true is e = absurd (cc (e))
 items_by too_long told behind items None false is e = let same : items_of_valid_options told ≡ items = cc (e) in record { none = is; all = sym same }
 
-pub items_of : (values : List OptionValue) (behind : ℕ) (items : List FieldWithValue) → information_of values behind ≡ Ok items → AreItemsOf (is_default_output_too_long values) (values_of_info values) items
-unfolding information_of
+pub items_of : (values : List OptionValue) (behind : ℕ) (items : List FieldWithValue) → information_of_options_before_place values behind ≡ Ok items → AreItemsOf (is_default_output_too_long values) (values_of_info_options values) items
+unfolding information_of_options_before_place
 items_of values behind items e =
-    items_by (is_default_output_too_long values) (values_of_info values) behind items (place_of_first_offending_option (is_default_output_too_long values) [] (values_of_info values)) (lacks_name_or_version (values_of_info values)) refl e
+    items_by (is_default_output_too_long values) (values_of_info_options values) behind items (place_of_first_offending_option_after (is_default_output_too_long values) [] (values_of_info_options values)) (lacks_name_or_version (values_of_info_options values)) refl e

@@ -6,7 +6,7 @@ use Rattle.std.specs.Prelude.{◌≡◌, ◌↔◌, ◌⊎◌, ◌==◌, ℕ, �
 use Rattle.std.specs.List.{filter, flat_map}
 use Rattle.make_core.specs.adb_fields.FirstPair.{IsIn}
 use Rattle.make_core.specs.adb_fields.Repeated.{files_in, folders_in, name_of}
-use Rattle.make_core.specs.adb_schema.Soundness.{payload_in, root_value}
+use Rattle.make_core.specs.adb_schema.Soundness.{payload_in, root_value_of_payload}
 use Rattle.adb_view.specs.Values.{int_in, text_in}
 use Rattle.adb_view.specs.declared.tables.Which.TheVariants.{Dir, File, Package, PkgInfo}
 use Rattle.adb_view.specs.Plain.{Plain}
@@ -33,7 +33,7 @@ pub record IsMadePackage (command : CommandLine) (names : List (List ℕ)) (read
 
 -- the plain value of the package in a container with these bytes
 abbrev pub package_in_container : List ℕ → Plain
-package_in_container bytes = root_value Package (payload_in bytes)
+package_in_container bytes = root_value_of_payload Package (payload_in bytes)
 
 -- ---- folders and files
 

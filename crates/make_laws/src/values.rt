@@ -11,12 +11,12 @@ ghost use Rattle.command_core.specs.Values.{script_file, script_type};
 ghost use Rattle.command_core.specs.declared.values.OptionValue.{OptionValue};
 ghost use Rattle.dep_core.specs.Dependency.{Dependency};
 ghost use Rattle.dep_core.specs.Value.{dep_value};
-ghost use Rattle.make_core.specs.make_index.Entries.{entry_of_package};
+ghost use Rattle.make_core.specs.make_index.Entries.{index_entry_of_package_file};
 ghost use Rattle.make_core.specs.make_index.Index.{value_of_index};
 ghost use Rattle.make_core.specs.make_info.FieldTexts.{field_text_in};
 ghost use Rattle.make_core.specs.make_info.Fields.{FieldValue, kind_of_field, values_by_kind, text, number, need};
 ghost use Rattle.make_core.specs.make_info.Information.{offends, plain_value};
-ghost use Rattle.make_core.specs.make_info.Values.{number_value, plains_of_list};
+ghost use Rattle.make_core.specs.make_info.Values.{number_or_null, plains_of_list};
 ghost use Rattle.make_core.specs.make_info.declared.field.Field.{Field};
 ghost use Rattle.make_laws.specs.MadePackages.{package_in_container};
 ghost use Rattle.make_laws.specs.NamedFields.{field_named};
@@ -96,21 +96,23 @@ pub fn a_value_is_stored_as_given()
         → (let told = plain_value (need d) in
         (field_named Dep (codes "name") told ≡ blob_or_null (dep_value d).name)
         × (field_named Dep (codes "version") told ≡ blob_or_null (dep_value d).version)
-        × (field_named Dep (codes "match") told ≡ number_value (dep_value d).matching)) }
+        × (field_named Dep (codes "match") told ≡ number_or_null (dep_value d).matching)) }
 {}
 
 /// An entry of an index has the package's id and the length of its file. Each other field, by its
 /// name, is the one of the package's information, without zeros.
 pub fn an_entry_has_the_values_of_its_package()
     // The field `hashes` is the package's id.
-    ensures id { (file : List ℕ) → field_named PkgInfo (codes "hashes") (entry_of_package file)
+    ensures id { (file : List ℕ)
+        → field_named PkgInfo (codes "hashes") (index_entry_of_package_file file)
         ≡ blob_or_null (package_id file) }
     // The field `file-size` is the length of the package's file.
     ensures length { (file : List ℕ)
-        → int_in (field_named PkgInfo (codes "file-size") (entry_of_package file)) ≡ length file }
+        → int_in (field_named PkgInfo (codes "file-size") (index_entry_of_package_file file))
+        ≡ length file }
     // Each other field is that of the package's information, without zeros.
     ensures others { (file name : List ℕ) → name ≢ codes "hashes" → name ≢ codes "file-size"
-        → field_named PkgInfo name (entry_of_package file) ≡ without_zeros
+        → field_named PkgInfo name (index_entry_of_package_file file) ≡ without_zeros
         (field_named PkgInfo name (field_named Package (codes "info")
         (package_in_container file))) }
 {}

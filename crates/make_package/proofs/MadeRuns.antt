@@ -21,7 +21,7 @@ use Rattle.make_package.specs.Making.{made_package, or_info_bad, package_of_part
 use Rattle.package_files.specs.Package as packages
 use Rattle.package_files.specs.Package.{SourceFolder}
 use Rattle.package_files.specs.Packed.{IsPacking}
-use Rattle.package_files.specs.Runs.{AgreesOrIsFault, IsExplainedBySomeReads}
+use Rattle.package_files.specs.Runs.{AgreesOrIsFault, HoldsOfSomeReadsOfTree}
 use Rattle.make_package.specs.Scripts.{AreScripts, IsScript, script_view, scripts_view}
 use Rattle.package_files.specs.Sources.{AreNamesBelowFirstFolder, and_then, results_from_read, source_folder_read_at, source_folders_of_first_option, source_folders_at_place_from_read, found_bytes_or_missing, values_of_letter, script_at, scripts_from_read}
 use Rattle.package_files.specs.make_info.Reads.{Reads}
@@ -64,9 +64,9 @@ module _ (told : List TreeState) (values : List OptionValue) (i : ℕ) (v : Opti
       ∙ sym (given_append SCRIPT (take i values) (drop i values)) ∙ ap (values_of_letter SCRIPT) (take-append-drop i values)
 
   pub scripts_stop : (scripts : Vec Script Global) (fault : MakeFault) → IsSoFar told one_read script_at (values_of_letter SCRIPT (take i values)) (AreScripts scripts) → IsNext told script_at v IsScript (Err fault)
-      → (n : ℕ) → IsExplainedBySomeReads told (λ read. AgreesOrIsFault AreScripts (Err fault) (scripts_from_read read n (values_of_letter SCRIPT values)))
+      → (n : ℕ) → HoldsOfSomeReadsOfTree told (λ read. AgreesOrIsFault AreScripts (Err fault) (scripts_from_read read n (values_of_letter SCRIPT values)))
   scripts_stop scripts fault so_far next n =
-      let P : List OptionValue → Type 0 = λ xs. IsExplainedBySomeReads told (λ read. AgreesOrIsFault AreScripts (Err fault) (scripts_from_read read n xs)) in
+      let P : List OptionValue → Type 0 = λ xs. HoldsOfSomeReadsOfTree told (λ read. AgreesOrIsFault AreScripts (Err fault) (scripts_from_read read n xs)) in
       subst P all_given
       (so_far_stops told one_read script_at script_own (values_of_letter SCRIPT (take i values)) v (values_of_letter SCRIPT (drop (i + 1) values)) (AreScripts scripts) IsScript AreScripts fault so_far next n)
 
@@ -103,8 +103,8 @@ pub record AreParts (ss ds : List OptionValue) (names : List (List ℕ)) (script
   pub rest : AgreesOrIsFault IsPacking r (source_folders_of_first_option read (length given) ds names)
 
 pub both_parts : (told : List TreeState) (ss ds : List OptionValue) (names : List (List ℕ)) (scripts : Vec Script Global) (r : Result Packing MakeFault)
-    → IsExplainedBySomeReads told (λ read. AgreesOrIsFault AreScripts (Ok scripts) (scripts_from_read read 0 ss)) → ((n : ℕ) → IsExplainedBySomeReads told (λ read. AgreesOrIsFault IsPacking r (source_folders_of_first_option read n ds names)))
-    → IsExplainedBySomeReads told (AreParts ss ds names scripts r)
+    → HoldsOfSomeReadsOfTree told (λ read. AgreesOrIsFault AreScripts (Ok scripts) (scripts_from_read read 0 ss)) → ((n : ℕ) → HoldsOfSomeReadsOfTree told (λ read. AgreesOrIsFault IsPacking r (source_folders_of_first_option read n ds names)))
+    → HoldsOfSomeReadsOfTree told (AreParts ss ds names scripts r)
 both_parts told ss ds names scripts r p q =
     let k : ℕ = 0 + total one_read ss in
     let h = q k in
@@ -173,7 +173,7 @@ module _ (command : CommandLine) (names : List (List ℕ)) (read : Reads) where
 -- ---- a run, of what is made
 
 pub made_by : (told : List TreeState) (command : CommandLine) (names : List (List ℕ)) (r : Result (Vec ℕ Global) MakeFault) → AreNamesBelowFirstFolder (values_of_letter FILES command.values) names → IfObservable told (λ v. AreNamesBelowFirstOption (values_of_letter FILES command.values) v names)
-    → IsExplainedBySomeReads told (λ read. AgreesOrIsFault IsBytes r (made_package command names read)) → IsMakeResult told command r
+    → HoldsOfSomeReadsOfTree told (λ read. AgreesOrIsFault IsBytes r (made_package command names read)) → IsMakeResult told command r
 made_by told command names (Ok file) named below p = record { names = names; named = named; below = below; reads = record { read = p.read; observed = p.observed; is = p.is.1 ∙ ap Ok p.is.2 } }
 made_by told command names (Err Disk) named below p = tt
 made_by told command names (Err Memory) named below p = tt
@@ -184,9 +184,9 @@ made_by told command names (Err (TooLarge b v)) named below p = record { names =
 
 -- the tree was asked before the run, and stayed as it was
 pub run_as : (t0 t1 : List TreeState) (command : CommandLine) (names : List (List ℕ)) (r : Result (Vec ℕ Global) MakeFault) → t1 ≡ t0 → AreNamesBelowFirstFolder (values_of_letter FILES command.values) names → IfObservable t0 (λ v. AreNamesBelowFirstOption (values_of_letter FILES command.values) v names)
-    → IsExplainedBySomeReads t1 (λ read. AgreesOrIsFault IsBytes r (made_package command names read)) → IsMakeResult t0 command r
+    → HoldsOfSomeReadsOfTree t1 (λ read. AgreesOrIsFault IsBytes r (made_package command names read)) → IsMakeResult t0 command r
 run_as t0 t1 command names r e named below p =
-    let P : List TreeState → Type 0 = λ t. IsExplainedBySomeReads t (λ read. AgreesOrIsFault IsBytes r (made_package command names read)) in
+    let P : List TreeState → Type 0 = λ t. HoldsOfSomeReadsOfTree t (λ read. AgreesOrIsFault IsBytes r (made_package command names read)) in
     made_by t0 command names r named below (subst P e p)
 
 -- ---- the listing
@@ -220,16 +220,16 @@ cut_run told command (Err e) fault h cut = let P : MakeFault → Type 0 = λ f. 
 -- ---- what is said of a command's values, and of lists as they are borrowed
 
 pub scripts_as : (told : List TreeState) (r : Result (Vec Script Global) MakeFault) (values wanted : List OptionValue) → values ≡ wanted
-    → IsExplainedBySomeReads told (λ read. AgreesOrIsFault AreScripts r (scripts_from_read read 0 (values_of_letter SCRIPT values))) → IsExplainedBySomeReads told (λ read. AgreesOrIsFault AreScripts r (scripts_from_read read 0 (values_of_letter SCRIPT wanted)))
-scripts_as told r values wanted e h = let P : List OptionValue → Type 0 = λ vs. IsExplainedBySomeReads told (λ read. AgreesOrIsFault AreScripts r (scripts_from_read read 0 (values_of_letter SCRIPT vs))) in subst P e h
+    → HoldsOfSomeReadsOfTree told (λ read. AgreesOrIsFault AreScripts r (scripts_from_read read 0 (values_of_letter SCRIPT values))) → HoldsOfSomeReadsOfTree told (λ read. AgreesOrIsFault AreScripts r (scripts_from_read read 0 (values_of_letter SCRIPT wanted)))
+scripts_as told r values wanted e h = let P : List OptionValue → Type 0 = λ vs. HoldsOfSomeReadsOfTree told (λ read. AgreesOrIsFault AreScripts r (scripts_from_read read 0 (values_of_letter SCRIPT vs))) in subst P e h
 
 -- folders behind scripts, after which the tree stayed as it was
 pub both_as : (t0 t1 : List TreeState) (command : CommandLine) (values : List OptionValue) (names : List (List ℕ)) (scripts : Vec Script Global) (r : Result Packing MakeFault) → values ≡ command.values → t1 ≡ t0
-    → IsExplainedBySomeReads t0 (λ read. AgreesOrIsFault AreScripts (Ok scripts) (scripts_from_read read 0 (values_of_letter SCRIPT values))) → ((n : ℕ) → IsExplainedBySomeReads t1 (λ read. AgreesOrIsFault IsPacking r (source_folders_of_first_option read n (values_of_letter FILES values) names)))
-    → IsExplainedBySomeReads t0 (AreParts (values_of_letter SCRIPT command.values) (values_of_letter FILES command.values) names scripts r)
+    → HoldsOfSomeReadsOfTree t0 (λ read. AgreesOrIsFault AreScripts (Ok scripts) (scripts_from_read read 0 (values_of_letter SCRIPT values))) → ((n : ℕ) → HoldsOfSomeReadsOfTree t1 (λ read. AgreesOrIsFault IsPacking r (source_folders_of_first_option read n (values_of_letter FILES values) names)))
+    → HoldsOfSomeReadsOfTree t0 (AreParts (values_of_letter SCRIPT command.values) (values_of_letter FILES command.values) names scripts r)
 both_as t0 t1 command values names scripts r e same p q =
-    let P : List OptionValue → Type 0 = λ vs. IsExplainedBySomeReads t0 (AreParts (values_of_letter SCRIPT vs) (values_of_letter FILES vs) names scripts r) in
-    let Q : List TreeState → Type 0 = λ t. (n : ℕ) → IsExplainedBySomeReads t (λ read. AgreesOrIsFault IsPacking r (source_folders_of_first_option read n (values_of_letter FILES values) names)) in
+    let P : List OptionValue → Type 0 = λ vs. HoldsOfSomeReadsOfTree t0 (AreParts (values_of_letter SCRIPT vs) (values_of_letter FILES vs) names scripts r) in
+    let Q : List TreeState → Type 0 = λ t. (n : ℕ) → HoldsOfSomeReadsOfTree t (λ read. AgreesOrIsFault IsPacking r (source_folders_of_first_option read n (values_of_letter FILES values) names)) in
     subst P e (both_parts t0 (values_of_letter SCRIPT values) (values_of_letter FILES values) names scripts r p (subst Q same q))
 
 pub package_as : (command : CommandLine) (about : List FieldWithValue) (borrowed scripts : List Script) (packing : Packing) (r : Result (Vec ℕ Global) MakeFault) → borrowed ≡ scripts
@@ -254,16 +254,16 @@ named_for vs folder names f h =
     subst P (sym f.first) (subst Q (sym f.name) h)
 
 pub packed_for : (told : List TreeState) (dirs : List OptionValue) (v : OptionValue) (others : List OptionValue) (dir : List ℕ) (names : List (List ℕ)) (r : Result Packing MakeFault) (n : ℕ) → dirs ≡ v ∷ others
-    → dir ≡ without_dot_slash v.text → IsExplainedBySomeReads told (λ read. AgreesOrIsFault IsPacking r (source_folders_at_place_from_read v.place read n (folder_listings_of dir names))) → IsExplainedBySomeReads told (λ read. AgreesOrIsFault IsPacking r (source_folders_of_first_option read n dirs names))
+    → dir ≡ without_dot_slash v.text → HoldsOfSomeReadsOfTree told (λ read. AgreesOrIsFault IsPacking r (source_folders_at_place_from_read v.place read n (folder_listings_of dir names))) → HoldsOfSomeReadsOfTree told (λ read. AgreesOrIsFault IsPacking r (source_folders_of_first_option read n dirs names))
 packed_for told dirs v others dir names r n e d h =
-    let P : List OptionValue → Type 0 = λ l. IsExplainedBySomeReads told (λ read. AgreesOrIsFault IsPacking r (source_folders_of_first_option read n l names)) in
-    let Q : List ℕ → Type 0 = λ f. IsExplainedBySomeReads told (λ read. AgreesOrIsFault IsPacking r (source_folders_at_place_from_read v.place read n (folder_listings_of f names))) in
+    let P : List OptionValue → Type 0 = λ l. HoldsOfSomeReadsOfTree told (λ read. AgreesOrIsFault IsPacking r (source_folders_of_first_option read n l names)) in
+    let Q : List ℕ → Type 0 = λ f. HoldsOfSomeReadsOfTree told (λ read. AgreesOrIsFault IsPacking r (source_folders_at_place_from_read v.place read n (folder_listings_of f names))) in
     subst P (sym e) (subst Q d h)
 
 pub nothing_packed : (told : List TreeState) (dirs : List OptionValue) (names : List (List ℕ)) (packing : Packing) (n : ℕ) → dirs ≡ [] → packing.blocks.items ≡ [] → packing.folders.items ≡ []
-    → IsExplainedBySomeReads told (λ read. AgreesOrIsFault IsPacking (Ok packing) (source_folders_of_first_option read n dirs names))
+    → HoldsOfSomeReadsOfTree told (λ read. AgreesOrIsFault IsPacking (Ok packing) (source_folders_of_first_option read n dirs names))
 nothing_packed told dirs names packing n e b f =
-    let P : List OptionValue → Type 0 = λ l. IsExplainedBySomeReads told (λ read. AgreesOrIsFault IsPacking (Ok packing) (source_folders_of_first_option read n l names)) in
+    let P : List OptionValue → Type 0 = λ l. HoldsOfSomeReadsOfTree told (λ read. AgreesOrIsFault IsPacking (Ok packing) (source_folders_of_first_option read n l names)) in
     subst P (sym e) (explained told (λ read. AgreesOrIsFault IsPacking (Ok packing) (Ok [])) (λ read. ([], refl, folders_none packing.blocks.items packing.folders b f)))
 
 -- ---- a run, of the tree

@@ -15,7 +15,7 @@ use Rattle.package_files.specs.make_info.Reads.{Reads}
 use Rattle.package_files.specs.make_info.declared.fault.MakeFault.{MakeFault}
 use Rattle.package_files.specs.make_info.declared.fault.MakeFault.TheVariants.{Disk, Memory}
 use Rattle.make_package.specs.Making.{made_package}
-use Rattle.package_files.specs.Runs.{IsExplainedBySomeReads}
+use Rattle.package_files.specs.Runs.{HoldsOfSomeReadsOfTree}
 use Rattle.package_files.specs.Sources.{AreNamesBelowFirstFolder, values_of_letter}
 
 -- ---- parts of a run
@@ -68,7 +68,7 @@ pub record IsMadeOf (history : List TreeState) (command : CommandLine)
   pub below : IfObservable history
       (λ v. AreNamesBelowFirstOption (values_of_letter FILES command.values) v names)
   -- some results of reads, which are the tree's if it is observable, give what is made
-  pub reads : IsExplainedBySomeReads history (λ read. made_package command names read ≡ made)
+  pub reads : HoldsOfSomeReadsOfTree history (λ read. made_package command names read ≡ made)
 
 -- the result of a run is the package or the refusal of *IsMadeOf*. An I/O error of the tree and out of
 -- memory may occur in any case

@@ -6,11 +6,11 @@ use Rattle.command_core.specs.declared.values.TheConstants.{FILES, SCRIPT, TRIGG
 use Rattle.std.specs.Prelude.{ℕ, List, length, Option, Some, None, Result, Ok, Err}
 use Rattle.adb_view.specs.Plain.{Plain}
 use Rattle.package_files.specs.adb_schema.declared.read.TheConstants.{PACKAGE_WORD}
-use Rattle.package_files.specs.adb_write.Canonical.{PayloadCounts, overflow_of}
+use Rattle.package_files.specs.adb_write.Canonical.{ByteAndValueCounts, overflow_of}
 use Rattle.package_files.specs.pkg_core.Contents.{Contents}
 use Rattle.command_core.specs.Command.{CommandLine}
 use Rattle.package_files.specs.adb_sound.Container.{container_of_value_and_contents}
-use Rattle.package_files.specs.make_info.Information.{FieldWithValue, information, information_value, replaces_priority}
+use Rattle.package_files.specs.make_info.Information.{FieldWithValue, information, information_value_with_installed_size, replaces_priority}
 use Rattle.package_files.specs.make_info.Reads.{Reads}
 use Rattle.package_files.specs.make_info.declared.fault.MakeFault.{MakeFault}
 use Rattle.package_files.specs.make_info.declared.fault.MakeFault.TheVariants.{InfoBad, TooLarge}
@@ -22,7 +22,7 @@ use Rattle.package_files.specs.Sources.{and_then, values_of_letter, texts_of, sc
 -- the container of a package with the value `v` and these contents. If the value exceeds a limit of the
 -- writer, the error with the two counts at which it does
 abbrev pub container_unless_too_large :
-    Option PayloadCounts → Plain → List Contents → Result (List ℕ) MakeFault
+    Option ByteAndValueCounts → Plain → List Contents → Result (List ℕ) MakeFault
 container_unless_too_large None v contents = Ok (container_of_value_and_contents PACKAGE_WORD v contents)
 container_unless_too_large (Some counts) v contents = Err (TooLarge counts.0 counts.1)
 
@@ -45,7 +45,7 @@ abbrev pub package_of_parts :
     CommandLine → List Script → List FieldWithValue → List SourceFolder → Result (List ℕ) MakeFault
 package_of_parts command scripts about folders =
     package_container
-    (value_of_package (information_value about (installed_size folders)) folders scripts
+    (value_of_package (information_value_with_installed_size about (installed_size folders)) folders scripts
     (texts_of (values_of_letter TRIGGER command.values)) (replaces_priority about))
     (contents_of_folders 1 folders)
 

@@ -8,10 +8,10 @@ ghost use Rattle.package_files.specs.adb_schema.declared.read.TheConstants.{PACK
 ghost use Rattle.package_files.specs.adb_write.Canonical.{MOST_BYTES, payload_or_overflow};
 ghost use Rattle.package_files.specs.adb_write.File.{file_of};
 ghost use Rattle.package_files.specs.make_info.Faults.{IsOverflowFault};
-ghost use Rattle.package_files.specs.make_info.Information.{information_value, replaces_priority};
+ghost use Rattle.package_files.specs.make_info.Information.{information_value_with_installed_size, replaces_priority};
 ghost use Rattle.make_package.specs.Answers.{IsBytes, IsNotDisk};
 ghost use Rattle.make_package.specs.Making.{package_of_parts};
-ghost use Rattle.package_files.specs.adb_sound.Contents.{contents_size};
+ghost use Rattle.package_files.specs.adb_sound.Contents.{total_size_of_file_contents};
 ghost use Rattle.package_files.specs.Package.{SourceFolder, contents_of_folders, installed_size, package_with};
 ghost use Rattle.package_files.specs.Packed.{IsPacking, files_size, packed_folder, installed_size_of_folders};
 ghost use Rattle.package_files.specs.Runs.{AgreesOrIsFault};
@@ -96,14 +96,15 @@ fn payload(
 ) -> Result<Vec<u8>, MakeFault>
     // On Ok, the payload is that of the package with these parts.
     ensures made { IfOk result (λ payload. payload_or_overflow
-        (package_with (information_value about.now size) (map packed_folder folders.now)
+        (package_with (information_value_with_installed_size about.now size)
+        (map packed_folder folders.now)
         (scripts_view scripts.now) (texts_of (values_of_letter TRIGGER values.now))
         (replaces_priority about.now)) ≡ Ok payload.items) }
     // The payload is not longer than a payload may be.
     ensures small { IfOk result (λ payload. length payload.items ≤ MOST_BYTES) }
     // An error is the limit of a payload that is exceeded, or out of memory.
     ensures err { IfErr result (λ fault. IsOverflowFault fault
-        (payload_or_overflow (package_with (information_value about.now size)
+        (payload_or_overflow (package_with (information_value_with_installed_size about.now size)
         (map packed_folder folders.now) (scripts_view scripts.now)
         (texts_of (values_of_letter TRIGGER values.now)) (replaces_priority about.now)))) }
 {
@@ -130,5 +131,5 @@ fn package_file(alloc: Global, payload: &[u8], mut blocks: Vec<u8>) -> Result<Ve
 /// position of the first folder.
 pub fn the_installed_size_is_that_of_the_contents()
     ensures { (first : ℕ) (folders : List SourceFolder)
-        → installed_size folders ≡ contents_size (contents_of_folders first folders) }
+        → installed_size folders ≡ total_size_of_file_contents (contents_of_folders first folders) }
 {}

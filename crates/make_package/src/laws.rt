@@ -8,7 +8,7 @@ ghost use Rattle.command_core.specs.Values.{script_types};
 ghost use Rattle.package_files.specs.make_info.declared.field.Field.TheVariants.{ReplacesPriority};
 ghost use Rattle.package_files.specs.make_info.Fields.{field_word};
 ghost use Rattle.package_files.specs.make_info.Named.{value_by_name};
-ghost use Rattle.package_files.specs.make_info.Values.{number_value, plains_of_list, size_value};
+ghost use Rattle.package_files.specs.make_info.Values.{number_or_null, plains_of_list, size_or_null_if_zero};
 ghost use Rattle.package_files.specs.Folders.{all_folders_above, folder_listings_of, folders_above};
 ghost use Rattle.package_files.specs.Package.{FILE_MODE, FOLDER_MODE, Script, access_value, file_fields, folder_fields, is_link_file, kind_of_file, link_text, package_fields, script_fields, script_bytes_of_field};
 ghost use Rattle.package_files.specs.declared.file.FileKind.{FileKind};
@@ -34,7 +34,7 @@ pub fn a_part_is_in_the_field_of_its_name()
         (triggers : List (List ℕ)) (priority : Option ℕ)
         → value_by_name (field_word ReplacesPriority) (table Package)
         (package_fields info paths scripts triggers priority)
-        ≡ Some (number_value priority) }
+        ≡ Some (number_or_null priority) }
 {}
 
 /// The folders of a package are in byte order, so none is repeated. They are exactly those above a
@@ -63,7 +63,7 @@ pub fn the_fields_of_a_file_are_those_of_its_bytes()
     // A regular file has its size and its SHA-256, and no target.
     ensures regular { (name bytes : List ℕ) → is_link_file bytes ≡ false
         → (value_by_name (codes "size") (table File) (file_fields name (kind_of_file bytes))
-        ≡ Some (size_value (length bytes)))
+        ≡ Some (size_or_null_if_zero (length bytes)))
         × (value_by_name (codes "hashes") (table File) (file_fields name (kind_of_file bytes))
         ≡ Some (blob_or_null (sha256 bytes)))
         × (value_by_name (codes "target") (table File) (file_fields name (kind_of_file bytes))

@@ -3,7 +3,7 @@
 ghost use Rattle.base_core.specs.Read.{OnlyReads};
 ghost use Rattle.make_package.specs.Answers.{IsBytes, IsMakeResult};
 ghost use Rattle.make_package.specs.Making.{made_package};
-ghost use Rattle.package_files.specs.Runs.{AgreesOrIsFault, IsExplainedBySomeReads};
+ghost use Rattle.package_files.specs.Runs.{AgreesOrIsFault, HoldsOfSomeReadsOfTree};
 ghost use Rattle.std.specs.Prelude.{◌≡◌};
 
 use crate::assembly::package;
@@ -54,7 +54,7 @@ fn pack<T: Tree>(
     ensures tree { OnlyReads MakeFault.Disk (T.history tree.old) (T.history tree.new)
         (T.counts tree.old) (T.counts tree.new) result }
     // Some results of reads give this result. If the tree is observable, the reads find its files.
-    ensures read { IsExplainedBySomeReads (T.history tree.old) (λ read.
+    ensures read { HoldsOfSomeReadsOfTree (T.history tree.old) (λ read.
         AgreesOrIsFault IsBytes result (made_package command.now names.now read)) }
 {
     // Laws that the proof needs; they compute nothing.

@@ -11,7 +11,7 @@ ghost use Rattle.command_core.specs.declared.command.Applet.TheVariants.{Mkpkg};
 ghost use Rattle.command_core.specs.declared.values.TheConstants.{FILES, SCRIPT};
 ghost use Rattle.make_package.specs.Answers.{IsOkOrDiskOrMemory, IsFirstValue, AreNamesBelowFirstOption};
 ghost use Rattle.package_files.specs.Packed.{IsPacking};
-ghost use Rattle.package_files.specs.Runs.{AgreesOrIsFault, IsExplainedBySomeReads};
+ghost use Rattle.package_files.specs.Runs.{AgreesOrIsFault, HoldsOfSomeReadsOfTree};
 ghost use Rattle.make_package.specs.Scripts.{AreScripts, IsScript};
 ghost use Rattle.package_files.specs.Sources.{AreNamesBelowFirstFolder, source_folders_of_first_option, values_of_letter, script_at, scripts_from_read};
 ghost use Rattle.std.specs.Prelude.{◌≡◌, ◌++◌, ◌∷◌, [], ℕ, IfOk, IsTrue, OnOk};
@@ -66,7 +66,7 @@ pub(crate) fn pack_below<'a, T: Tree>(
         (T.counts tree.old) (T.counts tree.new) result }
     // For each number `n` of the first read, some results of reads give this result. If the tree is
     // observable, the reads find its files.
-    ensures read { (n : ℕ) → IsExplainedBySomeReads (T.history tree.old) (λ read.
+    ensures read { (n : ℕ) → HoldsOfSomeReadsOfTree (T.history tree.old) (λ read.
         AgreesOrIsFault IsPacking result (source_folders_of_first_option read n
         (values_of_letter FILES values.now) names.now)) }
 {
@@ -102,7 +102,7 @@ pub(crate) fn read_scripts<'a, T: Tree>(
         (T.counts tree.old) (T.counts tree.new) result }
     // For each number `n` of the first read, some results of reads give this result. If the tree is
     // observable, the reads find its files.
-    ensures read { (n : ℕ) → IsExplainedBySomeReads (T.history tree.old) (λ read.
+    ensures read { (n : ℕ) → HoldsOfSomeReadsOfTree (T.history tree.old) (λ read.
         AgreesOrIsFault AreScripts result (scripts_from_read read n
         (values_of_letter SCRIPT values.entry.now))) }
 {
@@ -141,7 +141,7 @@ fn read_script<'a, T: Tree>(
         (T.counts tree.old) (T.counts tree.new) result }
     // For each number `n` of the first read, some results of reads give this result. If the tree is
     // observable, the reads find its files.
-    ensures read { (n : ℕ) → IsExplainedBySomeReads (T.history tree.old) (λ read.
+    ensures read { (n : ℕ) → HoldsOfSomeReadsOfTree (T.history tree.old) (λ read.
         AgreesOrIsFault IsScript result (script_at read n value.entry.now)) }
 {
     let bytes = read_file(alloc, tree, value.place, file)?;

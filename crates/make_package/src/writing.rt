@@ -5,7 +5,7 @@
 ghost use Rattle.command_core.specs.declared.values.TheConstants.{TRIGGER};
 ghost use Rattle.package_files.specs.adb_values.Drafts.{draft_with};
 ghost use Rattle.adb_view.specs.Plain.{array_or_null, blob_or_null};
-ghost use Rattle.package_files.specs.make_info.Information.{information_value, replaces_priority};
+ghost use Rattle.package_files.specs.make_info.Information.{information_value_with_installed_size, replaces_priority};
 ghost use Rattle.package_files.specs.make_info.Values.{plains_of_list};
 ghost use Rattle.package_files.specs.Package.{access_value, script_bytes_of_field, value_of_scripts, package_with};
 ghost use Rattle.package_files.specs.Packed.{packed_file, packed_folder};
@@ -37,7 +37,8 @@ pub(crate) fn write_package(
 ) -> Result<(), AllocError>
     // On Ok, the draft has one value more: the package with these parts.
     ensures { OnOk result (draft.new ≡ draft_with
-        (package_with (information_value about.now size) (map packed_folder folders.now)
+        (package_with (information_value_with_installed_size about.now size)
+        (map packed_folder folders.now)
         (scripts_view scripts.now) (texts_of (values_of_letter TRIGGER values.now))
         (replaces_priority about.now)) draft.old) }
 {

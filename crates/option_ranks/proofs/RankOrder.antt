@@ -3,7 +3,7 @@ use Rattle.std.specs.Cmp.{IsTotalOrder, on_total, back_total, then_total, nat_cm
 use Rattle.std.specs.Cmp.Lexicographic.{nat_list_cmp_total, options_total}
 use Rattle.version_core.specs.Order.{version_cmp}
 use Rattle.candidate_core.specs.Candidates.{Candidate, Need, version_meeting_need}
-use Rattle.candidate_core.specs.Rank.{SealedPool, UpgradedNames, rank_cmp, quality_first, is_pinned, is_untagged, has_needed_name, is_kept_installed, tag_name_kept_cmp, version_and_priority_cmp, version_text_and_repository_cmp, candidate_at, greater_version_first_cmp}
+use Rattle.candidate_core.specs.Rank.{SealedPool, UpgradedNames, rank_cmp, quality_first, is_pinned, is_untagged, has_needed_name, is_kept_installed, untagged_then_named_then_kept_cmp, met_version_priority_name_own_version_cmp, version_text_and_repository_cmp, candidate_at, greater_version_first_cmp}
 use Rattle.option_ranks.specs.Ranking.{Ranking, ranking_cmp, truth_first, version_key_cmp, version_order}
 use Rattle.option_ranks.specs.declared.rank.VersionKey.{VersionKey}
 use Rattle.option_ranks.specs.declared.rank.VersionKey.TheVariants.{ByRank, ByText}
@@ -14,7 +14,7 @@ use Rattle.candidate_core.specs.declared.versions.VersionKind.TheVariants.{Under
 quality_first_total : (quality : Candidate → _) → IsTotalOrder (quality_first quality)
 quality_first_total quality = on_total quality (back_total bool_cmp_total)
 
-quality_total : (upgraded : UpgradedNames) (need : Need) → IsTotalOrder (tag_name_kept_cmp upgraded need)
+quality_total : (upgraded : UpgradedNames) (need : Need) → IsTotalOrder (untagged_then_named_then_kept_cmp upgraded need)
 quality_total upgraded need =
     then_total (quality_first_total is_untagged)
     (then_total (quality_first_total (has_needed_name need)) (quality_first_total (is_kept_installed upgraded)))
@@ -23,7 +23,7 @@ module _ (versions : IsTotalOrder version_cmp) where
   pub versions_back : IsTotalOrder greater_version_first_cmp
   versions_back = back_total (options_total versions)
 
-  merit_total : (need : Need) → IsTotalOrder (version_and_priority_cmp need)
+  merit_total : (need : Need) → IsTotalOrder (met_version_priority_name_own_version_cmp need)
   merit_total need =
       then_total (on_total (version_meeting_need need) versions_back)
       (then_total (on_total (λ (c : Candidate). c.priority) (back_total nat_cmp_total))

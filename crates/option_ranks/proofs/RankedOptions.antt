@@ -13,7 +13,7 @@ use Rattle.std.proofs.lemmas.List.Sorted.{All-permutation, IsPermutation-map, Is
 use Rattle.version_core.specs.Order.{version_cmp}
 use Rattle.candidate_core.specs.Candidates.{Candidate, Need, version_meeting_need}
 use Rattle.candidate_core.specs.Options.{rank_order_of}
-use Rattle.candidate_core.specs.Rank.{SealedPool, bytes_cmp, candidate_at, earlier_repository_first_cmp, greater_version_first_cmp, is_better, is_pinned, quality_first, rank_cmp, tag_name_kept_cmp}
+use Rattle.candidate_core.specs.Rank.{SealedPool, bytes_cmp, candidate_at, earlier_repository_first_cmp, greater_version_first_cmp, is_better, is_pinned, quality_first, rank_cmp, untagged_then_named_then_kept_cmp}
 use Rattle.option_ranks.specs.Ranking.{IsRankingIn, Ranking, ranking_from_parts, ranking_cmp, version_order, with_values_of_candidate}
 use Rattle.option_ranks.specs.VersionRanks.{AreRankedTwice, AreComparableByKey, rank_among, version_of, with_version_rank}
 use Rattle.option_ranks.specs.declared.rank.VersionKey.{VersionKey}
@@ -85,7 +85,7 @@ module _ (pool : SealedPool) (need : Need) where
   read_by_text : (a b : Ranking) (x y : Candidate) → candidate_at pool a.place ≡ Some x → candidate_at pool b.place ≡ Some y → ranking_cmp ByText (with_values_of_candidate pool need x a) (with_values_of_candidate pool need y b) ≡ rank_cmp pool need a.place b.place
   unfolding ranking_cmp rank_cmp
   read_by_text a b x y h g =
-      rw (h, g) (ap (λ (o : Ordering). ordering_then (ordering_then (quality_first (is_pinned pool.world) x y) (ordering_then (tag_name_kept_cmp pool.upgraded need x y) o)) (nat_cmp a.place b.place))
+      rw (h, g) (ap (λ (o : Ordering). ordering_then (ordering_then (quality_first (is_pinned pool.world) x y) (ordering_then (untagged_then_named_then_kept_cmp pool.upgraded need x y) o)) (nat_cmp a.place b.place))
       (regroup (greater_version_first_cmp (version_meeting_need need x) (version_meeting_need need y)) (nat_cmp y.priority x.priority) (bytes_cmp x.name y.name) (greater_version_first_cmp x.version y.version) (option_cmp bytes_cmp x.version y.version) (earlier_repository_first_cmp x.repository y.repository)))
 
   same_by_text : (a b : Ranking) → IsRankingIn pool need a → IsRankingIn pool need b → ranking_cmp ByText a b ≡ rank_cmp pool need a.place b.place
@@ -104,7 +104,7 @@ module _ (versions : IsTotalOrder version_cmp) (pool : SealedPool) (need : Need)
   as_read : (a b : Ranking) (x y : Candidate) → candidate_at pool a.place ≡ Some x → candidate_at pool b.place ≡ Some y → nat_cmp a.under.rank b.under.rank ≡ greater_version_first_cmp (version_meeting_need need x) (version_meeting_need need y) → nat_cmp a.version.rank b.version.rank ≡ ordering_then (greater_version_first_cmp x.version y.version) (option_cmp bytes_cmp x.version y.version) → ranking_cmp ByRank (with_values_of_candidate pool need x a) (with_values_of_candidate pool need y b) ≡ rank_cmp pool need a.place b.place
   unfolding ranking_cmp rank_cmp
   as_read a b x y h g under own =
-      rw (h, g, under, own) (ap (λ (o : Ordering). ordering_then (ordering_then (quality_first (is_pinned pool.world) x y) (ordering_then (tag_name_kept_cmp pool.upgraded need x y) o)) (nat_cmp a.place b.place))
+      rw (h, g, under, own) (ap (λ (o : Ordering). ordering_then (ordering_then (quality_first (is_pinned pool.world) x y) (ordering_then (untagged_then_named_then_kept_cmp pool.upgraded need x y) o)) (nat_cmp a.place b.place))
       (regroup (greater_version_first_cmp (version_meeting_need need x) (version_meeting_need need y)) (nat_cmp y.priority x.priority) (bytes_cmp x.name y.name) (greater_version_first_cmp x.version y.version) (option_cmp bytes_cmp x.version y.version) (earlier_repository_first_cmp x.repository y.repository)))
 
   same_order : (a b : Ranking) → IsRanked a → IsRanked b → ranking_cmp ByRank a b ≡ rank_cmp pool need a.place b.place

@@ -5,12 +5,12 @@ use Rattle.std.specs.List.{list_any}
 use Rattle.std.specs.Str.{bytes_eq}
 use Rattle.std.proofs.lemmas.Bool.{or_right}
 use Rattle.gen_core.specs.adb_schema.Reserved.{is_reserved}
-use Rattle.base_core.specs.Files.{Files, HasNamesAmong, drop_name, no_names, put_name}
+use Rattle.base_core.specs.Files.{Files, HasOnlyNamesAmong, drop_name, no_names, put_name}
 use Rattle.base_core.specs.declared.cause.Cause.{Cause}
 use Rattle.command_core.specs.Command.{CommandLine}
 use Rattle.command_core.specs.declared.command.Applet.{Applet}
 use Rattle.command_core.specs.declared.command.Applet.TheVariants.{Help, Mkndx, Mkpkg, ProgramVersion}
-use Rattle.demo_lines.specs.Lines.{add_words, demo_file, demo_repositories, demo_text, mkndx_words, mkpkg_words}
+use Rattle.demo_lines.specs.Lines.{add_words, demo_file, demo_repositories, contents_of_demo_file, mkndx_words, mkpkg_words}
 use Rattle.demo_lines.specs.Report.{demo_line}
 use Rattle.engine_core.specs.journal_core.Replacing.{scratch_name_of}
 use Rattle.make_core.specs.make_index.Index.{made_index}
@@ -21,12 +21,12 @@ use Rattle.make_core.specs.make_package.Making.{made_package}
 use Rattle.report_core.specs.declared.refusal.Refusal.{Refusal}
 use Rattle.report_core.specs.declared.refusal.Refusal.TheVariants.{Reserved, ResultTooLarge}
 use Rattle.root_names.specs.RootNames.{repositories_name}
-use Rattle.words_core.specs.Grammar.{help_or_version_option_at, help_or_version_or_err, command_of, command_of_reading, spelled_command, next_word_of_command_line, applet_site_of_word, spelled_command_or_help_or_version, can_be_option, unless_refused_at}
+use Rattle.words_core.specs.Grammar.{help_or_version_option_at, help_or_version_or_err, command_of, command_of_reading_with_end_place, spelled_command, next_word_of_command_line, applet_site_of_word, spelled_command_or_help_or_version, can_be_option, unless_refused_at}
 use Rattle.words_core.specs.Options.{applet_of_help_or_version_option}
 use Rattle.outcome.proofs.Existing.{work_within}
 use Rattle.outcome.proofs.Looking.{read_leaves}
 use Rattle.outcome.specs.Commands.{IsOutcomeWithoutDemo, IsOutcomeUnlessBadIntent, effect_outcome, reads_in}
-use Rattle.outcome.specs.Demo.{IsDemoOutcomeAfterIndexing, IsDemoOutcomeAfterInstalling, IsDemoOutcomeAfterPackaging, IsDemoOutcome, IsOutcomeOfNextRun, IsOutcomeOfNextRunUnlessRefused, outcome_with_demo_repositories, with_demo_file}
+use Rattle.outcome.specs.Demo.{IsDemoOutcomeAfterIndexing, IsDemoOutcomeAfterInstalling, IsDemoOutcomeAfterPackaging, IsDemoOutcome, IsOutcomeOfNextRunOrEarlierRefusal, IsOutcomeOfNextRunUnlessRefused, outcome_with_demo_repositories, with_demo_file}
 use Rattle.outcome.specs.Effect.{Makes, does_only_read, effect_of}
 use Rattle.outcome.specs.Given.{Given}
 use Rattle.outcome.specs.Make.{files_with_output, index_report_line, make_outcome, outcome_unless_output_reserved}
@@ -37,7 +37,7 @@ use Rattle.outcome.specs.Work.{recovery_fault, files_recovered_if_needed}
 
 -- the names of which they are
 abbrev pub AreFew : Files → Type 0
-AreFew files = (names : List (List ℕ)) × HasNamesAmong names files
+AreFew files = (names : List (List ℕ)) × HasOnlyNamesAmong names files
 
 few_put : (files : Files) (name bytes : List ℕ) → AreFew files → AreFew (put_name files name bytes)
 few_put files name bytes (names, within) = (name ∷ names, λ q some. by_name (bytes_eq q name) q refl some)
@@ -129,11 +129,11 @@ line_makes words (Ok command) makes = makes
 line_makes words (Err place) makes = asked_makes words place (help_or_version_option_at words place) (place_asks (can_be_option (next_word_of_command_line (take (place - 1) words))) (slice_get words (place - 1)))
 
 mkpkg_line : (words : List (List ℕ)) → DoMake (spelled_command (codes "mkpkg" ∷ words))
-unfolding spelled_command applet_site_of_word command_of_reading
+unfolding spelled_command applet_site_of_word command_of_reading_with_end_place
 mkpkg_line words = unless_makes _ _ _ _ refl
 
 mkndx_line : (words : List (List ℕ)) → DoMake (spelled_command (codes "mkndx" ∷ words))
-unfolding spelled_command applet_site_of_word command_of_reading
+unfolding spelled_command applet_site_of_word command_of_reading_with_end_place
 mkndx_line words = unless_makes _ _ _ _ refl
 
 mkpkg_makes : (words : List (List ℕ)) → DoMake (command_of (codes "mkpkg" ∷ words))
@@ -148,7 +148,7 @@ mkndx_makes words = line_makes (codes "mkndx" ∷ words) (spelled_command (codes
 
 -- a command that is read has an outcome over few files
 abbrev pub HaveOutcome : Type 0
-HaveOutcome = (read : Result CommandLine ℕ) (files : Files) (within : List (List ℕ)) → HasNamesAmong within files → (o : Outcome) × IsOutcomeWithoutDemo read files o
+HaveOutcome = (read : Result CommandLine ℕ) (files : Files) (within : List (List ℕ)) → HasOnlyNamesAmong within files → (o : Outcome) × IsOutcomeWithoutDemo read files o
 
 -- an outcome that leaves few files
 abbrev One : (Outcome → Type 0) → Type 0
@@ -169,7 +169,7 @@ packaged_exists have zero =
 packaged_exists have (suc i) =
     let (before, is, few) = packaged_exists have i in
     let files = with_demo_file (suc i) before.files in
-    let few_now : AreFew files = few_put before.files (demo_file (suc i)) (demo_text (suc i)) few in
+    let few_now : AreFew files = few_put before.files (demo_file (suc i)) (contents_of_demo_file (suc i)) few in
     let (o, is_next) = unless_exists have before.refusal (mkpkg_words (suc i)) files before few_now in
     (o, (before, is, is_next), few_after before.refusal (mkpkg_words (suc i)) files before o (mkpkg_makes _) is_next few few_now)
 
@@ -201,9 +201,9 @@ unless_one one (Some refusal) words files before a b x y = x ∙ sym y
 unless_one one None words files before a b x y = one (command_of words) files a b x y
 
 -- behind one outcome, over files that it gives
-behind_one : HaveOneOutcome → (words : List (List ℕ)) (next : Outcome → Files) (p q a b : Outcome) → p ≡ q → IsOutcomeOfNextRun words (next p) p a → IsOutcomeOfNextRun words (next q) q b → a ≡ b
+behind_one : HaveOneOutcome → (words : List (List ℕ)) (next : Outcome → Files) (p q a b : Outcome) → p ≡ q → IsOutcomeOfNextRunOrEarlierRefusal words (next p) p a → IsOutcomeOfNextRunOrEarlierRefusal words (next q) q b → a ≡ b
 behind_one one words next p q a b same x y =
-    unless_one one q.refusal words (next q) q a b (subst (λ (r : Outcome). IsOutcomeOfNextRun words (next r) r a) same x) y
+    unless_one one q.refusal words (next q) q a b (subst (λ (r : Outcome). IsOutcomeOfNextRunOrEarlierRefusal words (next r) r a) same x) y
 
 packaged_one : HaveOneOutcome → (n : ℕ) (a b : Outcome) → IsDemoOutcomeAfterPackaging n a → IsDemoOutcomeAfterPackaging n b → a ≡ b
 packaged_one one zero a b x y = x ∙ sym y

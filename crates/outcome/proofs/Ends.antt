@@ -8,7 +8,7 @@ use Rattle.tell_core.specs.change_inputs.Candidates.{candidates_of, root_pool}
 use Rattle.tell_core.specs.change_inputs.Chains.{and_then, with_error_as_refusal, unless_cause}
 use Rattle.tell_core.specs.change_inputs.Database.{payload_database, root_database}
 use Rattle.tell_core.specs.change_inputs.Indexes.{file_or_index_missing, index_files_from, index_in_file, indexes_in_files}
-use Rattle.tell_core.specs.change_inputs.Inputs.{Inputs, database_read_number, first_index_read_number, index_reads_from, indexes_of, inputs_of, repositories_read_number, root_for, root_from_files_found, text_database_read_number, world_read_number}
+use Rattle.tell_core.specs.change_inputs.Inputs.{Inputs, database_read_number, first_index_read_number, index_reads_from, indexes_of, inputs_of, repositories_read_number, root_for, root_from_databases_world_repositories, text_database_read_number, world_read_number}
 use Rattle.tell_core.specs.change_inputs.Repositories.{repositories_if_untrusted_allowed, root_repositories}
 use Rattle.tell_core.specs.change_inputs.World.{root_world, found_text_or_empty}
 use Rattle.command_core.specs.Command.{CommandLine}
@@ -67,7 +67,7 @@ repositories_stated : (is_allowed : Bool) (text : List ℕ) → HasKnownRefusal 
 repositories_stated is_allowed text =
     then_stated is_input_refusal (with_error_as_refusal RepositoriesBad (repositories_of text)) (repositories_if_untrusted_allowed is_allowed) (as_stated RepositoriesBad (repositories_of text) (λ e. refl)) (trusted_stated is_allowed)
 
-found_stated : (command : CommandLine) (file text world_file repositories_file : Option (List ℕ)) → HasKnownRefusal is_input_refusal (root_from_files_found command file text world_file repositories_file)
+found_stated : (command : CommandLine) (file text world_file repositories_file : Option (List ℕ)) → HasKnownRefusal is_input_refusal (root_from_databases_world_repositories command file text world_file repositories_file)
 found_stated command file text world_file repositories_file =
     then_stated is_input_refusal (root_database command.flags.initdb file text) _ (database_stated command.flags.initdb file text) (λ database.
     then_stated is_input_refusal (root_world (found_text_or_empty world_file)) _ (as_stated WorldBad (world_of (found_text_or_empty world_file)) (λ e. refl)) (λ world.

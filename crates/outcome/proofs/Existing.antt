@@ -4,10 +4,10 @@ use Rattle.std.specs.Prelude.{if◌then◌else◌, nat_eq}
 use Rattle.std.specs.List.{list_any, starts_with}
 use Rattle.std.specs.Str.{bytes_eq}
 use Rattle.std.proofs.lemmas.Bool.{false≢true}
-use Rattle.base_core.specs.Files.{Files, HasNamesAmong}
+use Rattle.base_core.specs.Files.{Files, HasOnlyNamesAmong}
 use Rattle.base_core.specs.Listed.{AreSortedNamesInMap}
 use Rattle.base_core.specs.declared.cause.Cause.{Cause}
-use Rattle.engine_core.specs.Choice.{IsChoiceFrom}
+use Rattle.engine_core.specs.Choice.{IsPreferredChoiceUnlessRefused}
 use Rattle.engine_core.specs.Selecting.{pool_of_command}
 use Rattle.make_core.specs.make_info.Reads.{Reads}
 use Rattle.tell_core.specs.candidate_core.Rank.{SealedPool}
@@ -32,28 +32,28 @@ use Rattle.outcome.specs.Work.{recovery_fault, files_recovered_if_needed}
 
 -- files under finitely many names have a list of them, and no second one
 abbrev pub HaveList : Type 0
-HaveList = (files : Files) (within : List (List ℕ)) → HasNamesAmong within files → (names : List (List ℕ)) × AreSortedNamesInMap files names
+HaveList = (files : Files) (within : List (List ℕ)) → HasOnlyNamesAmong within files → (names : List (List ℕ)) × AreSortedNamesInMap files names
 
 abbrev pub HaveOneList : Type 0
 HaveOneList = (files : Files) (a b : List (List ℕ)) → AreSortedNamesInMap files a → AreSortedNamesInMap files b → a ≡ b
 
 -- what is below a folder is within the files
-within_below : (folder : List ℕ) (files : Files) (within : List (List ℕ)) → HasNamesAmong within files → HasNamesAmong within (files_below folder files)
+within_below : (folder : List ℕ) (files : Files) (within : List (List ℕ)) → HasOnlyNamesAmong within files → HasOnlyNamesAmong within (files_below folder files)
 within_below folder files within h q some =
     elim (starts_with nat_eq q (folder ++ codes "/")) as (λ b. IsSome (if b then files q else None) → list_any (bytes_eq q) within ≡ true) [
       | true ↦ λ s. h q s
       | false ↦ λ s. absurd (false≢true s)
     ] some
 
-listing_exists : HaveList → (values : List OptionValue) (files : Files) (within : List (List ℕ)) → HasNamesAmong within files → (names : List (List ℕ)) × AreNamesBelowOptionFolder values files names
+listing_exists : HaveList → (values : List OptionValue) (files : Files) (within : List (List ℕ)) → HasOnlyNamesAmong within files → (names : List (List ℕ)) × AreNamesBelowOptionFolder values files names
 listing_exists have [] files within h = ([], refl)
 listing_exists have (v ∷ values) files within h = have (files_below (without_dot_slash v.text) files) within (within_below (without_dot_slash v.text) files within h)
 
-names_exist : HaveList → (applet : Applet) (command : CommandLine) (files : Files) (within : List (List ℕ)) → HasNamesAmong within files → (names : List (List ℕ)) × AreNamesListedForApplet applet command files names
+names_exist : HaveList → (applet : Applet) (command : CommandLine) (files : Files) (within : List (List ℕ)) → HasOnlyNamesAmong within files → (names : List (List ℕ)) × AreNamesListedForApplet applet command files names
 names_exist have Mkpkg command files within h = listing_exists have (values_of_letter FILES command.values) files within h
 names_exist have other command files within h = ([], refl)
 
-pub work_within : (effect : Effect) (files : Files) (within : List (List ℕ)) → HasNamesAmong within files → (names : List (List ℕ)) × HasNamesAmong names (files_recovered_if_needed effect files)
+pub work_within : (effect : Effect) (files : Files) (within : List (List ℕ)) → HasOnlyNamesAmong within files → (names : List (List ℕ)) × HasOnlyNamesAmong names (files_recovered_if_needed effect files)
 work_within Computes files within h = (within, h)
 work_within OnlyReadsFiles files within h = (within, h)
 work_within AsksRoot files within h = unstaged_within files within h
@@ -62,10 +62,10 @@ work_within Changes files within h = unstaged_within files within h
 
 -- something is chosen, whatever the candidates are, and just one thing
 abbrev pub HaveChoice : Type 0
-HaveChoice = (pool : Result SealedPool Refusal) → (chosen : Option (List ℕ)) × IsChoiceFrom pool chosen
+HaveChoice = (pool : Result SealedPool Refusal) → (chosen : Option (List ℕ)) × IsPreferredChoiceUnlessRefused pool chosen
 
 abbrev pub HaveOneChoice : Type 0
-HaveOneChoice = (pool : Result SealedPool Refusal) (a b : Option (List ℕ)) → IsChoiceFrom pool a → IsChoiceFrom pool b → a ≡ b
+HaveOneChoice = (pool : Result SealedPool Refusal) (a b : Option (List ℕ)) → IsPreferredChoiceUnlessRefused pool a → IsPreferredChoiceUnlessRefused pool b → a ≡ b
 
 chosen_exists : HaveChoice → (effect : Effect) (command : CommandLine) (read : Reads) → (chosen : Option (List ℕ)) × IsChoiceForCommand effect command read chosen
 chosen_exists choose Changes command read = choose (pool_of_command command read)
@@ -75,14 +75,14 @@ chosen_one : HaveOneChoice → (effect : Effect) (command : CommandLine) (read :
 chosen_one one Changes command read a b x y = one (pool_of_command command read) a b x y
 chosen_one one other command read a b x y = x ∙ sym y
 
-given_exists : HaveList → HaveChoice → HaveClash → (command : CommandLine) (read : Reads) (files : Files) (within : List (List ℕ)) → HasNamesAmong within files → (given : Given) × IsListingChoiceAndClashFor command read files given
+given_exists : HaveList → HaveChoice → HaveClash → (command : CommandLine) (read : Reads) (files : Files) (within : List (List ℕ)) → HasOnlyNamesAmong within files → (given : Given) × IsListingChoiceAndClashFor command read files given
 given_exists have choose clashes command read files within finite =
     let (names, listed) = names_exist have command.applet command files within finite in
     let (chosen, choice) = chosen_exists choose (effect_of command.applet) command read in
     let (clash, first) = clash_exists clashes (effect_of command.applet) command read files within chosen finite in
     (record { names = names; chosen = chosen; clash = clash }, record { names = listed; chosen = choice; clash = first })
 
-outcome_unless : HaveList → HaveChoice → HaveClash → (fault : Option Cause) (command : CommandLine) (files : Files) (within : List (List ℕ)) → HasNamesAmong within files → (o : Outcome) × IsOutcomeUnlessBadIntent fault command files o
+outcome_unless : HaveList → HaveChoice → HaveClash → (fault : Option Cause) (command : CommandLine) (files : Files) (within : List (List ℕ)) → HasOnlyNamesAmong within files → (o : Outcome) × IsOutcomeUnlessBadIntent fault command files o
 outcome_unless have choose clashes (Some cause) command files within h = (just_refusal files (IntentBad cause), refl)
 outcome_unless have choose clashes None command files within h =
     let work = files_recovered_if_needed (effect_of command.applet) files in
@@ -90,7 +90,7 @@ outcome_unless have choose clashes None command files within h =
     let (given, are) = given_exists have choose clashes command (reads_in work) work within_work is in
     (effect_outcome (effect_of command.applet) command.applet command given (reads_in work) work, (given, are, refl))
 
-pub outcome_by : HaveList → HaveChoice → HaveClash → (read : Result CommandLine ℕ) (files : Files) (within : List (List ℕ)) → HasNamesAmong within files → (o : Outcome) × IsOutcomeWithoutDemo read files o
+pub outcome_by : HaveList → HaveChoice → HaveClash → (read : Result CommandLine ℕ) (files : Files) (within : List (List ℕ)) → HasOnlyNamesAmong within files → (o : Outcome) × IsOutcomeWithoutDemo read files o
 outcome_by have choose clashes (Err place) files within h = (just_refusal files (Usage place), refl)
 outcome_by have choose clashes (Ok command) files within h = outcome_unless have choose clashes (recovery_fault (effect_of command.applet) files) command files within h
 

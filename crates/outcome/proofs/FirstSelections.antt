@@ -7,13 +7,13 @@ use Rattle.base_core.specs.declared.cause.Cause.{Cause}
 use Rattle.tell_core.specs.change_inputs.Chains.{and_then}
 use Rattle.tell_core.specs.change_inputs.Inputs.{Inputs, inputs_of}
 use Rattle.engine_core.specs.change_outcome.Made.{IsChangeMade}
-use Rattle.engine_core.specs.change_files.PlanLists.{paths_with_apk_new_file, kept_paths_of}
+use Rattle.engine_core.specs.change_files.PlanLists.{paths_with_apk_new_file, kept_left_over_paths_of}
 use Rattle.engine_core.specs.change_outcome.ChangeOutcome.{ChangeDone, ChangeWishes, change_or_refusal, file_change, member_sum_line, touched_paths}
-use Rattle.engine_core.specs.change_outcome.ConfigurationLines.{configuration_lines}
+use Rattle.engine_core.specs.change_outcome.ConfigurationLines.{lines_of_apk_new_and_kept_paths}
 use Rattle.engine_core.specs.change_outcome.Triggers.{trigger_lines}
 use Rattle.command_core.specs.Command.{CommandLine}
-use Rattle.engine_core.specs.Changed.{IsClashOfCommand, InputsAndReplacement, change_of_selected, change_of_command, selected_from_pool_by_choice, selected_from_inputs_by_choice, simulated_change}
-use Rattle.engine_core.specs.Choice.{IsChoiceFrom}
+use Rattle.engine_core.specs.Changed.{IsFirstClashOfCommand, InputsAndReplacement, change_of_selected, change_of_command, selected_from_pool_by_choice, selected_from_inputs_by_choice, simulated_change}
+use Rattle.engine_core.specs.Choice.{IsPreferredChoiceUnlessRefused}
 use Rattle.engine_core.specs.Selecting.{pool_of_inputs, pool_of_command, replacement_of_choice}
 use Rattle.engine_core.specs.Wishes.{names_to_reinstall, names_to_upgrade, unknown_operand_place, unless_unknown_operand, wishes_of}
 use Rattle.make_core.specs.make_info.Reads.{Reads}
@@ -58,7 +58,7 @@ made_lines inputs r wishes read clash files done made =
     let change = file_change inputs wishes made.found in
     let lines = change_lines (changes_of r) in
     let stays = still_needed_lines r.before r.selected wishes.to_remove in
-    let configuration = configuration_lines (paths_with_apk_new_file change files) (kept_paths_of change files) in
+    let configuration = lines_of_apk_new_and_kept_paths (paths_with_apk_new_file change files) (kept_left_over_paths_of change files) in
     let triggers = trigger_lines (touched_paths change files) change.members in
     let sum = member_sum_line change.members in (
       stays ++ (configuration ++ (triggers ++ sum)),
@@ -101,7 +101,7 @@ module _ (known : IsMadeKnown) (command : CommandLine) (files : Files) where
 
   by_choice : (inputs : Inputs) (pool : SealedPool) (chosen : Option (List ℕ)) (clash : Option NamePair)
       → inputs_of command (reads_in files) ≡ Ok inputs → pool_of_inputs command inputs ≡ Ok pool → unknown_operand_place command.applet inputs command.operands ≡ None
-      → IsChoiceFrom (Ok pool) chosen → IsClashOfCommand command (reads_in files) files chosen clash
+      → IsPreferredChoiceUnlessRefused (Ok pool) chosen → IsFirstClashOfCommand command (reads_in files) files chosen clash
       → IsChangeEnd command files (end_of clash (selected_from_pool_by_choice command inputs pool chosen))
   by_choice inputs pool None clash are is known_names choice is_clash =
       inr (inl (record { pool = pool; is_pool = ap (λ (r : Result Inputs Refusal). and_then r (pool_of_inputs command)) are ∙ is; none = choice; outcome = refl }))
@@ -126,7 +126,7 @@ module _ (known : IsMadeKnown) (command : CommandLine) (files : Files) where
 
   by_place : (inputs : Inputs) (pool : SealedPool) (place : Option ℕ) (chosen : Option (List ℕ)) (clash : Option NamePair)
       → inputs_of command (reads_in files) ≡ Ok inputs → pool_of_inputs command inputs ≡ Ok pool → unknown_operand_place command.applet inputs command.operands ≡ place
-      → IsChoiceFrom (Ok pool) chosen → IsClashOfCommand command (reads_in files) files chosen clash
+      → IsPreferredChoiceUnlessRefused (Ok pool) chosen → IsFirstClashOfCommand command (reads_in files) files chosen clash
       → IsChangeEnd command files (end_of clash (unless_unknown_operand place (selected_from_pool_by_choice command inputs pool chosen)))
   by_place inputs pool None chosen clash are is at choice is_clash = by_choice inputs pool chosen clash are is at choice is_clash
   by_place inputs pool (Some place) chosen clash are is at choice is_clash =
@@ -142,7 +142,7 @@ module _ (known : IsMadeKnown) (command : CommandLine) (files : Files) where
 
   by_pool : (inputs : Inputs) (pool : Result SealedPool Refusal) (chosen : Option (List ℕ)) (clash : Option NamePair)
       → inputs_of command (reads_in files) ≡ Ok inputs → pool_of_inputs command inputs ≡ pool
-      → IsChoiceFrom pool chosen → IsClashOfCommand command (reads_in files) files chosen clash
+      → IsPreferredChoiceUnlessRefused pool chosen → IsFirstClashOfCommand command (reads_in files) files chosen clash
       → IsChangeEnd command files (end_of clash (and_then pool (λ pool. unless_unknown_operand (unknown_operand_place command.applet inputs command.operands) (selected_from_pool_by_choice command inputs pool chosen))))
   by_pool inputs (Ok pool) chosen clash are is choice is_clash = by_place inputs pool (unknown_operand_place command.applet inputs command.operands) chosen clash are is refl choice is_clash
   by_pool inputs (Err refusal) chosen clash are is choice is_clash =
@@ -156,13 +156,13 @@ module _ (known : IsMadeKnown) (command : CommandLine) (files : Files) where
       })
 
   by_inputs : (inputs : Result Inputs Refusal) (chosen : Option (List ℕ)) (clash : Option NamePair) → inputs_of command (reads_in files) ≡ inputs
-      → IsChoiceFrom (and_then inputs (pool_of_inputs command)) chosen → IsClashOfCommand command (reads_in files) files chosen clash
+      → IsPreferredChoiceUnlessRefused (and_then inputs (pool_of_inputs command)) chosen → IsFirstClashOfCommand command (reads_in files) files chosen clash
       → IsChangeEnd command files (end_of clash (and_then inputs (selected_from_inputs_by_choice command chosen)))
   by_inputs (Ok inputs) chosen clash are choice is_clash = by_pool inputs (pool_of_inputs command inputs) chosen clash are refl choice is_clash
   by_inputs (Err refusal) chosen clash are choice is_clash =
       inl (record { refusal = refusal; stated = subst (HasKnownRefusal is_input_refusal) are (inputs_stated command (reads_in files)); outcome = refl; unchosen = λ other. ap (λ (r : Result Inputs Refusal). and_then r (selected_from_inputs_by_choice command other)) are })
 
-  change_end : (chosen : Option (List ℕ)) (clash : Option NamePair) → IsChoiceFrom (pool_of_command command (reads_in files)) chosen → IsClashOfCommand command (reads_in files) files chosen clash
+  change_end : (chosen : Option (List ℕ)) (clash : Option NamePair) → IsPreferredChoiceUnlessRefused (pool_of_command command (reads_in files)) chosen → IsFirstClashOfCommand command (reads_in files) files chosen clash
       → IsChangeEnd command files (change_outcome files (change_of_command command (reads_in files) files chosen clash))
   unfolding change_of_command
   change_end chosen clash choice is_clash = by_inputs (inputs_of command (reads_in files)) chosen clash refl choice is_clash

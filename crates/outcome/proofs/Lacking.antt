@@ -2,7 +2,7 @@
 use Rattle.std.proofs.Common.{◌≡◌, ℕ, Bool, true, false, List, Option, Some, None, Result, Ok, Err, refl}
 use Rattle.gen_core.specs.adb_schema.Soundness.{container_fault_except_contents, payload_fault}
 use Rattle.adb_view.specs.declared.tables.Which.TheVariants.{Idb}
-use Rattle.gen_core.specs.adb_write.Canonical.{PayloadCounts, payload_or_overflow}
+use Rattle.gen_core.specs.adb_write.Canonical.{ByteAndValueCounts, payload_or_overflow}
 use Rattle.base_core.specs.Files.{Files}
 use Rattle.base_core.specs.declared.cause.Cause.{Cause}
 use Rattle.tell_core.specs.change_inputs.Chains.{unless_cause}
@@ -11,8 +11,8 @@ use Rattle.tell_core.specs.change_inputs.Inputs.{database_for}
 use Rattle.command_core.specs.Command.{CommandLine}
 use Rattle.report_core.specs.declared.refusal.Refusal.TheVariants.{DatabaseBad, NoDatabase}
 use Rattle.root_names.specs.RootNames.{database_name, text_database_name}
-use Rattle.tell_core.specs.v2_core.Database.{value_of_records}
-use Rattle.tell_core.specs.v2_core.Payload.{or_too_large, payload_of_text, payload_if_sound, payload_unless_fault, payload_of_records}
+use Rattle.tell_core.specs.v2_core.Database.{database_value_of_records}
+use Rattle.tell_core.specs.v2_core.Payload.{payload_unless_too_large, payload_of_text, payload_if_sound, payload_unless_fault, payload_of_records}
 use Rattle.tell_core.specs.v2_core.Reading.{records_of}
 use Rattle.tell_core.specs.v2_core.Records.{Record}
 use Rattle.tell_core.specs.v2_core.declared.read.V2Fault.{V2Fault}
@@ -25,12 +25,12 @@ pub bad_remembers : (payload : List ℕ) (cause : Option Cause) → payload_unle
 bad_remembers payload None e = cc (e)
 bad_remembers payload (Some cause) e = cc (e)
 
-pub large_remembers : (r : Result (List ℕ) PayloadCounts) → or_too_large r ≡ Err Memory → ⊥
+pub large_remembers : (r : Result (List ℕ) ByteAndValueCounts) → payload_unless_too_large r ≡ Err Memory → ⊥
 large_remembers (Ok payload) e = cc (e)
 large_remembers (Err counts) e = cc (e)
 
 pub written_remembers : (r : Result (List Record) ℕ) → payload_of_records r ≡ Err Memory → ⊥
-written_remembers (Ok records) e = large_remembers (payload_or_overflow (value_of_records records)) e
+written_remembers (Ok records) e = large_remembers (payload_or_overflow (database_value_of_records records)) e
 written_remembers (Err line) e = cc (e)
 
 pub tested_remembers : (r : Result (List ℕ) V2Fault) → (r ≡ Err Memory → ⊥) → payload_if_sound r ≡ Err Memory → ⊥

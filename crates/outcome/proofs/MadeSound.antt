@@ -6,7 +6,7 @@ use Rattle.std.proofs.lemmas.List.Elements.{All-contains_itself, All-weaker}
 use Rattle.std.proofs.lemmas.Slice.Eq.{bytes_eq-Decides}
 use Rattle.gen_core.specs.adb_schema.Reserved.{is_reserved}
 use Rattle.adb_view.specs.Plain.{Plain}
-use Rattle.gen_core.specs.adb_write.Canonical.{PayloadCounts, overflow_of, payload_or_overflow}
+use Rattle.gen_core.specs.adb_write.Canonical.{ByteAndValueCounts, overflow_of, payload_or_overflow}
 use Rattle.base_core.specs.Files.{HaveValidNamesAndBytes, Files, drop_name}
 use Rattle.base_core.specs.Listed.{AreSortedNamesBelowFolder, IsValidNameBelowFolder, AreSortedNamesInMap}
 use Rattle.base_core.specs.Tree.{IsWellFormed, TreeState, files_of}
@@ -15,14 +15,14 @@ use Rattle.command_core.specs.declared.values.TheConstants.{FILES, SCRIPT, TRIGG
 use Rattle.engine_core.specs.journal_core.Replacing.{files_after_replacement, scratch_name_of}
 use Rattle.engine_core.specs.journal_core.Staged.{unstaged_files}
 use Rattle.make_core.specs.package_files.Folders.{FolderListing, folder_listings_of, last_part_of}
-use Rattle.make_core.specs.make_index.Index.{entry_before_others_or_fault, found_entries, found_entry, index_container, index_of_entries, index_of_entries_or_fault, value_of_index, entry_unless_fault, description_in, made_index}
-use Rattle.make_core.specs.make_index.EntryOrder.{entry_cmp}
+use Rattle.make_core.specs.make_index.Index.{entry_before_others_or_fault, found_entries, found_entry, index_container, index_of_entries, index_of_entries_or_fault, value_of_index, entry_unless_fault, first_description_or_empty, made_index}
+use Rattle.make_core.specs.make_index.EntryOrder.{index_entry_cmp}
 use Rattle.base_core.specs.Sorted.{sorted_by}
-use Rattle.make_core.specs.make_info.Information.{FieldWithValue, information_value, information, replaces_priority}
+use Rattle.make_core.specs.make_info.Information.{FieldWithValue, information_value_with_installed_size, information, replaces_priority}
 use Rattle.make_core.specs.make_package.Making.{container_unless_too_large, made_package, or_info_bad, package_container, package_of_parts}
 use Rattle.make_core.specs.make_info.Output.{output_name}
 use Rattle.make_core.specs.package_files.Package.{Script, Source, SourceFolder, contents_of_folders, installed_size, value_of_package}
-use Rattle.make_core.specs.make_index.Files.{AreOperandReadsFileBytes}
+use Rattle.make_core.specs.make_index.Files.{OperandReadsFindOnlyValidFileBytes}
 use Rattle.make_core.specs.package_files.Sources.{AreNamesBelowFirstFolder, and_then, results_from_read, source_file_read_at, sources_at_place_from_read, source_folder_read_at, source_folders_of_first_option, found_bytes_or_missing, values_of_letter, script_at, scripts_from_read, texts_of}
 use Rattle.make_core.specs.make_info.Reads.{Reads}
 use Rattle.make_core.specs.make_info.declared.fault.MakeFault.{MakeFault}
@@ -54,7 +54,7 @@ abbrev pub SoundPackage : Type 0
 SoundPackage = (command : CommandLine) (names : List (List ℕ)) (read : Reads) (bytes : List ℕ) → AreNamesBelowFirstFolder (values_of_letter FILES command.values) names → made_package command names read ≡ Ok bytes → length bytes < 2 ^ 64 → container_fault bytes ≡ None
 
 abbrev pub SoundIndex : Type 0
-SoundIndex = (command : CommandLine) (read : Reads) (bytes : List ℕ) → AreOperandReadsFileBytes read 0 command.operands → made_index command read ≡ Ok bytes → container_fault bytes ≡ None
+SoundIndex = (command : CommandLine) (read : Reads) (bytes : List ℕ) → OperandReadsFindOnlyValidFileBytes read 0 command.operands → made_index command read ≡ Ok bytes → container_fault bytes ≡ None
 
 -- ---- the names below a folder are names below it
 
@@ -75,7 +75,7 @@ names_for (folder ∷ values) files names good are = names_below (without_dot_sl
 
 -- ---- what reads find in the files are files
 
-files_found : (files : Files) → HaveValidNamesAndBytes files → (n : ℕ) (operands : List Operand) → AreOperandReadsFileBytes (reads_in files) n operands
+files_found : (files : Files) → HaveValidNamesAndBytes files → (n : ℕ) (operands : List Operand) → OperandReadsFindOnlyValidFileBytes (reads_in files) n operands
 files_found files good n [] = tt
 files_found files good n (o ∷ operands) = (good.each (without_dot_slash o.text), files_found files good (n + 1) operands)
 
@@ -143,7 +143,7 @@ folders_fine read n [] names = tt
 folders_fine read n (v ∷ values) names =
     each_fine (λ (folder : FolderListing). length folder.files) (source_folder_read_at v.place read) (folder_fine v.place read) n (folder_listings_of (without_dot_slash v.text) names)
 
-unless_fine : (counts : Option PayloadCounts) (v : Plain) (contents : List Contents) → IsRefusalOrMade (container_unless_too_large counts v contents)
+unless_fine : (counts : Option ByteAndValueCounts) (v : Plain) (contents : List Contents) → IsRefusalOrMade (container_unless_too_large counts v contents)
 unless_fine None v contents = tt
 unless_fine (Some counts) v contents = tt
 
@@ -165,7 +165,7 @@ package_fine command names read =
     (folders_fine read (length scripts) (values_of_letter FILES command.values) names)
     (λ folders.
     file_of_fine
-    (value_of_package (information_value about (installed_size folders)) folders scripts (texts_of (values_of_letter TRIGGER command.values)) (replaces_priority about))
+    (value_of_package (information_value_with_installed_size about (installed_size folders)) folders scripts (texts_of (values_of_letter TRIGGER command.values)) (replaces_priority about))
     (contents_of_folders 1 folders))))
 
 tested_fine : (place : ℕ) (file : List ℕ) (cause : Option Cause) → IsRefusalOrMade (entry_unless_fault place file cause)
@@ -187,18 +187,18 @@ entries_fine read n (o ∷ operands) =
     and_fine (found_entry o.place (read n (without_dot_slash o.text))) (found_entries read (n + 1) operands)
     (entry_fine o.place (read n (without_dot_slash o.text))) (entries_fine read (n + 1) operands)
 
-written_fine : (payload : Result (List ℕ) PayloadCounts) → IsRefusalOrMade (index_container payload)
+written_fine : (payload : Result (List ℕ) ByteAndValueCounts) → IsRefusalOrMade (index_container payload)
 written_fine (Ok payload) = tt
 written_fine (Err counts) = tt
 
 of_found_fine : (description : List ℕ) (entries : Result (List Plain) MakeFault) → IsRefusalOrMade entries → IsRefusalOrMade (index_of_entries_or_fault description entries)
 unfolding index_of_entries
-of_found_fine description (Ok entries) h = written_fine (payload_or_overflow (value_of_index description (sorted_by entry_cmp entries)))
+of_found_fine description (Ok entries) h = written_fine (payload_or_overflow (value_of_index description (sorted_by index_entry_cmp entries)))
 of_found_fine description (Err why) h = fine_err (List Plain) (List ℕ) why h
 
 pub index_fine : (command : CommandLine) (read : Reads) → IsRefusalOrMade (made_index command read)
 unfolding made_index
-index_fine command read = of_found_fine (description_in command.values) (found_entries read 0 command.operands) (entries_fine read 0 command.operands)
+index_fine command read = of_found_fine (first_description_or_empty command.values) (found_entries read 0 command.operands) (entries_fine read 0 command.operands)
 
 -- ---- what was made, where nothing is refused, stands under the output's name
 

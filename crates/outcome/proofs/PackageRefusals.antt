@@ -3,15 +3,15 @@ use Rattle.std.proofs.Common.{◌≡◌, ℕ, suc, Bool, true, false, not, List,
 use Rattle.std.specs.Prelude.{if◌then◌else◌, bytes_eq}
 use Rattle.adb_view.specs.Plain.{Plain}
 use Rattle.make_core.specs.adb_fields.Repeated.{package_name}
-use Rattle.gen_core.specs.adb_write.Canonical.{PayloadCounts, overflow_of}
+use Rattle.gen_core.specs.adb_write.Canonical.{ByteAndValueCounts, overflow_of}
 use Rattle.base_core.specs.Files.{Files}
 use Rattle.base_core.specs.declared.cause.Cause.{Cause}
-use Rattle.engine_core.specs.change_files.PlanLists.{first_reserved_path}
+use Rattle.engine_core.specs.change_files.PlanLists.{first_reserved_added_path}
 use Rattle.tell_core.specs.change_inputs.Chains.{and_then}
 use Rattle.tell_core.specs.change_inputs.Inputs.{Inputs}
 use Rattle.engine_core.specs.change_outcome.ChangeOutcome.{ChangeDone, ChangeWishes, intent_of_change, change_done, members_after_change, change_or_refusal, change_with_members, file_change, database_and_world_after_change, touched_paths, unless_clash, unless_contested, or_result_too_large, unless_overflow, unless_reserved_path, change_done_unless_too_large}
 use Rattle.engine_core.specs.change_outcome.MembersAfter.{MemberFound, added_package_by_path, added_member_found, members_after, member_of_name_after, member_of_name_by_change, member_of_name_by_selected, member_of_removed_name, members_of_names_after}
-use Rattle.engine_core.specs.change_outcome.PackageFiles.{AddedPackage, first_script_of, package_file_path_of_candidate, added_package_or_refusal, scripts_of_change, package_unless_other_than_candidate, unless_script_number, unless_package_bad, unless_script_needed}
+use Rattle.engine_core.specs.change_outcome.PackageFiles.{AddedPackage, first_script_number_of_package, package_file_path_of_candidate, added_package_or_refusal, scripts_of_change, package_unless_other_than_candidate, unless_script_number, package_unless_bad_or_different, unless_script_needed}
 use Rattle.engine_core.specs.change_outcome.Triggers.{folders_of_paths, has_due_trigger, unless_trigger_due}
 use Rattle.tell_core.specs.db_core.Members.{Member}
 use Rattle.engine_core.specs.db_write.NewDatabase.{database_of}
@@ -43,7 +43,7 @@ different_stated c pkg =
     (test_stated (not (bytes_eq c.name (package_name pkg.value))) _ _ refl
     (test_stated _ _ (Ok pkg) refl tt))
 
-bad_stated : (c : Candidate) (cause : Option Cause) (pkg : AddedPackage) → IsPackagesResult (unless_package_bad c cause pkg)
+bad_stated : (c : Candidate) (cause : Option Cause) (pkg : AddedPackage) → IsPackagesResult (package_unless_bad_or_different c cause pkg)
 bad_stated c None pkg = different_stated c pkg
 bad_stated c (Some cause) pkg = refl
 
@@ -61,7 +61,7 @@ number_stated name (Some number) a = refl
 
 script_stated : {A : Type 0} (no_scripts : Bool) (name : List ℕ) (pkg : Plain) (numbers : List ℕ) (a : A) → IsPackagesResult (unless_script_needed no_scripts name pkg numbers a)
 script_stated true name pkg numbers a = tt
-script_stated false name pkg numbers a = number_stated name (first_script_of pkg numbers) a
+script_stated false name pkg numbers a = number_stated name (first_script_number_of_package pkg numbers) a
 
 -- ---- each name
 
@@ -110,11 +110,11 @@ trigger_stated true paths members = tt
 trigger_stated false paths [] = tt
 trigger_stated false paths (m ∷ members) = test_stated (has_due_trigger (folders_of_paths paths) m.pkg) _ (unless_trigger_due false paths members) refl (trigger_stated false paths members)
 
-large_stated : {A : Type 0} (r : Result A PayloadCounts) → IsPackagesResult (or_result_too_large r)
+large_stated : {A : Type 0} (r : Result A ByteAndValueCounts) → IsPackagesResult (or_result_too_large r)
 large_stated (Ok a) = tt
 large_stated (Err counts) = refl
 
-overflow_stated : {A : Type 0} (counts : Option PayloadCounts) (a : A) → IsPackagesResult (unless_overflow counts a)
+overflow_stated : {A : Type 0} (counts : Option ByteAndValueCounts) (a : A) → IsPackagesResult (unless_overflow counts a)
 overflow_stated None a = tt
 overflow_stated (Some counts) a = refl
 
@@ -139,7 +139,7 @@ with_members_stated inputs r wishes clash files found =
     let rest : IsPackagesResult (and_then (unless_trigger_due wishes.no_scripts paths change.members) (λ is_allowed. change_done_unless_too_large inputs r wishes found files)) =
     then_stated is_refusal_after_choice (unless_trigger_due wishes.no_scripts paths change.members) (λ is_allowed. change_done_unless_too_large inputs r wishes found files) (trigger_stated wishes.no_scripts paths change.members) (λ is_allowed. too_large_stated inputs r wishes found files) in
     let owned : Result ChangeDone Refusal = unless_contested change.members (first_contested_path_of_members change.members) (and_then (unless_trigger_due wishes.no_scripts paths change.members) (λ is_allowed. change_done_unless_too_large inputs r wishes found files)) in
-    reserved_stated (first_reserved_path change.members) (unless_clash clash owned) (clash_stated clash owned (contested_stated change.members (first_contested_path_of_members change.members) (and_then (unless_trigger_due wishes.no_scripts paths change.members) (λ is_allowed. change_done_unless_too_large inputs r wishes found files)) rest))
+    reserved_stated (first_reserved_added_path change.members) (unless_clash clash owned) (clash_stated clash owned (contested_stated change.members (first_contested_path_of_members change.members) (and_then (unless_trigger_due wishes.no_scripts paths change.members) (λ is_allowed. change_done_unless_too_large inputs r wishes found files)) rest))
 
 pub refusal_stated : (inputs : Inputs) (r : Replacement) (wishes : ChangeWishes) (read : Reads) (clash : Option NamePair) (files : Files) → IsPackagesResult (change_or_refusal inputs r wishes read clash files)
 unfolding change_or_refusal

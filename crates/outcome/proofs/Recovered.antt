@@ -11,13 +11,13 @@ use Rattle.gen_core.specs.adb_schema.Reserved.{is_intent_or_stage_name}
 use Rattle.gen_core.specs.adb_schema.Rules.{is_name_allowed_in_intent}
 use Rattle.gen_core.specs.adb_schema.SoundValues.{IsNameAllowedInIntent}
 use Rattle.gen_core.specs.adb_schema.SoundContainers.{IsSoundContainer, IsSoundValue}
-use Rattle.gen_core.specs.adb_schema.Soundness.{container_fault_except_contents, payload_in, root_value}
+use Rattle.gen_core.specs.adb_schema.Soundness.{container_fault_except_contents, payload_in, root_value_of_payload}
 use Rattle.adb_view.specs.Values.{entries_in, entry_in, text_in}
 use Rattle.adb_view.specs.declared.tables.Which.{Which}
 use Rattle.adb_view.specs.declared.tables.Which.TheVariants.{Intent as IntentTable}
 use Rattle.adb_view.specs.Plain.{Plain, Plains, none, more}
 use Rattle.adb_view.specs.Shaped.{Each}
-use Rattle.base_core.specs.Files.{HaveValidNamesAndBytes, Files, AreFileBytes, HasNamesAmong, drop_name, move_name}
+use Rattle.base_core.specs.Files.{HaveValidNamesAndBytes, Files, AreFileBytes, HasOnlyNamesAmong, drop_name, move_name}
 use Rattle.base_core.specs.Name.{IsName, is_name}
 use Rattle.base_core.specs.declared.cause.Cause.{Cause}
 use Rattle.engine_core.specs.journal_core.Recovery.{Intent, files_after_actions, files_after_staged_moves_from, intent_in_file, intent_of_value, intent_name, intent_of, is_staged, move_if_present, read_intent, recovered_files, files_after_intent, stage_name, files_without_names}
@@ -97,7 +97,7 @@ abbrev writes_of : Option Intent → List (List ℕ)
 writes_of None = []
 writes_of (Some intent) = intent.writes
 
-pub unstaged_within : (files : Files) (within : List (List ℕ)) → HasNamesAmong within files → (names : List (List ℕ)) × HasNamesAmong names (unstaged_files files)
+pub unstaged_within : (files : Files) (within : List (List ℕ)) → HasOnlyNamesAmong within files → (names : List (List ℕ)) × HasOnlyNamesAmong names (unstaged_files files)
 unstaged_within files within h =
     let all = writes_of (intent_of files) ++ within in (
       all,
@@ -112,13 +112,13 @@ unstaged_within files within h =
 
 -- an intent is read from a sound container, whose value is sound
 abbrev pub ReadSound : Type 0
-ReadSound = (file : List ℕ) → container_fault_except_contents IntentTable file ≡ None → read_intent file ≡ Some (intent_of_value (root_value IntentTable (payload_in file)))
+ReadSound = (file : List ℕ) → container_fault_except_contents IntentTable file ≡ None → read_intent file ≡ Some (intent_of_value (root_value_of_payload IntentTable (payload_in file)))
 
 abbrev pub ReadNone : Type 0
 ReadNone = (file : List ℕ) (cause : Cause) → container_fault_except_contents IntentTable file ≡ Some cause → read_intent file ≡ None
 
 abbrev pub HoldsSound : Type 0
-HoldsSound = (which : Which) (file : List ℕ) → IsSoundContainer which file → IsSoundValue which (root_value which (payload_in file))
+HoldsSound = (which : Which) (file : List ℕ) → IsSoundContainer which file → IsSoundValue which (root_value_of_payload which (payload_in file))
 
 -- a name and the content of a file
 abbrev NamedFile : Property
@@ -136,7 +136,7 @@ file_named read none_read sound file intent is = by_fault (container_fault_excep
   where
     by_fault : (fault : Option Cause) → container_fault_except_contents IntentTable file ≡ fault → Carries NamedFile intent.writes
     by_fault None good =
-        let v : Plain = root_value IntentTable (payload_in file) in
+        let v : Plain = root_value_of_payload IntentTable (payload_in file) in
         subst (λ (i : Intent). Carries NamedFile i.writes) (same_Some (intent_of_value v) intent (sym (read file good) ∙ is)) (named_carries (entries_in (entry_in v 1)) (sound IntentTable file good).rules.writes)
     by_fault (Some cause) bad = absurd (let e : None ≡ Some intent = sym (none_read file cause bad) ∙ is in cc)
 

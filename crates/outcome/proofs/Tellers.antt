@@ -15,8 +15,8 @@ use Rattle.tell_core.specs.installed_info.Refusals.{IsNotInstalledRefusalOfOpera
 use Rattle.tell_core.specs.installed_info.declared.telling.ReportAndRefusal.{ReportAndRefusal}
 use Rattle.make_core.specs.make_info.Reads.{Reads}
 use Rattle.report_core.specs.declared.refusal.Refusal.{Refusal}
-use Rattle.tell_core.specs.AuditResult.{audit_of, manifest_report}
-use Rattle.tell_core.specs.QueryResult.{query_report, query_result}
+use Rattle.tell_core.specs.AuditResult.{audit_of, manifest_report_or_refusal}
+use Rattle.tell_core.specs.QueryResult.{query_report_or_refusal, query_result}
 use Rattle.tell_core.specs.ReportForCommand.{report_for_command, report_for_applet}
 use Rattle.outcome.proofs.Ends.{HasKnownRefusal, database_stated, inputs_stated, pool_stated, then_stated}
 use Rattle.outcome.specs.ChangeEnd.{is_input_refusal}
@@ -48,7 +48,7 @@ manifest_stated packages (o ∷ operands) = with_stated o (package_named_by_oper
 
 query_stated : (command : CommandLine) (read : Reads) → AreStated (query_result command read)
 query_stated command read =
-    then_all_stated (inputs_of command read) (query_report command) (inputs_stated command read)
+    then_all_stated (inputs_of command read) (query_report_or_refusal command) (inputs_stated command read)
     (λ inputs. then_all_stated (root_pool inputs no_names) _ (pool_stated inputs no_names) (λ pool refusal beside. absurd (cc (beside))))
 
 module _ (refused : (c : CommandLine) (packages : List Plain) (refusal : Refusal) → info_of c packages ≡ Err refusal → IsNotInstalledRefusalOfOperand c.operands refusal)
@@ -68,7 +68,7 @@ module _ (refused : (c : CommandLine) (packages : List Plain) (refusal : Refusal
       then_all_stated (database_for command read) (audit_of read) (database_stated command.flags.initdb _ _)
       (λ database refusal beside. absurd (cc (beside)))
   told_stated Manifest command read =
-      then_all_stated (database_for command read) (manifest_report command) (database_stated command.flags.initdb _ _)
+      then_all_stated (database_for command read) (manifest_report_or_refusal command) (database_stated command.flags.initdb _ _)
       (λ database. then_all_stated (manifest_of database.packages command.operands) _ (manifest_stated database.packages command.operands)
       (λ report refusal beside. absurd (cc (beside))))
   told_stated ListApplet command read = query_stated command read

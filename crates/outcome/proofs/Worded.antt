@@ -1,7 +1,7 @@
 -- The outcome of words is that of a command, or that of `demo`.
 use Rattle.std.proofs.Common.{◌≡◌, ◌⊎◌, inl, inr, ⊎_elim, ℕ, false, List, None, Some, Result, Ok, Err, refl, sym, subst, ◌∙◌}
 use Rattle.std.specs.Prelude.{IsTrue}
-use Rattle.base_core.specs.Files.{Files, HasNamesAmong}
+use Rattle.base_core.specs.Files.{Files, HasOnlyNamesAmong}
 use Rattle.command_core.specs.Command.{CommandLine}
 use Rattle.command_core.specs.declared.command.Applet.{Applet}
 use Rattle.command_core.specs.declared.command.Applet.TheVariants.{Demo}
@@ -15,11 +15,11 @@ use Rattle.outcome.specs.Words.{IsOutcome, IsOutcomeOfApplet}
 
 -- ---- there is one, and no second one
 
-applet_exists : HaveOutcome → (applet : Applet) (command : CommandLine) (files : Files) (within : List (List ℕ)) → HasNamesAmong within files → (o : Outcome) × IsOutcomeOfApplet applet command files o
+applet_exists : HaveOutcome → (applet : Applet) (command : CommandLine) (files : Files) (within : List (List ℕ)) → HasOnlyNamesAmong within files → (o : Outcome) × IsOutcomeOfApplet applet command files o
 applet_exists have Demo command files within few = demo_exists have (demo_count command.operands) files
 applet_exists have other command files within few = have (Ok command) files within few
 
-pub by_exists : HaveOutcome → (read : Result CommandLine ℕ) (files : Files) (within : List (List ℕ)) → HasNamesAmong within files → (o : Outcome) × IsOutcome read files o
+pub by_exists : HaveOutcome → (read : Result CommandLine ℕ) (files : Files) (within : List (List ℕ)) → HasOnlyNamesAmong within files → (o : Outcome) × IsOutcome read files o
 by_exists have (Ok command) files within few = applet_exists have command.applet command files within few
 by_exists have (Err place) files within few = have (Err place) files within few
 

@@ -3,7 +3,7 @@ use Rattle.std.proofs.Common.{◌≡◌, ℕ, false, true, List, [], ◌∷◌, 
 use Rattle.std.specs.Prelude.{codes}
 use Rattle.adb_view.specs.Plain.{Plain, blob, more, none, obj}
 use Rattle.engine_core.specs.change_files.PlanLists.{sorted_distinct_names}
-use Rattle.demo_lines.specs.Lines.{demo_text}
+use Rattle.demo_lines.specs.Lines.{contents_of_demo_file}
 use Rattle.dep_core.specs.Dependency.{Dependency, dependency_from_parts}
 use Rattle.engine_core.specs.package_changes.Report.{still_needed_lines}
 use Rattle.tell_core.specs.candidate_core.Candidates.{Candidate, candidate_from_parts}
@@ -31,5 +31,5 @@ needed_by_both = refl
 
 -- ---- what `demo` runs
 
-first_text : demo_text 1 ≡ codes "p00001\n"
+first_text : contents_of_demo_file 1 ≡ codes "p00001\n"
 first_text = refl

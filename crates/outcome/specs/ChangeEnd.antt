@@ -7,7 +7,7 @@ use Rattle.base_core.specs.Files.{Files}
 use Rattle.base_core.specs.declared.cause.Cause.{Cause}
 use Rattle.engine_core.specs.change_outcome.ChangeOutcome.{ChangeDone}
 use Rattle.command_core.specs.Command.{CommandLine}
-use Rattle.engine_core.specs.Changed.{IsClashOfCommand, InputsAndReplacement, change_of_selected, selected_from_reads_by_choice}
+use Rattle.engine_core.specs.Changed.{IsFirstClashOfCommand, InputsAndReplacement, change_of_selected, selected_from_reads_by_choice}
 use Rattle.engine_core.specs.Selecting.{pool_of_command}
 use Rattle.engine_core.specs.package_changes.Changes.{changes_of}
 use Rattle.engine_core.specs.package_changes.Placed.{candidates_at}
@@ -132,7 +132,7 @@ pub record TakesFirstPreferredSelection (command : CommandLine) (files : Files) 
   -- two names of which one would be a folder of the other after the change; None if there are none
   pub clash : Option NamePair
   -- `clash` is the first such clash of the change
-  pub is_clash : IsClashOfCommand command (reads_in files) files (Some trace) clash
+  pub is_clash : IsFirstClashOfCommand command (reads_in files) files (Some trace) clash
   -- the change of these candidates ends with the outcome `o`
   pub end : IsEndOfSelectedChange command files selected
       (change_of_selected command (reads_in files) files clash selected) o

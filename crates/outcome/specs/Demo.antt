@@ -5,7 +5,7 @@ use Rattle.root_names.specs.RootNames.{repositories_name}
 use Rattle.report_core.specs.declared.refusal.Refusal.{Refusal}
 use Rattle.words_core.specs.Grammar.{command_of}
 use Rattle.outcome.specs.Commands.{IsOutcomeWithoutDemo}
-use Rattle.demo_lines.specs.Lines.{add_words, demo_file, demo_repositories, demo_text, mkndx_words, mkpkg_words}
+use Rattle.demo_lines.specs.Lines.{add_words, demo_file, demo_repositories, contents_of_demo_file, mkndx_words, mkpkg_words}
 use Rattle.demo_lines.specs.Report.{demo_line}
 use Rattle.outcome.specs.Outcome.{Outcome, just_report, just_report_unless_refusal}
 
@@ -21,8 +21,8 @@ IsOutcomeOfNextRunUnlessRefused None words files before outcome =
     IsOutcomeWithoutDemo (command_of words) files outcome
 
 -- the outcome of the command line `words` over `files`; if the run before it was refused, its outcome `before` instead
-abbrev pub IsOutcomeOfNextRun : List (List ℕ) → Files → Outcome → Outcome → Type 0
-IsOutcomeOfNextRun words files before outcome =
+abbrev pub IsOutcomeOfNextRunOrEarlierRefusal : List (List ℕ) → Files → Outcome → Outcome → Type 0
+IsOutcomeOfNextRunOrEarlierRefusal words files before outcome =
     IsOutcomeOfNextRunUnlessRefused before.refusal words files before outcome
 
 -- ---- the runs
@@ -33,7 +33,7 @@ outcome_with_demo_repositories = just_report (put_name no_names repositories_nam
 
 -- the files, with the one file that package i will contain added under its name
 abbrev pub with_demo_file : ℕ → Files → Files
-with_demo_file i files = put_name files (demo_file i) (demo_text i)
+with_demo_file i files = put_name files (demo_file i) (contents_of_demo_file i)
 
 -- the outcome after packages 1 to n are made; the one file of each is written before its run of `mkpkg`
 abbrev pub IsDemoOutcomeAfterPackaging : ℕ → Outcome → Type 0
@@ -41,21 +41,22 @@ IsDemoOutcomeAfterPackaging zero outcome = outcome ≡ outcome_with_demo_reposit
 IsDemoOutcomeAfterPackaging (suc i) outcome =
     (before : Outcome)
     × IsDemoOutcomeAfterPackaging i before
-    × IsOutcomeOfNextRun (mkpkg_words (suc i)) (with_demo_file (suc i) before.files) before outcome
+    × IsOutcomeOfNextRunOrEarlierRefusal (mkpkg_words (suc i))
+    (with_demo_file (suc i) before.files) before outcome
 
 -- the outcome after packages 1 to n are made, and then their index
 abbrev pub IsDemoOutcomeAfterIndexing : ℕ → Outcome → Type 0
 IsDemoOutcomeAfterIndexing n outcome =
     (before : Outcome)
     × IsDemoOutcomeAfterPackaging n before
-    × IsOutcomeOfNextRun (mkndx_words n) before.files before outcome
+    × IsOutcomeOfNextRunOrEarlierRefusal (mkndx_words n) before.files before outcome
 
 -- the outcome after packages 1 to n are made and indexed, and those on which no other depends are added
 abbrev pub IsDemoOutcomeAfterInstalling : ℕ → Outcome → Type 0
 IsDemoOutcomeAfterInstalling n outcome =
     (before : Outcome)
     × IsDemoOutcomeAfterIndexing n before
-    × IsOutcomeOfNextRun (add_words n) before.files before outcome
+    × IsOutcomeOfNextRunOrEarlierRefusal (add_words n) before.files before outcome
 
 -- ---- the report
 

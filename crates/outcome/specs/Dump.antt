@@ -9,11 +9,11 @@ use Rattle.report_core.specs.declared.refusal.Refusal.TheVariants.{FileMissing, 
 use Rattle.command_core.specs.Files.{without_dot_slash}
 use Rattle.command_core.specs.declared.operands.Operand.{Operand}
 use Rattle.adb_block.specs.Header.{schema_of_header}
-use Rattle.adb_block.specs.ReaderPosition.{first_block_position}
+use Rattle.adb_block.specs.ReaderPosition.{first_block_position_of_schema_and_file}
 use Rattle.adb_block.specs.Reading.{Reading, done, fault, more, block_stream_from}
 use Rattle.adb_view.specs.Head.{payload_head_fault, root_word_of_payload}
 use Rattle.adb_view.specs.Schema.{shape_of}
-use Rattle.gen_core.specs.adb_schema.Soundness.{first_block_payload, root_value}
+use Rattle.gen_core.specs.adb_schema.Soundness.{first_block_payload, root_value_of_payload}
 use Rattle.adb_view.specs.Walk.{shape_fault}
 use Rattle.adb_view.specs.declared.tables.Which.{Which}
 use Rattle.adb_view.specs.declared.tables.Kind.TheVariants.{Obj}
@@ -52,7 +52,7 @@ text_unless_fault (Some cause) text = Err cause
 abbrev pub dump_of_blocks : Which → Reading → Result (List ℕ) Cause
 dump_of_blocks which r =
     text_unless_fault (dump_fault_of_blocks which r)
-    (dump_text which (root_value which (first_block_payload r)))
+    (dump_text which (root_value_of_payload which (first_block_payload r)))
 
 -- the dump text of the blocks of a file with this schema, given the table of the schema; None means that the schema is
 -- none of a root, which is refused
@@ -64,7 +64,7 @@ dump_by_root_table schema r (Some which) = dump_of_blocks which r
 abbrev pub dump_by_schema : List ℕ → Result ℕ Cause → Result (List ℕ) Cause
 dump_by_schema file (Err c) = Err c
 dump_by_schema file (Ok schema) =
-    dump_by_root_table schema (block_stream_from (first_block_position schema file))
+    dump_by_root_table schema (block_stream_from (first_block_position_of_schema_and_file schema file))
     (table_of_schema schema)
 
 -- the text of a file, or the first test that it fails: of its header, of its schema (one of four), of its

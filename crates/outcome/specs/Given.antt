@@ -8,8 +8,8 @@ use Rattle.command_core.specs.Command.{CommandLine}
 use Rattle.command_core.specs.declared.command.Applet.{Applet}
 use Rattle.command_core.specs.declared.command.Applet.TheVariants.{Mkpkg}
 use Rattle.command_core.specs.declared.values.TheConstants.{FILES}
-use Rattle.engine_core.specs.Changed.{IsClashOfCommand, IsClashOfCommandAmong}
-use Rattle.engine_core.specs.Choice.{IsChoiceFrom}
+use Rattle.engine_core.specs.Changed.{IsFirstClashOfCommand, IsFirstClashOfCommandAmong}
+use Rattle.engine_core.specs.Choice.{IsPreferredChoiceUnlessRefused}
 use Rattle.engine_core.specs.Selecting.{pool_of_command}
 use Rattle.make_core.specs.make_info.Reads.{Reads}
 use Rattle.make_core.specs.package_files.Sources.{AreNamesBelowFirstFolder, values_of_letter}
@@ -35,7 +35,8 @@ no_listing_choice_or_clash = record { names = []; chosen = None; clash = None }
 
 -- the places of the candidates that a command chooses, given what reads find; only a change chooses
 abbrev pub IsChoiceForCommand : Effect → CommandLine → Reads → Option (List ℕ) → Type 0
-IsChoiceForCommand Changes command read chosen = IsChoiceFrom (pool_of_command command read) chosen
+IsChoiceForCommand Changes command read chosen =
+    IsPreferredChoiceUnlessRefused (pool_of_command command read) chosen
 IsChoiceForCommand other command read chosen = chosen ≡ None
 
 -- ---- over these files
@@ -51,7 +52,7 @@ AreNamesListedForApplet other command files names = names ≡ []
 abbrev pub IsFirstClashForEffect :
     Effect → CommandLine → Reads → Files → Option (List ℕ) → Option NamePair → Type 0
 IsFirstClashForEffect Changes command read files chosen clash =
-    IsClashOfCommand command read files chosen clash
+    IsFirstClashOfCommand command read files chosen clash
 IsFirstClashForEffect other command read files chosen clash = clash ≡ None
 
 -- `given` are the names listed, the candidates chosen and the first clash of a command over these files, by what its
@@ -80,7 +81,7 @@ MayBeNamesListedForApplet other command names = names ≡ []
 abbrev pub MayBeFirstClashForEffect :
     Effect → CommandLine → Reads → Files → Option (List ℕ) → Option NamePair → Type 0
 MayBeFirstClashForEffect Changes command read files chosen clash =
-    (present_files : Files) × IsClashOfCommandAmong command read files present_files chosen clash
+    (present_files : Files) × IsFirstClashOfCommandAmong command read files present_files chosen clash
 MayBeFirstClashForEffect other command read files chosen clash = clash ≡ None
 
 -- `given` are names that a command may list, the candidates that it chooses, and a clash that it may find, on a tree

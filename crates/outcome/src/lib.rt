@@ -19,7 +19,7 @@
 #![tactic(auto)]
 
 ghost use Rattle.std.specs.Prelude.{◌≡◌, ◌⊎◌, ℕ, true, false, List, None, Some, Result, Ok, Err, IsSome, IsTrue, is_some, not};
-ghost use Rattle.base_core.specs.Files.{Files, HasNamesAmong};
+ghost use Rattle.base_core.specs.Files.{Files, HasOnlyNamesAmong};
 ghost use Rattle.base_core.specs.Listed.{IsSortedListingOfFolder, AreSortedNamesInMap};
 ghost use Rattle.base_core.specs.Tree.{IsWellFormed, TreeState, files_of};
 ghost use Rattle.base_core.specs.declared.cause.Cause.{Cause};
@@ -27,7 +27,7 @@ ghost use Rattle.tell_core.specs.change_inputs.Inputs.{database_for};
 ghost use Rattle.command_core.specs.Command.{CommandLine};
 ghost use Rattle.command_core.specs.declared.command.Applet.{Applet};
 ghost use Rattle.engine_core.specs.journal_core.Recovery.{intent_name};
-ghost use Rattle.engine_core.specs.journal_core.Staged.{AreReplayPathsFree, AreStagingPathsFree, unstaged_files};
+ghost use Rattle.engine_core.specs.journal_core.Staged.{AreJournalPathsFreeIfIntentIsReplayed, HasEmptyStageAndFreeJournalPaths, unstaged_files};
 ghost use Rattle.tell_core.specs.installed_info.declared.telling.ReportAndRefusal.{ReportAndRefusal};
 ghost use Rattle.make_core.specs.make_info.Reads.{Reads};
 ghost use Rattle.outcome.specs.ChangeEnd.{IsChangeEnd, IsChangeEndOrIntentRefusal, is_input_refusal};
@@ -59,7 +59,7 @@ use tell_core::info_refuses_only_for_an_operand;
 /// A command line has an outcome over any files, if all their names are in a list (`within`).
 pub fn an_outcome_exists()
     ensures { (words within : List (List ℕ)) (files : Files)
-        → HasNamesAmong within files → (o : Outcome) × IsOutcome (command_of words) files o }
+        → HasOnlyNamesAmong within files → (o : Outcome) × IsOutcome (command_of words) files o }
 {
     // Laws that the proof needs; they have no effect at run time.
     files_have_one_list_of_names();
@@ -260,9 +260,9 @@ pub fn a_change_leaves_free_paths_for_the_next()
     ensures { (words : List (List ℕ)) (files : Files) (o : Outcome)
         → effect_of_arguments (command_of words) ≡ Changes → IsOutcome (command_of words) files o
         → o.refusal ≡ None
-        → AreStagingPathsFree (files_recovered_if_needed Changes files)
-        → AreReplayPathsFree o.files
-        × AreStagingPathsFree (files_recovered_if_needed Changes o.files) }
+        → HasEmptyStageAndFreeJournalPaths (files_recovered_if_needed Changes files)
+        → AreJournalPathsFreeIfIntentIsReplayed o.files
+        × HasEmptyStageAndFreeJournalPaths (files_recovered_if_needed Changes o.files) }
 {
     // Laws that the proof needs; they have no effect at run time.
     a_change_keeps_paths_free();
@@ -314,8 +314,8 @@ pub fn what_is_made_is_sound()
 
 // Functions and laws of crates on which this one depends, for crates that depend on this one.
 pub use demo_lines::{
-    add_words, demo_count, demo_file, demo_line, demo_repositories, demo_text, mkndx_words,
-    mkpkg_words,
+    add_words, contents_of_demo_file, demo_count, demo_file, demo_line, demo_repositories,
+    mkndx_words, mkpkg_words,
 };
 pub use gen_core::{
     a_canonical_payload_is_read_back, a_canonical_payload_is_visited_once,

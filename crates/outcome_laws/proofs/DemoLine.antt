@@ -16,7 +16,7 @@ use Rattle.dep_core.specs.World.{is_line_end}
 use Rattle.outcome.specs.demo_lines.Count.{demo_count}
 use Rattle.outcome.specs.demo_lines.Lines.{demo_package_name, name_unless_needed_by_first_n, names_not_needed_by_first_n}
 use Rattle.outcome.specs.demo_lines.Report.{demo_line, last_line}
-use Rattle.outcome_laws.specs.DemoLines.{AreWholeLines, IsDemoPackageNeededByNone, IsOneLine}
+use Rattle.outcome_laws.specs.DemoLines.{AreWholeLines, IsDemoPackageNeededByNone, HasNoLineEnd}
 use Rattle.report_core.specs.Reports.{report_line}
 
 -- ---- the last line
@@ -25,7 +25,7 @@ either_false : (a b : Bool) → (a || b) ≡ false → (a ≡ false) × (b ≡ f
 either_false true b e = absurd (cc (e))
 either_false false b e = (refl, e)
 
-none_ends : (xs : List ℕ) (k : ℕ) → IsOneLine xs → k < length xs → is_line_end (get_or xs k 0) ≡ false
+none_ends : (xs : List ℕ) (k : ℕ) → HasNoLineEnd xs → k < length xs → is_line_end (get_or xs k 0) ≡ false
 none_ends [] k one lt = absurd (omega (arith, lt))
 none_ends (x ∷ xs) zero one lt = (either_false (is_line_end x) (list_any is_line_end xs) one).0
 none_ends (x ∷ xs) (suc k) one lt = none_ends xs k (either_false (is_line_end x) (list_any is_line_end xs) one).1 (omega (arith, lt))
@@ -42,7 +42,7 @@ ends front line (inr (before, is)) some =
     ∙ ap (λ (xs : List ℕ). not (is_line_end (get_or xs (length before) 0))) (append_assoc before (codes "\n") line)
     ∙ ap (λ (b : ℕ). not (is_line_end b)) seam)
 
-after_front : (front line : List ℕ) → AreWholeLines front → IsOneLine line → after_last is_line_end (front ++ line) ≡ line
+after_front : (front line : List ℕ) → AreWholeLines front → HasNoLineEnd line → after_last is_line_end (front ++ line) ≡ line
 after_front front line whole one =
     let xs = front ++ line in
     let n = length front in
@@ -62,13 +62,13 @@ without_end xs =
     let most : length (xs ++ codes "\n") - 1 ≡ length xs = omega (arith, count) in
     ap (λ (n : ℕ). take n (xs ++ codes "\n")) most ∙ take-append_seam xs (codes "\n")
 
-last_is : (front line : List ℕ) → AreWholeLines front → IsOneLine line → last_line (front ++ report_line line) ≡ line
+last_is : (front line : List ℕ) → AreWholeLines front → HasNoLineEnd line → last_line (front ++ report_line line) ≡ line
 last_is front line whole one =
     ap last_line (sym (append_assoc front line (codes "\n")))
     ∙ ap (after_last is_line_end) (without_end (front ++ line))
     ∙ after_front front line whole one
 
-pub line_printed : (n : ℕ) (front line : List ℕ) → AreWholeLines front → IsOneLine line
+pub line_printed : (n : ℕ) (front line : List ℕ) → AreWholeLines front → HasNoLineEnd line
     → demo_line n (front ++ report_line line) ≡ report_line (codes "demo " ++ decimal n ++ codes ": " ++ line)
 line_printed n front line whole one =
     ap (λ (l : List ℕ). codes "demo " ++ decimal n ++ codes ": " ++ l ++ codes "\n") (last_is front line whole one)

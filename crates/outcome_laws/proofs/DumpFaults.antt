@@ -4,7 +4,7 @@ use Rattle.std.specs.Prelude.{is_some, slice_get}
 use Rattle.std.specs.Option.{option_or}
 use Rattle.adb_block.specs.Header.{schema_of_header}
 use Rattle.adb_block.specs.Reading.{Reading, done, fault, more, block_stream_from}
-use Rattle.adb_block.specs.ReaderPosition.{first_block_position}
+use Rattle.adb_block.specs.ReaderPosition.{first_block_position_of_schema_and_file}
 use Rattle.adb_view.specs.Head.{payload_head_fault, root_word_of_payload}
 use Rattle.adb_view.specs.Schema.{shape_of}
 use Rattle.adb_view.specs.Walk.{shape_fault}
@@ -16,7 +16,7 @@ use Rattle.base_core.specs.declared.cause.Cause.TheVariants.{WrongSchema}
 use Rattle.command_core.specs.Files.{without_dot_slash}
 use Rattle.command_core.specs.declared.operands.Operand.{Operand}
 use Rattle.container_laws.specs.TestsInOrder.{IsFirstFailing}
-use Rattle.container_laws.specs.adb_schema.Soundness.{first_block_payload, root_value}
+use Rattle.container_laws.specs.adb_schema.Soundness.{first_block_payload, root_value_of_payload}
 use Rattle.container_laws.specs.pkg_core.Whole.{table_of_schema}
 use Rattle.outcome.specs.Dump.{adbdump, dump_fault_of_blocks, dump_of, dump_outcome, dump_by_root_table, dump_by_schema, framing_fault, text_unless_fault, text_outcome}
 use Rattle.outcome.specs.adb_dump.Dump.{dump_text}
@@ -95,13 +95,13 @@ no_text None text c e = absurd (cc (e))
 no_text (Some d) text c e = let same : d ≡ c = cc (e) in ap Some same
 
 by_root : (file : List ℕ) (c : Cause) (schema : ℕ) (root : Option Which) → schema_of_header file ≡ Ok schema → table_of_schema schema ≡ root
-    → dump_by_root_table schema (block_stream_from (first_block_position schema file)) root ≡ Err c → IsDumpRefusalCause file c
+    → dump_by_root_table schema (block_stream_from (first_block_position_of_schema_and_file schema file)) root ≡ Err c → IsDumpRefusalCause file c
 by_root file c schema None header root e =
     let same : WrongSchema schema ≡ c = cc (e) in
     inr (schema, header, inl (root, sym same))
 by_root file c schema (Some which) header root e =
-    let r = block_stream_from (first_block_position schema file) in
-    inr (schema, header, inr (which, root, blocks_told which r c (no_text (dump_fault_of_blocks which r) (dump_text which (root_value which (first_block_payload r))) c e)))
+    let r = block_stream_from (first_block_position_of_schema_and_file schema file) in
+    inr (schema, header, inr (which, root, blocks_told which r c (no_text (dump_fault_of_blocks which r) (dump_text which (root_value_of_payload which (first_block_payload r))) c e)))
 
 by_header : (file : List ℕ) (c : Cause) (h : Result ℕ Cause) → schema_of_header file ≡ h → dump_by_schema file h ≡ Err c → IsDumpRefusalCause file c
 by_header file c (Err d) header e =
@@ -122,12 +122,12 @@ file_refused file c f =
           let (schema, header, rest) = f in
           ap (dump_by_schema file) header
           ∙ elim rest [
-            | inl x ↦ ap (dump_by_root_table schema (block_stream_from (first_block_position schema file))) x.0 ∙ ap Err (sym x.1)
+            | inl x ↦ ap (dump_by_root_table schema (block_stream_from (first_block_position_of_schema_and_file schema file))) x.0 ∙ ap Err (sym x.1)
             | inr x ↦
                 let (which, root, blocks) = x in
-                let r = block_stream_from (first_block_position schema file) in
+                let r = block_stream_from (first_block_position_of_schema_and_file schema file) in
                 ap (dump_by_root_table schema r) root
-                ∙ ap (λ (o : Option Cause). text_unless_fault o (dump_text which (root_value which (first_block_payload r)))) (blocks_refused which r c blocks)
+                ∙ ap (λ (o : Option Cause). text_unless_fault o (dump_text which (root_value_of_payload which (first_block_payload r)))) (blocks_refused which r c blocks)
           ]
     ]
 

@@ -4,11 +4,11 @@ use Rattle.std.specs.Prelude.{if◌then◌else◌, nat_lt}
 use Rattle.std.specs.Option.{option_or}
 use Rattle.adb_block.specs.Header.{schema_of_header}
 use Rattle.adb_block.specs.Reading.{Reading, done, fault, more, block_stream_from}
-use Rattle.adb_block.specs.ReaderPosition.{first_block_position}
+use Rattle.adb_block.specs.ReaderPosition.{first_block_position_of_schema_and_file}
 use Rattle.adb_block.specs.declared.block.BlockKind.{BlockKind}
 use Rattle.adb_block.specs.declared.block.BlockKind.TheVariants as Kinds
 use Rattle.outcome.specs.adb_dump.Dump.{dump_text}
-use Rattle.container_laws.specs.adb_schema.Soundness.{unexpected_contents_block_fault, contents_positions, first_block_payload, further_blocks_fault, payload_after_header, payload_in, root_value}
+use Rattle.container_laws.specs.adb_schema.Soundness.{unexpected_contents_block_fault, contents_positions, first_block_payload, further_blocks_fault, payload_after_header, payload_in, root_value_of_payload}
 use Rattle.adb_view.specs.Head.{root_word_of_payload}
 use Rattle.adb_view.specs.Plain.{Plain}
 use Rattle.adb_view.specs.Schema.{shape_of}
@@ -25,21 +25,21 @@ use Rattle.command_core.specs.declared.operands.Operand.{Operand}
 use Rattle.container_laws.specs.TestsInOrder.{PassesEveryContainerTest}
 use Rattle.outcome.specs.make_info.Reads.{Reads}
 use Rattle.outcome.specs.Dump.{adbdump, dump_fault_of_blocks, dump_of, dump_of_blocks, dump_outcome, dump_by_root_table, dump_by_schema, framing_fault, text_unless_fault, text_outcome}
-use Rattle.container_laws.specs.pkg_core.Contents.{ExpectedFile, POSITIONS_LEN, contents_block_fault, expected_files_of_package, fault_of_files_read, files_at_block, files_read_from_blocks, files_unless_fault, with_contents_of_next}
+use Rattle.container_laws.specs.pkg_core.Contents.{ExpectedFile, POSITIONS_LEN, contents_block_fault, expected_files_of_package, fault_of_files_read, files_read_from_block_and_further, files_read_from_blocks, files_unless_fault, with_contents_of_next}
 use Rattle.container_laws.specs.pkg_core.Whole.{fault_of_further_blocks, table_of_schema}
 use Rattle.report_core.specs.declared.refusal.Refusal.TheVariants.{FileBad, FileMissing}
 use Rattle.outcome_laws.specs.DumpedFiles.{HasDumpTextOfRootValue}
 
 -- ---- the printed text
 
-told_text : (which : Which) (r : Reading) (text : List ℕ) → dump_of_blocks which r ≡ Ok text → text ≡ dump_text which (root_value which (first_block_payload r))
+told_text : (which : Which) (r : Reading) (text : List ℕ) → dump_of_blocks which r ≡ Ok text → text ≡ dump_text which (root_value_of_payload which (first_block_payload r))
 told_text which r text e = go (dump_fault_of_blocks which r) e
   where
-    go : (o : Option Cause) → text_unless_fault o (dump_text which (root_value which (first_block_payload r))) ≡ Ok text → text ≡ dump_text which (root_value which (first_block_payload r))
-    go None e = let same : dump_text which (root_value which (first_block_payload r)) ≡ text = cc in sym same
+    go : (o : Option Cause) → text_unless_fault o (dump_text which (root_value_of_payload which (first_block_payload r))) ≡ Ok text → text ≡ dump_text which (root_value_of_payload which (first_block_payload r))
+    go None e = let same : dump_text which (root_value_of_payload which (first_block_payload r)) ≡ text = cc in sym same
     go (Some c) e = absurd cc
 
-text_by_root : (file text : List ℕ) (schema : ℕ) (root : Option Which) → schema_of_header file ≡ Ok schema → table_of_schema schema ≡ root → dump_by_root_table schema (block_stream_from (first_block_position schema file)) root ≡ Ok text → HasDumpTextOfRootValue file text
+text_by_root : (file text : List ℕ) (schema : ℕ) (root : Option Which) → schema_of_header file ≡ Ok schema → table_of_schema schema ≡ root → dump_by_root_table schema (block_stream_from (first_block_position_of_schema_and_file schema file)) root ≡ Ok text → HasDumpTextOfRootValue file text
 unfolding payload_in
 text_by_root file text schema None header root e = absurd cc
 text_by_root file text schema (Some which) header root e =
@@ -48,8 +48,8 @@ text_by_root file text schema (Some which) header root e =
       header = header;
       which = which;
       root = root;
-      text_is = told_text which (block_stream_from (first_block_position schema file)) text e
-          ∙ ap (λ (o : Result ℕ Cause). dump_text which (root_value which (payload_after_header file o))) (sym header);
+      text_is = told_text which (block_stream_from (first_block_position_of_schema_and_file schema file)) text e
+          ∙ ap (λ (o : Result ℕ Cause). dump_text which (root_value_of_payload which (payload_after_header file o))) (sym header);
     }
 
 text_by_header : (file text : List ℕ) (h : Result ℕ Cause) → schema_of_header file ≡ h → dump_by_schema file h ≡ Ok text → HasDumpTextOfRootValue file text
@@ -97,7 +97,7 @@ framed_contents es (more b at r) e = by_kind b.kind e (λ left. framed_contents 
     by_fault None [] is e further = absurd (never_none (nat_lt (length b.payload) POSITIONS_LEN) (Truncated at) (DataOrder (0, 0) (contents_positions b.payload)) is)
     by_fault None (x ∷ xs) is e further = further xs e
 
-    by_kind : (k : BlockKind) → fault_of_files_read (files_at_block k b.payload at (λ left. files_read_from_blocks left r) es) ≡ None
+    by_kind : (k : BlockKind) → fault_of_files_read (files_read_from_block_and_further k b.payload at (λ left. files_read_from_blocks left r) es) ≡ None
         → ((rest : List ExpectedFile) → fault_of_files_read (files_read_from_blocks rest r) ≡ None → framing_fault r ≡ None) → framing_fault r ≡ None
     by_kind Kinds.Contents e further = by_fault (contents_block_fault b.payload at es) es refl e further
     by_kind Kinds.Adb e further = further es e
@@ -121,7 +121,7 @@ dumped : (file : List ℕ) → PassesEveryContainerTest file → (text : List �
 unfolding dump_of
 dumped file p =
     let r : Reading = more p.first p.at p.behind in
-    let value : Plain = root_value p.which p.first.payload in
+    let value : Plain = root_value_of_payload p.which p.first.payload in
     let text : List ℕ = dump_text p.which value in
     let good : dump_fault_of_blocks p.which r ≡ None =
     ap (λ (o : Option Cause). option_or (option_or o (shape_fault p.first.payload (shape_of (Obj p.which)) (root_word_of_payload p.first.payload))) (framing_fault p.behind)) (p.each 0 _ refl)
@@ -129,7 +129,7 @@ dumped file p =
     ∙ framed p.which value p.behind (p.each 4 _ refl) in (
       text,
       ap (dump_by_schema file) p.header
-          ∙ ap (dump_by_root_table p.schema (block_stream_from (first_block_position p.schema file))) p.root
+          ∙ ap (dump_by_root_table p.schema (block_stream_from (first_block_position_of_schema_and_file p.schema file))) p.root
           ∙ ap (dump_of_blocks p.which) p.blocks
           ∙ ap (λ (o : Option Cause). text_unless_fault o text) good,
     )

@@ -15,7 +15,7 @@ use Rattle.report_core.specs.declared.refusal.Refusal.{Refusal}
 use Rattle.report_core.specs.declared.refusal.Refusal.TheVariants.{FileBad, FileMissing, InfoBad, Reserved, ResultTooLarge}
 use Rattle.outcome.specs.Make.{files_with_output, make_outcome, outcome_unless_output_reserved}
 use Rattle.outcome.specs.Outcome.{Outcome, commit_report, just_refusal}
-use Rattle.outcome_laws.specs.MadeFiles.{HasOutput, IsMadeOrTooLarge, IsRefusedWith, IsReservedName, IsUnreserved, IsOutputWrittenAndReported, refusal_if_input_fault}
+use Rattle.outcome_laws.specs.MadeFiles.{HasOutput, IsMadeOrTooLarge, IsRefusedWith, IsReservedName, IsOutputUnreserved, IsOutputWrittenAndReported, refusal_if_input_fault}
 
 -- ---- reserved names
 
@@ -85,11 +85,11 @@ reserved_first files name report made is (inl (bytes, e)) = rw e (refused_if fil
 reserved_first files name report made is (inr (bytes, values, e)) = rw e (refused_if files name (just_refusal files (ResultTooLarge bytes values)) is)
 
 -- an output that is not reserved is as if it were not tested
-untested : (files : Files) (output : Option (List ℕ)) (otherwise : Outcome) → IsUnreserved output → outcome_unless_output_reserved files output otherwise ≡ otherwise
+untested : (files : Files) (output : Option (List ℕ)) (otherwise : Outcome) → IsOutputUnreserved output → outcome_unless_output_reserved files output otherwise ≡ otherwise
 untested files None otherwise free = refl
 untested files (Some name) otherwise free = rw (false_from_ne_true (is_reserved name) (λ e. free name refl ((reserved name).0 e))) refl
 
-pub too_large : (files : Files) (output : Option (List ℕ)) (report : List ℕ) (bytes values : ℕ) → IsUnreserved output → IsRefusedWith (ResultTooLarge bytes values) files (make_outcome files output report (Err (TooLarge bytes values)))
+pub too_large : (files : Files) (output : Option (List ℕ)) (report : List ℕ) (bytes values : ℕ) → IsOutputUnreserved output → IsRefusedWith (ResultTooLarge bytes values) files (make_outcome files output report (Err (TooLarge bytes values)))
 too_large files output report bytes values free = subst (IsRefusedWith (ResultTooLarge bytes values) files) (sym (untested files output (just_refusal files (ResultTooLarge bytes values)) free)) (refused files (ResultTooLarge bytes values))
 
 -- ---- what is written
@@ -109,7 +109,7 @@ has_output files (Some name) bytes = record {
     differ : (a b : List ℕ) → a ≢ b → bytes_eq a b ≡ false
     differ a b apart = false_from_ne_true (bytes_eq a b) (λ e. apart ((bytes_eq-Decides a b).0 e))
 
-pub written : (files : Files) (output : Option (List ℕ)) (report bytes : List ℕ) → IsUnreserved output → IsOutputWrittenAndReported output bytes report files (make_outcome files output report (Ok bytes))
+pub written : (files : Files) (output : Option (List ℕ)) (report bytes : List ℕ) → IsOutputUnreserved output → IsOutputWrittenAndReported output bytes report files (make_outcome files output report (Ok bytes))
 written files output report bytes free =
     subst (IsOutputWrittenAndReported output bytes report files) (sym (untested files output (commit_report (files_with_output output bytes files) report) free)) (record {
       accepted = refl;

@@ -6,8 +6,8 @@ use Rattle.dep_core.specs.World.{is_line_end}
 use Rattle.outcome.specs.demo_lines.Lines.{demo_package_name}
 
 -- a text has no line end
-abbrev pub IsOneLine : List ℕ → Type 0
-IsOneLine text = list_any is_line_end text ≡ false
+abbrev pub HasNoLineEnd : List ℕ → Type 0
+HasNoLineEnd text = list_any is_line_end text ≡ false
 
 -- a text consists of whole lines, or is empty
 abbrev pub AreWholeLines : List ℕ → Type 0

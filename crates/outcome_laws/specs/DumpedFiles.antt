@@ -6,7 +6,7 @@ use Rattle.base_core.specs.declared.cause.Cause.TheVariants.{WrongSchema}
 use Rattle.adb_block.specs.Header.{schema_of_header}
 use Rattle.adb_block.specs.Piece.{Piece}
 use Rattle.adb_block.specs.Reading.{Reading, fault, more, block_stream_from}
-use Rattle.adb_block.specs.ReaderPosition.{first_block_position}
+use Rattle.adb_block.specs.ReaderPosition.{first_block_position_of_schema_and_file}
 use Rattle.adb_view.specs.Head.{payload_head_fault, root_word_of_payload}
 use Rattle.adb_view.specs.Schema.{shape_of}
 use Rattle.adb_view.specs.Walk.{shape_fault}
@@ -14,7 +14,7 @@ use Rattle.adb_view.specs.declared.tables.Kind.TheVariants.{Obj}
 use Rattle.container_laws.specs.TestsInOrder.{IsFirstFailing}
 use Rattle.outcome.specs.Dump.{framing_fault}
 use Rattle.outcome.specs.adb_dump.Dump.{dump_text}
-use Rattle.container_laws.specs.adb_schema.Soundness.{payload_in, root_value}
+use Rattle.container_laws.specs.adb_schema.Soundness.{payload_in, root_value_of_payload}
 use Rattle.adb_view.specs.declared.tables.Which.{Which}
 use Rattle.container_laws.specs.pkg_core.Whole.{table_of_schema}
 
@@ -29,7 +29,7 @@ pub record HasDumpTextOfRootValue (file text : List ℕ) : Type 0 where
   -- the schema has this table at its root
   pub root : table_of_schema schema ≡ Some which
   -- the text is that of the value of the file, by this table
-  pub text_is : text ≡ dump_text which (root_value which (payload_in file))
+  pub text_is : text ≡ dump_text which (root_value_of_payload which (payload_in file))
 
 -- ---- why a file is not printed
 
@@ -57,4 +57,4 @@ IsDumpRefusalCause file c =
     ⊎ ((schema : ℕ) × (schema_of_header file ≡ Ok schema)
     × (((table_of_schema schema ≡ None) × (c ≡ WrongSchema schema))
     ⊎ ((which : Which) × (table_of_schema schema ≡ Some which)
-    × IsFaultOfPrinted which (block_stream_from (first_block_position schema file)) c)))
+    × IsFaultOfPrinted which (block_stream_from (first_block_position_of_schema_and_file schema file)) c)))

@@ -27,8 +27,8 @@ pub record IsReservedName (name : List ℕ) : Type 0 where
   pub below : (name ≡ top) ⊎ ((rest : List ℕ) × (name ≡ top ++ codes "/" ++ rest))
 
 -- the output, if there is one, has no reserved name
-abbrev pub IsUnreserved : Option (List ℕ) → Type 0
-IsUnreserved output = (name : List ℕ) → output ≡ Some name → IsReservedName name → ⊥
+abbrev pub IsOutputUnreserved : Option (List ℕ) → Type 0
+IsOutputUnreserved output = (name : List ℕ) → output ≡ Some name → IsReservedName name → ⊥
 
 -- ---- outcomes
 

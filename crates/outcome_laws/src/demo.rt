@@ -8,13 +8,13 @@ ghost use Rattle.command_core.specs.declared.operands.Operand.{Operand};
 ghost use Rattle.outcome.specs.demo_lines.Count.{demo_count};
 ghost use Rattle.outcome.specs.demo_lines.Lines.{names_not_needed_by_first_n};
 ghost use Rattle.outcome.specs.demo_lines.Report.{demo_line};
-ghost use Rattle.outcome_laws.specs.DemoLines.{AreWholeLines, IsDemoPackageNeededByNone, IsOneLine};
+ghost use Rattle.outcome_laws.specs.DemoLines.{AreWholeLines, IsDemoPackageNeededByNone, HasNoLineEnd};
 ghost use Rattle.report_core.specs.Reports.{report_line};
 
 /// `demo` prints one line: `demo N: ` and then the last line of a report. `front` are the lines of
 /// the report before its last one.
 pub fn demo_prints_the_last_line_of_a_report()
-    ensures { (n : ℕ) (front line : List ℕ) → AreWholeLines front → IsOneLine line
+    ensures { (n : ℕ) (front line : List ℕ) → AreWholeLines front → HasNoLineEnd line
         → demo_line n (front ++ report_line line)
         ≡ report_line (codes "demo " ++ decimal n ++ codes ": " ++ line) }
 {}

@@ -7,7 +7,7 @@ ghost use Rattle.outcome.specs.Make.{make_outcome};
 ghost use Rattle.outcome.specs.adb_schema.Reserved.{is_reserved};
 ghost use Rattle.outcome.specs.make_info.declared.fault.MakeFault.{MakeFault};
 ghost use Rattle.outcome.specs.make_info.declared.fault.MakeFault.TheVariants.{TooLarge};
-ghost use Rattle.outcome_laws.specs.MadeFiles.{IsMadeOrTooLarge, IsRefusedWith, IsReservedName, IsUnreserved, IsOutputWrittenAndReported, refusal_if_input_fault};
+ghost use Rattle.outcome_laws.specs.MadeFiles.{IsMadeOrTooLarge, IsRefusedWith, IsReservedName, IsOutputUnreserved, IsOutputWrittenAndReported, refusal_if_input_fault};
 ghost use Rattle.report_core.specs.declared.refusal.Refusal.{Refusal};
 ghost use Rattle.report_core.specs.declared.refusal.Refusal.TheVariants.{Reserved, ResultTooLarge};
 
@@ -34,7 +34,7 @@ pub fn a_reserved_output_is_reported_before_a_result_that_is_too_large()
         → IsRefusedWith (Reserved name) files (make_outcome files (Some name) report made) }
     // If the output is not reserved, the result is refused as too large.
     ensures too_large { (files : Files) (output : Option (List ℕ)) (report : List ℕ)
-        (bytes values : ℕ) → IsUnreserved output
+        (bytes values : ℕ) → IsOutputUnreserved output
         → IsRefusedWith (ResultTooLarge bytes values) files
         (make_outcome files output report (Err (TooLarge bytes values))) }
 {}
@@ -43,7 +43,7 @@ pub fn a_reserved_output_is_reported_before_a_result_that_is_too_large()
 /// printed. No file is left under the scratch name, and each other file is unchanged.
 pub fn a_made_container_is_written_to_its_output()
     ensures { (files : Files) (output : Option (List ℕ)) (report bytes : List ℕ)
-        → IsUnreserved output
+        → IsOutputUnreserved output
         → IsOutputWrittenAndReported output bytes report files (make_outcome files output report
         (Ok bytes)) }
 {}

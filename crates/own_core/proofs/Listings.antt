@@ -13,7 +13,7 @@ use Rattle.adb_view.specs.Values.{count_of, entries_in, entry_in, nth}
 use Rattle.path_claim_lists.specs.adb_fields.Repeated.{files_in, list_of, name_of}
 use Rattle.base_core.specs.Sorted.{sorted_by}
 use Rattle.base_core.proofs.Sorting.{Each, stable_in_order}
-use Rattle.change_files.specs.db_core.Members.{Listing, Member, listings_of_path, is_added, listings_of_member, listings_of_members_from, listings_in_folder, listings_in_folders, member_listing, member_listings}
+use Rattle.change_files.specs.db_core.Members.{Listing, Member, listings_of_path, is_added, listings_of_member, listings_of_members_from, listings_in_folder_from_file, listings_in_folders_from, listing_of_file_entry, listings_of_members}
 use Rattle.path_claim_lists.specs.path_claims.Claims.{PathClaim, claim_cmp, is_owning_member, is_claim_of_path}
 use Rattle.path_claim_lists.proofs.path_claims.ClaimOrder.{claims_total}
 use Rattle.path_claim_lists.proofs.path_claims.Owned.{ties_path}
@@ -21,7 +21,7 @@ use Rattle.path_claim_lists.proofs.path_claims.Places.{no_some, value_or}
 use Rattle.path_claim_lists.proofs.path_claims.Runs.{filter_ext}
 use Rattle.path_claim_lists.proofs.path_claims.Whole.{from_sorted}
 use Rattle.path_claim_lists.proofs.Lists.{found_ext, found_filtered, found_first, found_is, first_of}
-use Rattle.change_files.specs.file_owners.Owners.{claim_of_listing, claims_from, claims_in, owner_of_path}
+use Rattle.change_files.specs.file_owners.Owners.{numbered_claim_of_listing, claims_of_listings_numbered_from, claims_in, owner_of_path}
 use Rattle.change_files.specs.FileChange.{FileChange, added_owner_listing, if_member_added, is_listed_after_change, old_entry, old_listings, owner_listing}
 use Rattle.own_core.specs.ClaimEntries.{AreClaimsOf, HasFileAt, IsClaimOf, claim_entry, is_added_at, is_added_if_any, listed_file_at, folders_if_any, is_of_added_owner}
 
@@ -37,21 +37,21 @@ each_both P [] ys h g = g
 each_both P (x ∷ xs) ys h g = (h.0, each_both P xs ys h.1 g)
 
 each_in_folder : (P : Listing → Type 0) (m : Member) (place folder : ℕ) (above : List ℕ) (vs : Plains) (i : ℕ)
-    → ((k : ℕ) → k < count_of vs → P (member_listing m place folder (i + k) above (nth vs k))) → Each P (listings_in_folder m place folder i above (list_of vs))
+    → ((k : ℕ) → k < count_of vs → P (listing_of_file_entry m place folder (i + k) above (nth vs k))) → Each P (listings_in_folder_from_file m place folder i above (list_of vs))
 each_in_folder P m place folder above none i h = tt
 each_in_folder P m place folder above (more v vs) i h = (
-  (let n : i + 0 ≡ i = omega arith in subst (λ k. P (member_listing m place folder k above v)) n (h 0 (omega arith))),
+  (let n : i + 0 ≡ i = omega arith in subst (λ k. P (listing_of_file_entry m place folder k above v)) n (h 0 (omega arith))),
   each_in_folder P m place folder above vs (i + 1) (λ k l.
-      (let n : i + suc k ≡ i + 1 + k = omega arith in subst (λ j. P (member_listing m place folder j above (nth vs k))) n (h (suc k) (omega arith)))),
+      (let n : i + suc k ≡ i + 1 + k = omega arith in subst (λ j. P (listing_of_file_entry m place folder j above (nth vs k))) n (h (suc k) (omega arith)))),
 )
 
 each_in_folders : (P : Listing → Type 0) (m : Member) (place : ℕ) (vs : Plains) (i : ℕ)
-    → ((k : ℕ) → k < count_of vs → Each P (listings_in_folder m place (i + k) 1 (name_of (nth vs k)) (files_in (nth vs k)))) → Each P (listings_in_folders m place i (list_of vs))
+    → ((k : ℕ) → k < count_of vs → Each P (listings_in_folder_from_file m place (i + k) 1 (name_of (nth vs k)) (files_in (nth vs k)))) → Each P (listings_in_folders_from m place i (list_of vs))
 each_in_folders P m place none i h = tt
-each_in_folders P m place (more v vs) i h = each_both P (listings_in_folder m place i 1 (name_of v) (files_in v)) (listings_in_folders m place (i + 1) (list_of vs))
-    (let n : i + 0 ≡ i = omega arith in subst (λ k. Each P (listings_in_folder m place k 1 (name_of v) (files_in v))) n (h 0 (omega arith)))
+each_in_folders P m place (more v vs) i h = each_both P (listings_in_folder_from_file m place i 1 (name_of v) (files_in v)) (listings_in_folders_from m place (i + 1) (list_of vs))
+    (let n : i + 0 ≡ i = omega arith in subst (λ k. Each P (listings_in_folder_from_file m place k 1 (name_of v) (files_in v))) n (h 0 (omega arith)))
     (each_in_folders P m place vs (i + 1) (λ k l.
-    (let n : i + suc k ≡ i + 1 + k = omega arith in subst (λ j. Each P (listings_in_folder m place j 1 (name_of (nth vs k)) (files_in (nth vs k)))) n (h (suc k) (omega arith)))))
+    (let n : i + suc k ≡ i + 1 + k = omega arith in subst (λ j. Each P (listings_in_folder_from_file m place j 1 (name_of (nth vs k)) (files_in (nth vs k)))) n (h (suc k) (omega arith)))))
 
 each_from : (P : Listing → Type 0) (ms : List Member) (n : ℕ) → ((k : ℕ) (m : Member) → slice_get ms k ≡ Some m → Each P (listings_of_member (n + k) m)) → Each P (listings_of_members_from n ms)
 each_from P [] n h = tt
@@ -59,12 +59,12 @@ each_from P (m ∷ ms) n h = each_both P (listings_of_member n m) (listings_of_m
     (let e : n + 0 ≡ n = omega arith in subst (λ k. Each P (listings_of_member k m)) e (h 0 m refl))
     (each_from P ms (n + 1) (λ k x g. (let e : n + suc k ≡ n + 1 + k = omega arith in subst (λ j. Each P (listings_of_member j x)) e (h (suc k) x g))))
 
-pub each_placed : (members : List Member) → Each (IsPlaced members) (member_listings members)
-unfolding member_listings
+pub each_placed : (members : List Member) → Each (IsPlaced members) (listings_of_members members)
+unfolding listings_of_members
 each_placed members = each_from (IsPlaced members) members 0 by_member
   where
     by_file : (k : ℕ) (m : Member) → slice_get members k ≡ Some m → (j : ℕ) → j < count_of (entries_in (entry_in m.pkg 1)) → (i : ℕ) → i < count_of (entries_in (entry_in (nth (entries_in (entry_in m.pkg 1)) j) 2))
-        → IsPlaced members (member_listing m (0 + k) (1 + j) (1 + i) (name_of (nth (entries_in (entry_in m.pkg 1)) j)) (nth (entries_in (entry_in (nth (entries_in (entry_in m.pkg 1)) j) 2)) i))
+        → IsPlaced members (listing_of_file_entry m (0 + k) (1 + j) (1 + i) (name_of (nth (entries_in (entry_in m.pkg 1)) j)) (nth (entries_in (entry_in (nth (entries_in (entry_in m.pkg 1)) j) 2)) i))
     by_file k m g j lj i li =
         let zk : k ≡ 0 + k = omega arith in
         let oj : j ≡ 1 + j - 1 = omega arith in
@@ -92,7 +92,7 @@ pub record IsClaimFor (l : Listing) (c : PathClaim) : Type 0 where
   pub folder : c.folder ≡ l.folder
   pub file : c.file ≡ l.file
 
-pub claim_for : (n : ℕ) (l : Listing) → IsClaimFor l (claim_of_listing n l)
+pub claim_for : (n : ℕ) (l : Listing) → IsClaimFor l (numbered_claim_of_listing n l)
 claim_for n l = record { path = refl; member = refl; folder = refl; file = refl }
 
 pub entry_of : (members : List Member) (l : Listing) (c : PathClaim) → IsPlaced members l → IsClaimFor l c → claim_entry members c ≡ l.entry
@@ -107,11 +107,11 @@ GoTogether None (Some c) = ⊥
 GoTogether (Some l) None = ⊥
 GoTogether (Some l) (Some c) = IsClaimFor l c
 
-pub found_together : (t : PathClaim → Bool) (s : Listing → Bool) → ((n : ℕ) (l : Listing) → t (claim_of_listing n l) ≡ s l) → (n : ℕ) (ls : List Listing) → GoTogether (find s ls) (find t (claims_from n ls))
+pub found_together : (t : PathClaim → Bool) (s : Listing → Bool) → ((n : ℕ) (l : Listing) → t (numbered_claim_of_listing n l) ≡ s l) → (n : ℕ) (ls : List Listing) → GoTogether (find s ls) (find t (claims_of_listings_numbered_from n ls))
 found_together t s h n [] = tt
-found_together t s h n (l ∷ ls) = go (t (claim_of_listing n l)) (s l) (h n l) (found_together t s h (n + 1) ls)
+found_together t s h n (l ∷ ls) = go (t (numbered_claim_of_listing n l)) (s l) (h n l) (found_together t s h (n + 1) ls)
   where
-    go : (a b : Bool) → a ≡ b → GoTogether (find s ls) (find t (claims_from (n + 1) ls)) → GoTogether (cond b (Some l) (find s ls)) (cond a (Some (claim_of_listing n l)) (find t (claims_from (n + 1) ls)))
+    go : (a b : Bool) → a ≡ b → GoTogether (find s ls) (find t (claims_of_listings_numbered_from (n + 1) ls)) → GoTogether (cond b (Some l) (find s ls)) (cond a (Some (numbered_claim_of_listing n l)) (find t (claims_of_listings_numbered_from (n + 1) ls)))
     go true true e r = claim_for n l
     go true false e r = absurd (true≢false e)
     go false true e r = absurd (true≢false (sym e))
@@ -138,9 +138,9 @@ same_kept p all path =
 
 -- ---- a path is listed
 
-pub path_together : (members : List Member) (path : List ℕ) → GoTogether (find (λ l. bytes_eq l.path path) (member_listings members)) (find (is_claim_of_path path) (claims_in members))
+pub path_together : (members : List Member) (path : List ℕ) → GoTogether (find (λ l. bytes_eq l.path path) (listings_of_members members)) (find (is_claim_of_path path) (claims_in members))
 unfolding claims_in
-path_together members path = found_together (is_claim_of_path path) (λ l. bytes_eq l.path path) (λ n l. refl) 0 (member_listings members)
+path_together members path = found_together (is_claim_of_path path) (λ l. bytes_eq l.path path) (λ n l. refl) 0 (listings_of_members members)
 
 some_together : (a : Option Listing) (b : Option PathClaim) → GoTogether a b → is_some b ≡ is_some a
 some_together None None h = refl
@@ -161,21 +161,21 @@ pub claimed_is : (change : FileChange) (path : List ℕ) → is_some (find (is_c
 unfolding is_listed_after_change
 claimed_is change path =
     ap is_some (same_found (claims_in change.members) path)
-    ∙ (some_together (find (λ l. bytes_eq l.path path) (member_listings change.members)) (find (is_claim_of_path path) (claims_in change.members)) (path_together change.members path)
-    ∙ any_found (λ l. bytes_eq l.path path) (member_listings change.members))
+    ∙ (some_together (find (λ l. bytes_eq l.path path) (listings_of_members change.members)) (find (is_claim_of_path path) (claims_in change.members)) (path_together change.members path)
+    ∙ any_found (λ l. bytes_eq l.path path) (listings_of_members change.members))
 
-entry_together : (members : List Member) (s : Listing → Bool) (a : Option Listing) (b : Option PathClaim) → find s (member_listings members) ≡ a → GoTogether a b → option_map (claim_entry members) b ≡ option_map (λ l. l.entry) a
+entry_together : (members : List Member) (s : Listing → Bool) (a : Option Listing) (b : Option PathClaim) → find s (listings_of_members members) ≡ a → GoTogether a b → option_map (claim_entry members) b ≡ option_map (λ l. l.entry) a
 entry_together members s None None e h = refl
 entry_together members s None (Some c) e h = absurd h
 entry_together members s (Some l) None e h = absurd h
-entry_together members s (Some l) (Some c) e h = ap Some (entry_of members l c (found_is s (IsPlaced members) (member_listings members) l (each_placed members) e).0 h)
+entry_together members s (Some l) (Some c) e h = ap Some (entry_of members l c (found_is s (IsPlaced members) (listings_of_members members) l (each_placed members) e).0 h)
 
 -- what the packages before say of a path
-pub old_entry_is : (change : FileChange) (members : List Member) → member_listings members ≡ old_listings change → (path : List ℕ)
+pub old_entry_is : (change : FileChange) (members : List Member) → listings_of_members members ≡ old_listings change → (path : List ℕ)
     → option_map (claim_entry members) (find (is_claim_of_path path) (claims_in members)) ≡ old_entry change path
 unfolding old_entry
 old_entry_is change members is path =
-    entry_together members (λ l. bytes_eq l.path path) (find (λ l. bytes_eq l.path path) (member_listings members)) (find (is_claim_of_path path) (claims_in members)) refl (path_together members path)
+    entry_together members (λ l. bytes_eq l.path path) (find (λ l. bytes_eq l.path path) (listings_of_members members)) (find (is_claim_of_path path) (claims_in members)) refl (path_together members path)
     ∙ ap (λ ls. option_map (λ l. l.entry) (find (λ l. bytes_eq l.path path) ls)) is
 
 -- ---- owners that come
@@ -213,8 +213,8 @@ module _ (members : List Member) (path : List ℕ) where
   second false b h = absurd (true≢false (sym h))
 
   by_place : (w : ℕ) (b : Bool) → is_added_at members w ≡ b
-      → find (by_owner (Some w)) (member_listings members) ≡ if_member_added (find (λ l. bytes_eq l.path path && (l.place == w)) (member_listings members))
-  by_place w b e = go (find (λ l. bytes_eq l.path path && (l.place == w)) (member_listings members)) refl b e
+      → find (by_owner (Some w)) (listings_of_members members) ≡ if_member_added (find (λ l. bytes_eq l.path path && (l.place == w)) (listings_of_members members))
+  by_place w b e = go (find (λ l. bytes_eq l.path path && (l.place == w)) (listings_of_members members)) refl b e
     where
       same_test : is_added_at members w ≡ true → (l : Listing) → by_owner (Some w) l ≡ (bytes_eq l.path path && (l.place == w))
       same_test c l = ap (λ t. bytes_eq l.path path && t) (at_place (l.place == w) refl)
@@ -230,22 +230,22 @@ module _ (members : List Member) (path : List ℕ) where
           at_place true h = ap (is_added_at members) (eqb-true l.place w h) ∙ c
           at_place false h = refl
 
-      go : (o : Option Listing) → find (λ l. bytes_eq l.path path && (l.place == w)) (member_listings members) ≡ o → (b : Bool) → is_added_at members w ≡ b → find (by_owner (Some w)) (member_listings members) ≡ if_member_added o
-      go None f true c = found_ext (by_owner (Some w)) (λ l. bytes_eq l.path path && (l.place == w)) (same_test c) (member_listings members) ∙ f
-      go None f false c = never (by_owner (Some w)) (no_test c) (member_listings members)
+      go : (o : Option Listing) → find (λ l. bytes_eq l.path path && (l.place == w)) (listings_of_members members) ≡ o → (b : Bool) → is_added_at members w ≡ b → find (by_owner (Some w)) (listings_of_members members) ≡ if_member_added o
+      go None f true c = found_ext (by_owner (Some w)) (λ l. bytes_eq l.path path && (l.place == w)) (same_test c) (listings_of_members members) ∙ f
+      go None f false c = never (by_owner (Some w)) (no_test c) (listings_of_members members)
       go (Some l) f true c =
-          let h = found_is (λ l. bytes_eq l.path path && (l.place == w)) (IsPlaced members) (member_listings members) l (each_placed members) f in
-          found_ext (by_owner (Some w)) (λ l. bytes_eq l.path path && (l.place == w)) (same_test c) (member_listings members) ∙ (f
+          let h = found_is (λ l. bytes_eq l.path path && (l.place == w)) (IsPlaced members) (listings_of_members members) l (each_placed members) f in
+          found_ext (by_owner (Some w)) (λ l. bytes_eq l.path path && (l.place == w)) (same_test c) (listings_of_members members) ∙ (f
           ∙ sym (ap (λ t. if t then Some l else None) (place_comes w l h.0 (second (bytes_eq l.path path) (l.place == w) h.1) ∙ c)))
       go (Some l) f false c =
-          let h = found_is (λ l. bytes_eq l.path path && (l.place == w)) (IsPlaced members) (member_listings members) l (each_placed members) f in
-          never (by_owner (Some w)) (no_test c) (member_listings members)
+          let h = found_is (λ l. bytes_eq l.path path && (l.place == w)) (IsPlaced members) (listings_of_members members) l (each_placed members) f in
+          never (by_owner (Some w)) (no_test c) (listings_of_members members)
           ∙ sym (ap (λ t. if t then Some l else None) (place_comes w l h.0 (second (bytes_eq l.path path) (l.place == w) h.1) ∙ c))
 
-  owner_listed : (o : Option ℕ) → find (by_owner o) (member_listings members)
-      ≡ if_member_added (option_and_then (λ place. find (λ l. l.place == place) (filter (λ l. bytes_eq l.path path) (member_listings members))) o)
-  owner_listed None = never (by_owner None) (λ l. and-false (bytes_eq l.path path)) (member_listings members)
-  owner_listed (Some w) = by_place w (is_added_at members w) refl ∙ ap if_member_added (sym (found_and (λ l. l.place == w) (λ l. bytes_eq l.path path) (member_listings members)))
+  owner_listed : (o : Option ℕ) → find (by_owner o) (listings_of_members members)
+      ≡ if_member_added (option_and_then (λ place. find (λ l. l.place == place) (filter (λ l. bytes_eq l.path path) (listings_of_members members))) o)
+  owner_listed None = never (by_owner None) (λ l. and-false (bytes_eq l.path path)) (listings_of_members members)
+  owner_listed (Some w) = by_place w (is_added_at members w) refl ∙ ap if_member_added (sym (found_and (λ l. l.place == w) (λ l. bytes_eq l.path path) (listings_of_members members)))
 
   claim_test : (c : PathClaim) → (is_claim_of_path path c && is_of_added_owner members c) ≡ (bytes_eq c.path path && (is_owning_member c.member (owner_of_path members path) && is_added_at members c.member))
   unfolding is_of_added_owner
@@ -255,15 +255,15 @@ module _ (members : List Member) (path : List ℕ) where
       go true e = ap (λ p. is_owning_member c.member (owner_of_path members p) && is_added_at members c.member) ((bytes_decides c.path path).0 e)
       go false e = refl
 
-  pub coming_together : GoTogether (find (by_owner (owner_of_path members path)) (member_listings members)) (find (is_claim_of_path path) (filter (is_of_added_owner members) (sorted_by claim_cmp (claims_in members))))
+  pub coming_together : GoTogether (find (by_owner (owner_of_path members path)) (listings_of_members members)) (find (is_claim_of_path path) (filter (is_of_added_owner members) (sorted_by claim_cmp (claims_in members))))
   unfolding claims_in
   coming_together =
-      subst (GoTogether (find (by_owner (owner_of_path members path)) (member_listings members)))
-      (sym (same_kept (is_of_added_owner members) (claims_from 0 (member_listings members)) path
-      ∙ (found_filtered (is_claim_of_path path) (is_of_added_owner members) (claims_from 0 (member_listings members))
-      ∙ (found_and (is_of_added_owner members) (is_claim_of_path path) (claims_from 0 (member_listings members))
-      ∙ found_ext (λ c. is_claim_of_path path c && is_of_added_owner members c) (λ c. bytes_eq c.path path && (is_owning_member c.member (owner_of_path members path) && is_added_at members c.member)) claim_test (claims_from 0 (member_listings members))))))
-      (found_together (λ c. bytes_eq c.path path && (is_owning_member c.member (owner_of_path members path) && is_added_at members c.member)) (by_owner (owner_of_path members path)) (λ n l. refl) 0 (member_listings members))
+      subst (GoTogether (find (by_owner (owner_of_path members path)) (listings_of_members members)))
+      (sym (same_kept (is_of_added_owner members) (claims_of_listings_numbered_from 0 (listings_of_members members)) path
+      ∙ (found_filtered (is_claim_of_path path) (is_of_added_owner members) (claims_of_listings_numbered_from 0 (listings_of_members members))
+      ∙ (found_and (is_of_added_owner members) (is_claim_of_path path) (claims_of_listings_numbered_from 0 (listings_of_members members))
+      ∙ found_ext (λ c. is_claim_of_path path c && is_of_added_owner members c) (λ c. bytes_eq c.path path && (is_owning_member c.member (owner_of_path members path) && is_added_at members c.member)) claim_test (claims_of_listings_numbered_from 0 (listings_of_members members))))))
+      (found_together (λ c. bytes_eq c.path path && (is_owning_member c.member (owner_of_path members path) && is_added_at members c.member)) (by_owner (owner_of_path members path)) (λ n l. refl) 0 (listings_of_members members))
 
 -- the claim of a path's owner that comes, and its listing
 pub coming_is : (change : FileChange) (path : List ℕ) → GoTogether (added_owner_listing change path) (find (is_claim_of_path path) (filter (is_of_added_owner change.members) (sorted_by claim_cmp (claims_in change.members))))
@@ -274,19 +274,19 @@ coming_is change path =
 
 -- such a listing is one of all, and its member comes
 pub coming_placed : (change : FileChange) (path : List ℕ) (l : Listing) → added_owner_listing change path ≡ Some l
-    → (find (by_owner change.members path (owner_of_path change.members path)) (member_listings change.members) ≡ Some l) × IsPlaced change.members l
+    → (find (by_owner change.members path (owner_of_path change.members path)) (listings_of_members change.members) ≡ Some l) × IsPlaced change.members l
 unfolding owner_listing listings_of_path
 coming_placed change path l e =
     let f = owner_listed change.members path (owner_of_path change.members path) ∙ e in
-    (f, (found_is (by_owner change.members path (owner_of_path change.members path)) (IsPlaced change.members) (member_listings change.members) l (each_placed change.members) f).0)
+    (f, (found_is (by_owner change.members path (owner_of_path change.members path)) (IsPlaced change.members) (listings_of_members change.members) l (each_placed change.members) f).0)
 
 -- ---- claims of members
 
-pub claim_listed : (members : List Member) → All (λ l. IsName l.path) (member_listings members) → (c : PathClaim) (n i : ℕ) (ls : List Listing) → Each (IsPlaced members) ls → Each (λ l. IsName l.path) ls
-    → slice_get (claims_from n ls) i ≡ Some c → IsClaimOf members c
+pub claim_listed : (members : List Member) → All (λ l. IsName l.path) (listings_of_members members) → (c : PathClaim) (n i : ℕ) (ls : List Listing) → Each (IsPlaced members) ls → Each (λ l. IsName l.path) ls
+    → slice_get (claims_of_listings_numbered_from n ls) i ≡ Some c → IsClaimOf members c
 claim_listed members named c n i [] p q g = absurd (no_some c g)
 claim_listed members named c n zero (l ∷ ls) p q g =
-    let is : claim_of_listing n l ≡ c = ap (value_or c) g in
+    let is : numbered_claim_of_listing n l ≡ c = ap (value_or c) g in
     subst (IsClaimOf members) is (record { member = l.member; at = p.0.at; place = p.0.place; name = q.0 })
 claim_listed members named c n (suc i) (l ∷ ls) p q g = claim_listed members named c (n + 1) i ls p.1 q.1 g
 
@@ -294,8 +294,8 @@ pub each_all : {X : Type 0} (P : X → Type 0) (xs : List X) → All P xs → Ea
 each_all P [] h = tt
 each_all P (x ∷ xs) h = (h 0 x (omega arith), each_all P xs (λ k d l. h (suc k) d (omega arith)))
 
-pub are_claims : (members : List Member) (cs : List PathClaim) → All (λ l. IsName l.path) (member_listings members) → cs ≡ sorted_by claim_cmp (claims_in members) → AreClaimsOf members cs
+pub are_claims : (members : List Member) (cs : List PathClaim) → All (λ l. IsName l.path) (listings_of_members members) → cs ≡ sorted_by claim_cmp (claims_in members) → AreClaimsOf members cs
 unfolding claims_in
 are_claims members cs named s i c g =
     let f = from_sorted claim_cmp (claims_in members) c i (ap (λ xs. slice_get xs i) (sym s) ∙ g) in
-    claim_listed members named c 0 f.0 (member_listings members) (each_placed members) (each_all (λ l. IsName l.path) (member_listings members) named) f.1
+    claim_listed members named c 0 f.0 (listings_of_members members) (each_placed members) (each_all (λ l. IsName l.path) (listings_of_members members) named) f.1

@@ -6,7 +6,7 @@ use Rattle.std.specs.List.{filter, find, list_any}
 use Rattle.base_core.specs.Files.{Files}
 use Rattle.base_core.proofs.Rising as Names
 use Rattle.base_core.specs.Sorted.{sorted_by}
-use Rattle.change_files.specs.db_core.Members.{Listing, is_added, member_listings, members_of_kept}
+use Rattle.change_files.specs.db_core.Members.{Listing, is_added, listings_of_members, members_of_kept}
 use Rattle.path_claim_lists.specs.path_claims.Claims.{PathClaim, claim_cmp, is_claim_of_path}
 use Rattle.path_claim_lists.proofs.path_claims.Places.{no_some, value_or}
 use Rattle.path_claim_lists.proofs.Firsts.{found_in, in_found, paths}
@@ -15,10 +15,10 @@ use Rattle.change_files.specs.file_owners.Owners.{claims_in}
 use Rattle.change_files.specs.Fate as Fates
 use Rattle.change_files.specs.Fate.{fate_with_file_found, fate_of, goes_aside, goes_in, gives_way, is_protected_path}
 use Rattle.change_files.specs.FileChange.{FileChange, added_owner_listing, if_member_added, is_listed_after_change, old_entry, old_listings, owner_listing, was_listed}
-use Rattle.change_files.specs.FilesAfter.{if_written_as_apk_new, if_written_in_place, is_modified_from_entry, is_modified_file_kept, is_no_longer_listed, is_removed, is_written, apk_new_listing_at, is_modified_config_to_keep, path_of_apk_new_name, listing_written_under_name, listing_written_in_place}
+use Rattle.change_files.specs.FilesAfter.{if_written_as_apk_new, if_written_in_place, is_present_and_modified_from_entry, is_left_over_modified_file_kept, is_left_over_and_not_written, is_removed, is_listing_written_under_name, listing_written_as_apk_new_beside, is_modified_config_to_keep, path_of_apk_new_name, listing_written_under_name, listing_written_in_place}
 use Rattle.std.specs.Option.{option_or}
 use Rattle.change_files.specs.NamesAfter.{added_paths}
-use Rattle.change_files.specs.PlanLists.{paths_with_apk_new_file, kept_paths_of, old_paths, removals_of}
+use Rattle.change_files.specs.PlanLists.{paths_with_apk_new_file, kept_left_over_paths_of, old_paths, removals_of}
 use Rattle.change_files.proofs.Coming.{no_owner}
 use Rattle.own_core.specs.ClaimEntries.{claim_entry, is_of_added_owner}
 use Rattle.own_core.specs.Fates.{claim_fate, are_equal_fates, are_equal_flags}
@@ -72,7 +72,7 @@ in_listed (l ∷ ls) q here = go (bytes_eq l.path q) refl (in_listed ls q) here
 pub coming_path : (change : FileChange) (q : List ℕ) (l : Listing) → added_owner_listing change q ≡ Some l → (l.path ≡ q) × (is_added l.member ≡ true)
 coming_path change q l e =
     let f = coming_placed change q l e in
-    let t = found_passes _ (member_listings change.members) l f.0 in
+    let t = found_passes _ (listings_of_members change.members) l f.0 in
     ((bytes_decides l.path q).0 (first (bytes_eq l.path q) _ t), came (owner_listing change q) l e)
   where
     first : (a b : Bool) → (a && b) ≡ true → a ≡ true
@@ -94,7 +94,7 @@ in_coming_paths change q h = go (added_owner_listing change q) refl h
     go None e h = absurd (true≢false (sym h))
     go (Some l) e h =
         let p = coming_path change q l e in
-        subst (λ x. Names.IsIn x (added_paths change.members)) p.0 (listing_in _ (member_listings change.members) l (coming_placed change q l e).0 p.1)
+        subst (λ x. Names.IsIn x (added_paths change.members)) p.0 (listing_in _ (listings_of_members change.members) l (coming_placed change q l e).0 p.1)
 
 -- ---- fates
 
@@ -126,7 +126,7 @@ module _ (change : FileChange) (files : Files) (coming : List PathClaim) (up : N
   some_if true c = refl
   some_if false c = refl
 
-  pub laid_is : (q : List ℕ) → is_some (apk_new_listing_at change files q) ≡ is_some (find (is_claim_of_path q) (with_fate goes_aside))
+  pub laid_is : (q : List ℕ) → is_some (listing_written_as_apk_new_beside change files q) ≡ is_some (find (is_claim_of_path q) (with_fate goes_aside))
   laid_is q = go (added_owner_listing change q) (find (is_claim_of_path q) coming) refl refl (together q) ∙ sym (ap is_some (found_kept (λ c. are_equal_fates goes_aside (claim_fate change c (files c.path))) coming up q))
     where
       go : (a : Option Listing) (b : Option PathClaim) → added_owner_listing change q ≡ a → find (is_claim_of_path q) coming ≡ b → GoTogether a b
@@ -148,7 +148,7 @@ module _ (change : FileChange) (files : Files) (coming : List PathClaim) (up : N
       go (Some l) (Some c) e f h =
           in_test l (fate_of change files l) ∙ (ap (are_equal_fates goes_in) (sym (same_fate change files q l c e h)) ∙ sym (some_if (are_equal_fates goes_in (claim_fate change c (files c.path))) c))
 
-  laid_comes : (q : List ℕ) → is_some (apk_new_listing_at change files q) ≡ true → is_some (added_owner_listing change q) ≡ true
+  laid_comes : (q : List ℕ) → is_some (listing_written_as_apk_new_beside change files q) ≡ true → is_some (added_owner_listing change q) ≡ true
   laid_comes q h = go (added_owner_listing change q) h
     where
       go : (a : Option Listing) → is_some (option_and_then (λ l. if_written_as_apk_new l (fate_of change files l)) a) ≡ true → is_some a ≡ true
@@ -158,15 +158,15 @@ module _ (change : FileChange) (files : Files) (coming : List PathClaim) (up : N
   -- the paths beside which a file is laid
   pub aside_are : paths (with_fate goes_aside) ≡ paths_with_apk_new_file change files
   unfolding paths_with_apk_new_file
-  aside_are = same_names (λ path. is_some (apk_new_listing_at change files path)) (paths (with_fate goes_aside)) (added_paths change.members)
+  aside_are = same_names (λ path. is_some (listing_written_as_apk_new_beside change files path)) (paths (with_fate goes_aside)) (added_paths change.members)
       (kept_rises (λ c. are_equal_fates goes_aside (claim_fate change c (files c.path))) coming up)
       (λ q here. (let t = laid_is q ∙ is_there (with_fate goes_aside) q here in (in_coming_paths change q (laid_comes q t), t)))
       (λ q here t. there_is (with_fate goes_aside) q (sym (laid_is q) ∙ t))
 
-  pub beside_is : (name : List ℕ) → is_apk_new_name_of (with_fate goes_aside) name ≡ is_some (option_and_then (apk_new_listing_at change files) (path_of_apk_new_name name))
+  pub beside_is : (name : List ℕ) → is_apk_new_name_of (with_fate goes_aside) name ≡ is_some (option_and_then (listing_written_as_apk_new_beside change files) (path_of_apk_new_name name))
   beside_is name = go (path_of_apk_new_name name)
     where
-      go : (p : Option (List ℕ)) → is_some (option_and_then (λ path. find (is_claim_of_path path) (with_fate goes_aside)) p) ≡ is_some (option_and_then (apk_new_listing_at change files) p)
+      go : (p : Option (List ℕ)) → is_some (option_and_then (λ path. find (is_claim_of_path path) (with_fate goes_aside)) p) ≡ is_some (option_and_then (listing_written_as_apk_new_beside change files) p)
       go None = refl
       go (Some q) = sym (laid_is q)
 
@@ -180,20 +180,20 @@ no_claims (l ∷ ls) q h = go (bytes_eq l.path q) (no_claims ls q) h
     go true rest h = absurd (true≢false h)
     go false rest h = rest h
 
-pub left_is : (change : FileChange) (files : Files) (q : List ℕ) (b : Bool) → b ≡ is_some (option_and_then (apk_new_listing_at change files) (path_of_apk_new_name q))
-    → (not (is_listed_after_change change q) && not (is_written change files q)) ≡ (not (is_listed_after_change change q) && not b)
+pub left_is : (change : FileChange) (files : Files) (q : List ℕ) (b : Bool) → b ≡ is_some (option_and_then (listing_written_as_apk_new_beside change files) (path_of_apk_new_name q))
+    → (not (is_listed_after_change change q) && not (is_listing_written_under_name change files q)) ≡ (not (is_listed_after_change change q) && not b)
 unfolding listing_written_under_name
 left_is change files q b e = go (is_listed_after_change change q) refl
   where
-    go : (c : Bool) → is_listed_after_change change q ≡ c → (not c && not (is_some (option_or (listing_written_in_place change files q) (option_and_then (apk_new_listing_at change files) (path_of_apk_new_name q))))) ≡ (not c && not b)
+    go : (c : Bool) → is_listed_after_change change q ≡ c → (not c && not (is_some (option_or (listing_written_in_place change files q) (option_and_then (listing_written_as_apk_new_beside change files) (path_of_apk_new_name q))))) ≡ (not c && not b)
     go true h = refl
     go false h =
-        ap (λ o. not (is_some (option_or (option_and_then (λ l. if_written_in_place l (fate_of change files l)) o) (option_and_then (apk_new_listing_at change files) (path_of_apk_new_name q))))) (no_owner change q h)
+        ap (λ o. not (is_some (option_or (option_and_then (λ l. if_written_in_place l (fate_of change files l)) o) (option_and_then (listing_written_as_apk_new_beside change files) (path_of_apk_new_name q))))) (no_owner change q h)
         ∙ ap not (sym e)
 
 module _ (change : FileChange) (files : Files) (before : List PathClaim) (up : Names.Rises (paths before))
     (each : (q : List ℕ) → find (is_claim_of_path q) before ≡ find (is_claim_of_path q) (sorted_by claim_cmp (claims_in (members_of_kept change.old))))
-    (asides : List PathClaim) (beside : (q : List ℕ) → is_apk_new_name_of asides q ≡ is_some (option_and_then (apk_new_listing_at change files) (path_of_apk_new_name q))) where
+    (asides : List PathClaim) (beside : (q : List ℕ) → is_apk_new_name_of asides q ≡ is_some (option_and_then (listing_written_as_apk_new_beside change files) (path_of_apk_new_name q))) where
   pub entries_are : (q : List ℕ) → option_map (claim_entry (members_of_kept change.old)) (find (is_claim_of_path q) before) ≡ old_entry change q
   unfolding old_listings
   entries_are q = ap (option_map (claim_entry (members_of_kept change.old))) (each q ∙ same_found (claims_in (members_of_kept change.old)) q) ∙ old_entry_is change (members_of_kept change.old) refl q
@@ -206,12 +206,12 @@ module _ (change : FileChange) (files : Files) (before : List PathClaim) (up : N
 
   -- by the test of a path that is listed
   pub going_is : (stays : Bool) (q : List ℕ) → is_some (find (is_claim_of_path q) (going stays))
-      ≡ (is_no_longer_listed change files q && are_equal_flags stays (is_modified_config_to_keep change q (files q) (old_entry change q)))
+      ≡ (is_left_over_and_not_written change files q && are_equal_flags stays (is_modified_config_to_keep change q (files q) (old_entry change q)))
   going_is stays q =
       ap is_some (found_kept (λ c. are_equal_flags stays (is_file_kept change c (files c.path))) left_over (kept_rises (λ c. is_path_left_over change asides c.path) before up) q)
       ∙ (ap (λ o. is_some (keep_if (λ c. are_equal_flags stays (is_file_kept change c (files c.path))) o)) (found_kept (λ c. is_path_left_over change asides c.path) before up q)
       ∙ (go (find (is_claim_of_path q) before) refl
-      ∙ (λ j. (is_some (entries_are q j) && (not (is_listed_after_change change q) && not (is_written change files q))) && are_equal_flags stays (is_modified_config_to_keep change q (files q) (entries_are q j)))))
+      ∙ (λ j. (is_some (entries_are q j) && (not (is_listed_after_change change q) && not (is_listing_written_under_name change files q))) && are_equal_flags stays (is_modified_config_to_keep change q (files q) (entries_are q j)))))
     where
       by_tests : (a s : Bool) (c : PathClaim) → is_some (keep_if (λ c. are_equal_flags stays (is_file_kept change c (files c.path))) (cond a (Some c) None)) ≡ (a && are_equal_flags stays (is_file_kept change c (files c.path)))
       by_tests true s c = some_cond (are_equal_flags stays (is_file_kept change c (files c.path))) c
@@ -222,17 +222,17 @@ module _ (change : FileChange) (files : Files) (before : List PathClaim) (up : N
       by_tests false s c = refl
 
       go : (o : Option PathClaim) → find (is_claim_of_path q) before ≡ o → is_some (keep_if (λ c. are_equal_flags stays (is_file_kept change c (files c.path))) (keep_if (λ c. is_path_left_over change asides c.path) o))
-          ≡ ((is_some (option_map (claim_entry (members_of_kept change.old)) o) && (not (is_listed_after_change change q) && not (is_written change files q))) && are_equal_flags stays (is_modified_config_to_keep change q (files q) (option_map (claim_entry (members_of_kept change.old)) o)))
+          ≡ ((is_some (option_map (claim_entry (members_of_kept change.old)) o) && (not (is_listed_after_change change q) && not (is_listing_written_under_name change files q))) && are_equal_flags stays (is_modified_config_to_keep change q (files q) (option_map (claim_entry (members_of_kept change.old)) o)))
       go None e = refl
       go (Some c) e =
           let is : c.path ≡ q = (bytes_decides c.path q).0 (found_passes (is_claim_of_path q) before c e) in
           by_tests (is_path_left_over change asides c.path) true c
-          ∙ (λ j. left c is j && are_equal_flags stays (is_protected_path (is j) && (not change.purge && is_modified_from_entry (claim_entry (members_of_kept change.old) c) (files (is j)))))
+          ∙ (λ j. left c is j && are_equal_flags stays (is_protected_path (is j) && (not change.purge && is_present_and_modified_from_entry (claim_entry (members_of_kept change.old) c) (files (is j)))))
         where
-          left : (c : PathClaim) (is : c.path ≡ q) → is_path_left_over change asides c.path ≡ (not (is_listed_after_change change q) && not (is_written change files q))
+          left : (c : PathClaim) (is : c.path ≡ q) → is_path_left_over change asides c.path ≡ (not (is_listed_after_change change q) && not (is_listing_written_under_name change files q))
           left c is = ap (is_path_left_over change asides) is ∙ sym (left_is change files q (is_apk_new_name_of asides q) (beside q))
 
-  old_path : (q : List ℕ) → is_no_longer_listed change files q ≡ true → Names.IsIn q (old_paths change)
+  old_path : (q : List ℕ) → is_left_over_and_not_written change files q ≡ true → Names.IsIn q (old_paths change)
   unfolding old_entry
   old_path q h = listed_in (old_listings change) q (mapped (find (λ l. bytes_eq l.path q) (old_listings change)) (first (was_listed change q) _ h))
     where
@@ -248,16 +248,16 @@ module _ (change : FileChange) (files : Files) (before : List PathClaim) (up : N
   front true b h = refl
   front false b h = absurd (true≢false (sym h))
 
-  pub kept_are : paths (going true) ≡ kept_paths_of change files
-  unfolding kept_paths_of is_modified_file_kept
-  kept_are = same_names (is_modified_file_kept change files) (paths (going true)) (old_paths change)
+  pub kept_are : paths (going true) ≡ kept_left_over_paths_of change files
+  unfolding kept_left_over_paths_of is_left_over_modified_file_kept
+  kept_are = same_names (is_left_over_modified_file_kept change files) (paths (going true)) (old_paths change)
       (kept_rises (λ c. are_equal_flags true (is_file_kept change c (files c.path))) left_over (kept_rises (λ c. is_path_left_over change asides c.path) before up))
-      (λ q here. (let t = sym (going_is true q) ∙ is_there (going true) q here in (old_path q (front (is_no_longer_listed change files q) _ t), t)))
+      (λ q here. (let t = sym (going_is true q) ∙ is_there (going true) q here in (old_path q (front (is_left_over_and_not_written change files q) _ t), t)))
       (λ q here t. there_is (going true) q (going_is true q ∙ t))
 
   pub removals_are : paths (going false) ≡ removals_of change files
   unfolding removals_of is_removed
   removals_are = same_names (is_removed change files) (paths (going false)) (old_paths change)
       (kept_rises (λ c. are_equal_flags false (is_file_kept change c (files c.path))) left_over (kept_rises (λ c. is_path_left_over change asides c.path) before up))
-      (λ q here. (let t = sym (going_is false q) ∙ is_there (going false) q here in (old_path q (front (is_no_longer_listed change files q) _ t), t)))
+      (λ q here. (let t = sym (going_is false q) ∙ is_there (going false) q here in (old_path q (front (is_left_over_and_not_written change files q) _ t), t)))
       (λ q here t. there_is (going false) q (going_is false q ∙ t))

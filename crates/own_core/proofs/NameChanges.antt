@@ -13,14 +13,14 @@ use Rattle.base_core.specs.Sorted.{sorted_by, with_element_inserted}
 use Rattle.base_core.proofs.Sorting.{Each}
 use Rattle.base_core.proofs.Booleans.{or_swap}
 use Rattle.base_core.proofs.AtName.{either_way}
-use Rattle.change_files.specs.db_core.Members.{Listing, Member, is_added, member_listings, members_of_kept}
+use Rattle.change_files.specs.db_core.Members.{Listing, Member, is_added, listings_of_members, members_of_kept}
 use Rattle.change_files.specs.db_core.Seen.{members_of}
 use Rattle.path_claim_lists.specs.path_claims.Claims.{PathClaim, claim_cmp, is_claim_of_path}
 use Rattle.path_claim_lists.specs.Once.{HasFirstClaimOfEachPath}
-use Rattle.change_files.specs.file_owners.Owners.{claims_from, claims_in}
+use Rattle.change_files.specs.file_owners.Owners.{claims_of_listings_numbered_from, claims_in}
 use Rattle.change_files.specs.Fate.{apk_new_name}
 use Rattle.change_files.specs.FileChange.{old_entry, was_listed}
-use Rattle.change_files.specs.FilesAfter.{database_name, is_modified_file_kept, is_no_longer_listed, apk_new_listing_at, is_modified_config_to_keep, path_of_apk_new_name, world_name}
+use Rattle.change_files.specs.FilesAfter.{database_name, is_left_over_modified_file_kept, is_left_over_and_not_written, listing_written_as_apk_new_beside, is_modified_config_to_keep, path_of_apk_new_name, world_name}
 use Rattle.change_files.specs.NamesAfter.{added_paths, is_released, counts_as_written, name_change}
 use Rattle.own_core.specs.ClaimEntries.{claim_entry, is_added_at, is_added_if_any, is_of_added_owner}
 use Rattle.own_core.specs.Fates.{claim_fate}
@@ -67,7 +67,7 @@ any_of_kept g t p (x ∷ xs) = go (p x) (any_of_kept g t p xs)
     go false h = h
 
 any_listing : (members : List Member) (t : List ℕ → Bool) (n : ℕ) (ls : List Listing) → Each (IsPlaced members) ls
-    → list_any (λ c. is_added_at members c.member && t c.path) (claims_from n ls) ≡ list_any (λ l. is_added l.member && t l.path) ls
+    → list_any (λ c. is_added_at members c.member && t c.path) (claims_of_listings_numbered_from n ls) ≡ list_any (λ l. is_added l.member && t l.path) ls
 any_listing members t n [] h = refl
 any_listing members t n (l ∷ ls) h = (λ j. (ap is_added_if_any h.0.at j && t l.path) || any_listing members t (n + 1) ls h.1 j)
 
@@ -78,9 +78,9 @@ unfolding claims_in
 any_coming members t cs e =
     any_of_kept (λ c. c.path) t (λ c. is_added_at members c.member) cs
     ∙ (ap (list_any (λ c. is_added_at members c.member && t c.path)) e
-    ∙ (any_sorted claim_cmp (λ c. is_added_at members c.member && t c.path) (claims_from 0 (member_listings members))
-    ∙ (any_listing members t 0 (member_listings members) (each_placed members)
-    ∙ sym (any_of_kept (λ l. l.path) t (λ l. is_added l.member) (member_listings members)))))
+    ∙ (any_sorted claim_cmp (λ c. is_added_at members c.member && t c.path) (claims_of_listings_numbered_from 0 (listings_of_members members))
+    ∙ (any_listing members t 0 (listings_of_members members) (each_placed members)
+    ∙ sym (any_of_kept (λ l. l.path) t (λ l. is_added l.member) (listings_of_members members)))))
 
 -- ---- names beside
 
@@ -144,12 +144,12 @@ module _ (change : ClaimChange) (claims : HasClaimsOfPackages change) (coming : 
           ≡ list_any (bytes_eq name) (database_name ∷ world_name ∷ added_paths (members_of change.members.now))
       front = ap (λ r. bytes_eq name database_name || (bytes_eq name world_name || r)) (any_coming (members_of change.members.now) (bytes_eq name) (claims_after change) claims.after)
 
-      back : list_any (bytes_eq name) (map (λ c. apk_new_name c.path) (apk_new_claims_of parts)) ≡ is_some (option_and_then (apk_new_listing_at (file_change_of change) files) (path_of_apk_new_name name))
+      back : list_any (bytes_eq name) (map (λ c. apk_new_name c.path) (apk_new_claims_of parts)) ≡ is_some (option_and_then (listing_written_as_apk_new_beside (file_change_of change) files) (path_of_apk_new_name name))
       back = any_beside name (apk_new_claims_of parts) ∙ beside_parts change claims coming firsts parts history are files fates_are stays_are name
 
   goes_is : (name : List ℕ) → (is_some (find (is_claim_of_path name) (claims_before change))
       && not (is_some (find (is_claim_of_path name) (claims_after change)) || is_some (find (is_claim_of_path name) (kept_claims_of parts)))) ≡ is_released (file_change_of change) files name
-  unfolding is_released is_modified_file_kept
+  unfolding is_released is_left_over_modified_file_kept
   goes_is name =
       (λ j. listed j && not (claimed_after change claims name j || kept j))
     where
@@ -157,7 +157,7 @@ module _ (change : ClaimChange) (claims : HasClaimsOfPackages change) (coming : 
       listed = sym (mapped_some (claim_entry (members_of_kept (file_change_of change).old)) (find (is_claim_of_path name) (claims_before change)))
           ∙ ap is_some (entries_are (file_change_of change) files (claims_before change) (before_up change claims coming firsts parts history are files fates_are stays_are) (before_each change claims coming firsts parts history are files fates_are stays_are) (apk_new_claims_of parts) (beside_parts change claims coming firsts parts history are files fates_are stays_are) name)
 
-      kept : is_some (find (is_claim_of_path name) (kept_claims_of parts)) ≡ (is_no_longer_listed (file_change_of change) files name && is_modified_config_to_keep (file_change_of change) name (files name) (old_entry (file_change_of change) name))
+      kept : is_some (find (is_claim_of_path name) (kept_claims_of parts)) ≡ (is_left_over_and_not_written (file_change_of change) files name && is_modified_config_to_keep (file_change_of change) name (files name) (old_entry (file_change_of change) name))
       kept = ap (λ cs. is_some (find (is_claim_of_path name) cs)) (kept_parts change claims coming firsts parts history are files fates_are stays_are)
           ∙ going_is (file_change_of change) files (claims_before change) (before_up change claims coming firsts parts history are files fates_are stays_are) (before_each change claims coming firsts parts history are files fates_are stays_are) (apk_new_claims_of parts) (beside_parts change claims coming firsts parts history are files fates_are stays_are) true name
 

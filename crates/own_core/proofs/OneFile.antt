@@ -15,7 +15,7 @@ use Rattle.change_files.proofs.file_guard.Told.{told_as_listed}
 use Rattle.change_files.specs.Fate as Fates
 use Rattle.change_files.specs.Fate.{fate_if_user_modified_file, fate_with_file_found, goes_in, is_as_old_entry_lists, is_protected_path}
 use Rattle.change_files.specs.FileChange.{FileChange, old_entry}
-use Rattle.change_files.specs.FilesAfter.{is_modified_from_entry}
+use Rattle.change_files.specs.FilesAfter.{is_present_and_modified_from_entry}
 use Rattle.own_core.specs.ClaimEntries.{claim_entry}
 use Rattle.own_core.specs.Fates.{DescribesEntryIfAny, claim_fate}
 use Rattle.own_core.specs.Found.{IsByFile}
@@ -64,7 +64,7 @@ unguarded_fate change h c unguarded =
 pub no_stay : (change : FileChange) (h : List TreeState) (c : PathClaim) → (change.purge ≡ true) ⊎ (is_protected_path c.path ≡ false) → IsByFile (is_file_kept change) h c false
 no_stay change h c goes =
     let (found, told) = found_there h c.path in
-    record { found = found; told = told; is = sym (by_case (is_modified_from_entry (claim_entry (members_of_kept change.old) c) found) goes) }
+    record { found = found; told = told; is = sym (by_case (is_present_and_modified_from_entry (claim_entry (members_of_kept change.old) c) found) goes) }
   where
     off : (b : Bool) → (b && false) ≡ false
     off true = refl

@@ -9,12 +9,12 @@ use Rattle.base_core.specs.Listed.{AreSortedDistinctNames}
 use Rattle.base_core.specs.Name.{IsName}
 use Rattle.base_core.specs.Tree.{TreeState}
 use Rattle.base_core.proofs.Rising as Names
-use Rattle.change_files.specs.db_core.Members.{Listing, member_listings, member_of_kept}
+use Rattle.change_files.specs.db_core.Members.{Listing, listings_of_members, member_of_kept}
 use Rattle.change_files.specs.file_guard.AsListed.{is_as_listed}
 use Rattle.change_files.specs.Fate.{agrees_with_old_entry, apk_new_name, fate_if_user_modified_file, fate_with_file_found, fate_of, gives_way, goes_aside, goes_in, is_as_old_entry_lists, is_protected_path}
 use Rattle.change_files.specs.FileChange.{FileChange, is_listed_after_change, old_entry, old_listings}
-use Rattle.change_files.specs.FilesAfter.{is_removed, is_written, apk_new_listing_at, listing_written_under_name}
-use Rattle.change_files.specs.PlanLists.{FileWrite, file_writes_of, first_reserved_path, removals_of}
+use Rattle.change_files.specs.FilesAfter.{is_removed, is_listing_written_under_name, listing_written_as_apk_new_beside, listing_written_under_name}
+use Rattle.change_files.specs.PlanLists.{FileWrite, file_writes_of, first_reserved_added_path, removals_of}
 use Rattle.change_files.specs.Touched.{IsPlannedWrite}
 use Rattle.change_files.proofs.LeftOver.{removed_unreserved}
 use Rattle.change_files.proofs.Lists.{IsOneOf, contains_from_one}
@@ -67,7 +67,7 @@ aside_free change path entry (Some bytes) e = by_tests (not (is_protected_path p
 pub is_short : (change : FileChange) (path : List ℕ) → is_apk_new_name_free change path ≡ true → length (apk_new_name path) ≤ 1024
 is_short change path room = leb-true (length (apk_new_name path)) 1024 (and_parts (nat_le (length (apk_new_name path)) 1024) (not (is_listed_after_change change (apk_new_name path))) room).0
 
-named_beside : (change : FileChange) (files : Files) (l : Listing) → IsName l.path → apk_new_listing_at change files l.path ≡ Some l → IsName (apk_new_name l.path)
+named_beside : (change : FileChange) (files : Files) (l : Listing) → IsName l.path → listing_written_as_apk_new_beside change files l.path ≡ Some l → IsName (apk_new_name l.path)
 unfolding fate_of
 named_beside change files l named laid =
     let (comes, aside) = aside_found change files l.path l laid in
@@ -75,9 +75,9 @@ named_beside change files l named laid =
 
 -- ---- the names of a plan
 
-module _ (change : FileChange) (files : Files) (old_named : All (λ l. IsName l.path) (member_listings (map member_of_kept change.old)))
-    (old_free : All (λ l. is_reserved l.path ≡ false) (member_listings (map member_of_kept change.old))) (named : All (λ l. IsName l.path) (member_listings change.members))
-    (none : first_reserved_path change.members ≡ None) where
+module _ (change : FileChange) (files : Files) (old_named : All (λ l. IsName l.path) (listings_of_members (map member_of_kept change.old)))
+    (old_free : All (λ l. is_reserved l.path ≡ false) (listings_of_members (map member_of_kept change.old))) (named : All (λ l. IsName l.path) (listings_of_members change.members))
+    (none : first_reserved_added_path change.members ≡ None) where
   removed_open : (path : List ℕ) → is_removed change files path ≡ true → IsUnreservedName path
   unfolding old_listings
   removed_open path removed =
@@ -90,7 +90,7 @@ module _ (change : FileChange) (files : Files) (old_named : All (λ l. IsName l.
   listing_named : (name : List ℕ) (l : Listing) → listing_written_under_name change files name ≡ Some l → IsName l.path
   listing_named name l e =
       let (path, comes, listed, owner) = coming_listed change l.path l (written_is change files name l e).comes in
-      one_holds (λ l. IsName l.path) (member_listings change.members) named l listed
+      one_holds (λ l. IsName l.path) (listings_of_members change.members) named l listed
 
   written_open : (name : List ℕ) (l : Listing) → listing_written_under_name change files name ≡ Some l → IsUnreservedName name
   written_open name l e = record {
@@ -101,7 +101,7 @@ module _ (change : FileChange) (files : Files) (old_named : All (λ l. IsName l.
     unreserved = written_unreserved change files name l none e;
   }
 
-  some_written : (name : List ℕ) → is_written change files name ≡ true → IsUnreservedName name
+  some_written : (name : List ℕ) → is_listing_written_under_name change files name ≡ true → IsUnreservedName name
   some_written name h = go (listing_written_under_name change files name) refl h
     where
       go : (o : Option Listing) → listing_written_under_name change files name ≡ o → is_some o ≡ true → IsUnreservedName name
@@ -133,14 +133,14 @@ module _ (change : FileChange) (files : Files) (old_named : All (λ l. IsName l.
       subst (All (IsOfAddedFile change.members)) (sym lists.writes)
       (all_writes (IsOfAddedFile change.members) (file_writes_of change files) (λ w here. write_source w ((writes_are change files w).0 (contains_from_one _ w here))))
 
-pub names_if_planned : (change : FileChange) (h : List TreeState) (r : Result FilePlan PlanFault) → All (λ l. IsName l.path) (member_listings (map member_of_kept change.old))
-    → All (λ l. is_reserved l.path ≡ false) (member_listings (map member_of_kept change.old)) → All (λ l. IsName l.path) (member_listings change.members)
+pub names_if_planned : (change : FileChange) (h : List TreeState) (r : Result FilePlan PlanFault) → All (λ l. IsName l.path) (listings_of_members (map member_of_kept change.old))
+    → All (λ l. is_reserved l.path ≡ false) (listings_of_members (map member_of_kept change.old)) → All (λ l. IsName l.path) (listings_of_members change.members)
     → IfOk r (IsPlanOverSomeFiles change h) → IfOk r (IsPlanForMembersAlone change.members) → IfOk r HasDisjointUnreservedNames
 names_if_planned change h (Ok plan) old_named old_free named is for = own_names change is.files old_named old_free named for.allowed plan is.lists
 names_if_planned change h (Err fault) old_named old_free named is for = tt
 
-pub sources_if_planned : (change : FileChange) (h : List TreeState) (r : Result FilePlan PlanFault) → All (λ l. IsName l.path) (member_listings (map member_of_kept change.old))
-    → All (λ l. is_reserved l.path ≡ false) (member_listings (map member_of_kept change.old)) → All (λ l. IsName l.path) (member_listings change.members)
+pub sources_if_planned : (change : FileChange) (h : List TreeState) (r : Result FilePlan PlanFault) → All (λ l. IsName l.path) (listings_of_members (map member_of_kept change.old))
+    → All (λ l. is_reserved l.path ≡ false) (listings_of_members (map member_of_kept change.old)) → All (λ l. IsName l.path) (listings_of_members change.members)
     → IfOk r (IsPlanOverSomeFiles change h) → IfOk r (IsPlanForMembersAlone change.members) → IfOk r (HasSources change.members)
 sources_if_planned change h (Ok plan) old_named old_free named is for = own_sources change is.files old_named old_free named for.allowed plan is.lists
 sources_if_planned change h (Err fault) old_named old_free named is for = tt

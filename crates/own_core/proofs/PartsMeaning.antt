@@ -19,7 +19,7 @@ use Rattle.change_files.specs.file_owners.Owners.{claims_in}
 use Rattle.change_files.specs.Fate as Fates
 use Rattle.change_files.specs.Fate.{gives_way, goes_aside, goes_in}
 use Rattle.change_files.specs.FileChange.{FileChange}
-use Rattle.change_files.specs.FilesAfter.{apk_new_listing_at, path_of_apk_new_name}
+use Rattle.change_files.specs.FilesAfter.{listing_written_as_apk_new_beside, path_of_apk_new_name}
 use Rattle.own_core.specs.ClaimEntries.{AreClaimsOf, claim_entry, is_of_added_owner}
 use Rattle.own_core.specs.Fates.{claim_fate, are_equal_fates, are_equal_flags, is_apk_new_name_free, marked_claims}
 use Rattle.own_core.specs.Found.{AreAnswersByFiles, results_for_claims}
@@ -123,7 +123,7 @@ module _ (change : ClaimChange) (claims : HasClaimsOfPackages change) (coming : 
   pub ins_are : written_claims_of parts ≡ with_fate (file_change_of change) files coming up each goes_in
   ins_are = by_fate goes_in (written_claims_of parts) are.ins
 
-  pub beside_parts : (q : List ℕ) → is_apk_new_name_of (apk_new_claims_of parts) q ≡ is_some (option_and_then (apk_new_listing_at (file_change_of change) files) (path_of_apk_new_name q))
+  pub beside_parts : (q : List ℕ) → is_apk_new_name_of (apk_new_claims_of parts) q ≡ is_some (option_and_then (listing_written_as_apk_new_beside (file_change_of change) files) (path_of_apk_new_name q))
   beside_parts q = ap (λ cs. is_apk_new_name_of cs q) asides_are ∙ beside_is (file_change_of change) files coming up each q
 
   pub before_up : Names.Rises (paths (claims_before change))

@@ -14,7 +14,7 @@ use Rattle.base_core.specs.ByteOrder.{bytes_cmp}
 use Rattle.base_core.specs.Sorted.{sorted_by, with_element_inserted}
 use Rattle.base_core.proofs.Sorting.{Each, sorted_up}
 use Rattle.base_core.proofs.Orderings.{names_total}
-use Rattle.change_files.specs.db_core.Members.{Member, member_listings, members_of_kept}
+use Rattle.change_files.specs.db_core.Members.{Member, listings_of_members, members_of_kept}
 use Rattle.change_files.specs.db_core.Seen.{members_of, packages_of}
 use Rattle.path_claim_lists.specs.path_claims.Claims.{PathClaim, claim_cmp, is_claim_of_path}
 use Rattle.path_claim_lists.specs.path_clashes.Clash.{NameChange}
@@ -118,7 +118,7 @@ files_first members all firsts h f i c g =
     let k = found_from (is_claim_of_path c.path) all c (sym (f.each c.path) ∙ here) in
     h k.0 c k.1
 
-pub has_claims : (change : ClaimChange) → All (λ l. IsName l.path) (member_listings (members_of_kept (packages_of change.db.now))) → All (λ l. IsName l.path) (member_listings (members_of change.members.now))
+pub has_claims : (change : ClaimChange) → All (λ l. IsName l.path) (listings_of_members (members_of_kept (packages_of change.db.now))) → All (λ l. IsName l.path) (listings_of_members (members_of change.members.now))
     → (listed : List PathClaim) → listed ≡ sorted_by claim_cmp (claims_in (members_of_kept (packages_of change.db.now))) → HasFirstClaimOfEachPath listed (claims_before change) → claims_after change ≡ sorted_by claim_cmp (claims_in (members_of change.members.now))
     → HasClaimsOfPackages change
 has_claims change old new listed e firsts after = record {

@@ -30,7 +30,7 @@ use Rattle.own_core.specs.Going.{is_file_kept, is_apk_new_name_of, is_path_left_
 use Rattle.own_core.specs.ListsSeen.{AreListsOfParts}
 use Rattle.own_core.specs.Parts.{AreFilesByFate, apk_new_claims_of, left_over_claims_of}
 use Rattle.own_core.specs.NamesChanged.{name_change_of_parts}
-use Rattle.own_core.specs.Planned.{IsClashBySome, NamesRivalsIfContested, IsPlanOverSomeFiles, MayBeRefusalOf}
+use Rattle.own_core.specs.Planned.{IsClashBySome, IsContestedPathFaultWithRivals, IsPlanOverSomeFiles, MayBeRefusalOf}
 use Rattle.own_core.specs.Sides.{HasClaimsOfPackages, claims_after, claims_before, file_change_of}
 use Rattle.own_core.specs.declared.claim_change.ClaimChange.{ClaimChange}
 use Rattle.own_core.specs.declared.fault.PlanFault.{PlanFault}
@@ -118,7 +118,7 @@ module _ (change : ClaimChange) (claims : HasClaimsOfPackages change) (coming : 
       → IsClashBySome (file_change_of change) h (Some (clash_seen clash))
   clash_may_be found clash is may = subst (λ (o : Option Clash). IsClashBySome (file_change_of change) h (option_map clash_seen o)) is (clash_by_some (option_map clash_seen found) may)
 
-  pub contest_may_be : (fault : PlanFault) → NamesRivalsIfContested (members_of change.members.now) fault → (found : Option Clash) → found ≡ None → IsFirstClashOverSomeFiles (name_change_of_parts change parts) (option_map clash_seen found)
+  pub contest_may_be : (fault : PlanFault) → IsContestedPathFaultWithRivals (members_of change.members.now) fault → (found : Option Clash) → found ≡ None → IsFirstClashOverSomeFiles (name_change_of_parts change parts) (option_map clash_seen found)
       → MayBeRefusalOf (file_change_of change) h fault
   contest_may_be (Reserved path) owned found none may = tt
   contest_may_be (PathClash path other) owned found none may = absurd owned

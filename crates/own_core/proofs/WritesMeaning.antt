@@ -22,7 +22,7 @@ use Rattle.change_files.specs.Fate as Fates
 use Rattle.change_files.specs.Fate.{agrees_with_old_entry, apk_new_name, fate_with_file_found, fate_of, goes_aside, goes_in, gives_way, is_as_old_entry_lists, is_protected_path}
 use Rattle.change_files.specs.file_guard.AsListed.{is_as_listed}
 use Rattle.change_files.specs.FileChange.{FileChange, added_owner_listing, is_listed_after_change, old_entry}
-use Rattle.change_files.specs.FilesAfter.{if_written_as_apk_new, if_written_in_place, apk_new_listing_at, path_of_apk_new_name, listing_written_under_name, listing_written_in_place}
+use Rattle.change_files.specs.FilesAfter.{if_written_as_apk_new, if_written_in_place, listing_written_as_apk_new_beside, path_of_apk_new_name, listing_written_under_name, listing_written_in_place}
 use Rattle.std.specs.Option.{option_or}
 use Rattle.base_core.proofs.Orderings.{is_less}
 use Rattle.base_core.proofs.Listed.{in_both}
@@ -265,16 +265,16 @@ module _ (change : FileChange) (files : Files) (coming : List PathClaim) (up : N
   in_as_written c h = go (added_owner_listing change c.path) refl (owner_claim c h.0)
     where
       go : (a : Option Listing) → added_owner_listing change c.path ≡ a → GoTogether a (Some c)
-          → option_map (file_write_under_name c.path) (option_or (option_and_then (λ l. if_written_in_place l (fate_of change files l)) a) (option_and_then (apk_new_listing_at change files) (path_of_apk_new_name c.path))) ≡ Some (claim_write c)
+          → option_map (file_write_under_name c.path) (option_or (option_and_then (λ l. if_written_in_place l (fate_of change files l)) a) (option_and_then (listing_written_as_apk_new_beside change files) (path_of_apk_new_name c.path))) ≡ Some (claim_write c)
       go None e k = absurd k
       go (Some l) e k =
-          ap (λ f. option_map (file_write_under_name c.path) (option_or (if_written_in_place l f) (option_and_then (apk_new_listing_at change files) (path_of_apk_new_name c.path)))) (sym (same_fate change files c.path l c e k) ∙ is_in (claim_fate change c (files c.path)) h.1)
+          ap (λ f. option_map (file_write_under_name c.path) (option_or (if_written_in_place l f) (option_and_then (listing_written_as_apk_new_beside change files) (path_of_apk_new_name c.path)))) (sym (same_fate change files c.path l c e k) ∙ is_in (claim_fate change c (files c.path)) h.1)
           ∙ ap Some (same_write c.path l c k)
 
   aside_as_written : (c : PathClaim) → (find (is_claim_of_path c.path) coming ≡ Some c) × (are_equal_fates goes_aside (claim_fate change c (files c.path)) ≡ true) → as_written (apk_new_name c.path) ≡ Some (apk_new_write c)
   unfolding listing_written_under_name
   aside_as_written c h =
-      (λ j. option_map (file_write_under_name (apk_new_name c.path)) (option_or (option_and_then (λ l. if_written_in_place l (fate_of change files l)) (no_owner change (apk_new_name c.path) (free_beside change files c h.1) j)) (option_and_then (apk_new_listing_at change files) (front_of c.path j))))
+      (λ j. option_map (file_write_under_name (apk_new_name c.path)) (option_or (option_and_then (λ l. if_written_in_place l (fate_of change files l)) (no_owner change (apk_new_name c.path) (free_beside change files c h.1) j)) (option_and_then (listing_written_as_apk_new_beside change files) (front_of c.path j))))
       ∙ go (added_owner_listing change c.path) refl (owner_claim c h.0)
     where
       go : (a : Option Listing) → added_owner_listing change c.path ≡ a → GoTogether a (Some c)
@@ -371,21 +371,21 @@ module _ (change : FileChange) (files : Files) (coming : List PathClaim) (up : N
   unfolding listing_written_under_name
   back q here t = in_write_names q (by_in (is_some (listing_written_in_place change files q)) refl)
     where
-      w : is_some (option_or (listing_written_in_place change files q) (option_and_then (apk_new_listing_at change files) (path_of_apk_new_name q))) ≡ true
-      w = sym (mapped_some q (option_or (listing_written_in_place change files q) (option_and_then (apk_new_listing_at change files) (path_of_apk_new_name q)))) ∙ t
+      w : is_some (option_or (listing_written_in_place change files q) (option_and_then (listing_written_as_apk_new_beside change files) (path_of_apk_new_name q))) ≡ true
+      w = sym (mapped_some q (option_or (listing_written_in_place change files q) (option_and_then (listing_written_as_apk_new_beside change files) (path_of_apk_new_name q)))) ∙ t
 
       skip : (a b : Option Listing) → is_some a ≡ false → is_some (option_or a b) ≡ true → is_some b ≡ true
       skip None b e h = h
       skip (Some l) b e h = absurd (true≢false e)
 
-      by_front : (p : Option (List ℕ)) → path_of_apk_new_name q ≡ p → is_some (option_and_then (apk_new_listing_at change files) p) ≡ true → Names.IsIn q (map apk_new_name (paths asides))
+      by_front : (p : Option (List ℕ)) → path_of_apk_new_name q ≡ p → is_some (option_and_then (listing_written_as_apk_new_beside change files) p) ≡ true → Names.IsIn q (map apk_new_name (paths asides))
       by_front None e h = absurd (true≢false (sym h))
       by_front (Some p) e h =
           subst (λ z. Names.IsIn z (map apk_new_name (paths asides))) (sym (found_front q p e)) (aside_in p (paths asides) (there_is asides p (sym (laid_is change files coming up each p) ∙ h)))
 
       by_in : (b : Bool) → is_some (listing_written_in_place change files q) ≡ b → Names.IsIn q (paths ins) ⊎ Names.IsIn q (map apk_new_name (paths asides))
       by_in true e = inl (there_is ins q (sym (in_is change files coming up each q) ∙ e))
-      by_in false e = inr (by_front (path_of_apk_new_name q) refl (skip (listing_written_in_place change files q) (option_and_then (apk_new_listing_at change files) (path_of_apk_new_name q)) e w))
+      by_in false e = inr (by_front (path_of_apk_new_name q) refl (skip (listing_written_in_place change files q) (option_and_then (listing_written_as_apk_new_beside change files) (path_of_apk_new_name q)) e w))
 
   pub writes_are : sorted_by write_cmp all_writes ≡ file_writes_of change files
   unfolding file_writes_of

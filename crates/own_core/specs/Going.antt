@@ -7,7 +7,7 @@ use Rattle.change_files.specs.db_core.Members.{members_of_kept}
 use Rattle.path_claim_lists.specs.path_claims.Claims.{PathClaim, is_claim_of_path}
 use Rattle.change_files.specs.Fate.{is_protected_path}
 use Rattle.change_files.specs.FileChange.{FileChange, is_listed_after_change}
-use Rattle.change_files.specs.FilesAfter.{is_modified_from_entry, path_of_apk_new_name}
+use Rattle.change_files.specs.FilesAfter.{is_present_and_modified_from_entry, path_of_apk_new_name}
 use Rattle.own_core.specs.ClaimEntries.{claim_entry}
 
 -- whether the name is `PATH.apk-new` for the path of one of the claims `asides`
@@ -26,4 +26,5 @@ is_path_left_over change asides path =
 abbrev pub is_file_kept : FileChange → PathClaim → Option (List ℕ) → Bool
 is_file_kept change c found =
     is_protected_path c.path
-    && (not change.purge && is_modified_from_entry (claim_entry (members_of_kept change.old) c) found)
+    && (not change.purge && is_present_and_modified_from_entry
+    (claim_entry (members_of_kept change.old) c) found)

@@ -21,7 +21,7 @@ use Rattle.path_claim_lists.specs.path_clashes.FirstClash.{IsFirstClashOverSomeF
 use Rattle.change_files.specs.file_owners.Owners.{first_contested_path_of_members, owned_flags_of}
 use Rattle.change_files.specs.FileChange.{FileChange}
 use Rattle.change_files.specs.NamesAfter.{name_change}
-use Rattle.change_files.specs.PlanLists.{FileWrite, paths_with_apk_new_file, file_writes_of, first_reserved_path, kept_paths_of, removals_of}
+use Rattle.change_files.specs.PlanLists.{FileWrite, paths_with_apk_new_file, file_writes_of, first_reserved_added_path, kept_left_over_paths_of, removals_of}
 use Rattle.own_core.specs.ClaimEntries.{HasFileAt}
 use Rattle.own_core.specs.WritesSeen.{writes_in}
 use Rattle.own_core.specs.declared.fault.PlanFault.{PlanFault}
@@ -44,7 +44,7 @@ pub record ArePlanLists (change : FileChange) (files : Files) (plan : FilePlan) 
   -- the paths beside which a file `PATH.apk-new` is written
   pub aside : plan.aside ≡ paths_with_apk_new_file change files
   -- the paths of the user's files that are kept although no package lists them any more
-  pub kept : plan.kept ≡ kept_paths_of change files
+  pub kept : plan.kept ≡ kept_left_over_paths_of change files
 
 -- The lists of the plan are those of the change over some files, which are the tree's if the tree is observable. Then
 -- no names clash over these files; otherwise none clash over some files.
@@ -66,7 +66,7 @@ pub record IsPlanForMembersAlone (members : List Member) (plan : FilePlan) : Typ
   -- for each file that members list, the plan says whether its member owns it
   pub owned : plan.owned ≡ owned_flags_of members
   -- no added member lists a reserved path
-  pub allowed : first_reserved_path members ≡ None
+  pub allowed : first_reserved_added_path members ≡ None
   -- no path is contested
   pub owners : first_contested_path_of_members members ≡ None
 
@@ -129,12 +129,12 @@ pub record IsFirstContest (members : List Member) (path first second : List ℕ)
   pub other : member_name_at members contest.rivals.second ≡ Some second
 
 -- the fault is `Owned`: it has the first contested path and the names of its rivals. No other fault is one
-abbrev pub NamesRivalsIfContested : List Member → PlanFault → Type 0
-NamesRivalsIfContested members (Reserved path) = ⊥
-NamesRivalsIfContested members (PathClash path other) = ⊥
-NamesRivalsIfContested members (Owned path first second) = IsFirstContest members path first second
-NamesRivalsIfContested members Disk = ⊥
-NamesRivalsIfContested members Memory = ⊥
+abbrev pub IsContestedPathFaultWithRivals : List Member → PlanFault → Type 0
+IsContestedPathFaultWithRivals members (Reserved path) = ⊥
+IsContestedPathFaultWithRivals members (PathClash path other) = ⊥
+IsContestedPathFaultWithRivals members (Owned path first second) = IsFirstContest members path first second
+IsContestedPathFaultWithRivals members Disk = ⊥
+IsContestedPathFaultWithRivals members Memory = ⊥
 
 -- What a fault says over these files. A reported clash is the first one. A contested path is reported only if there
 -- is no clash. The other faults say nothing about the files.
@@ -170,9 +170,9 @@ MayBeRefusalOf change history Memory = Unit {0}
 -- What a fault says about the members alone. A reported reserved path is the first one. Another fault, except
 -- `Memory`, is reported only if there is none. A contested path is the first one, with the names of its rivals.
 abbrev pub IsRefusalForMembersAlone : List Member → PlanFault → Type 0
-IsRefusalForMembersAlone members (Reserved path) = first_reserved_path members ≡ Some path
-IsRefusalForMembersAlone members (PathClash path other) = first_reserved_path members ≡ None
+IsRefusalForMembersAlone members (Reserved path) = first_reserved_added_path members ≡ Some path
+IsRefusalForMembersAlone members (PathClash path other) = first_reserved_added_path members ≡ None
 IsRefusalForMembersAlone members (Owned path first second) =
-    (first_reserved_path members ≡ None) × IsFirstContest members path first second
-IsRefusalForMembersAlone members Disk = first_reserved_path members ≡ None
+    (first_reserved_added_path members ≡ None) × IsFirstContest members path first second
+IsRefusalForMembersAlone members Disk = first_reserved_added_path members ≡ None
 IsRefusalForMembersAlone members Memory = Unit {0}

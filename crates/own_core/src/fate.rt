@@ -117,7 +117,7 @@ fn fate_if_user_modified_file(
 
 /// Whether there is a file, and its bytes agree neither with the new entry nor with the old one.
 /// `found` is the result of the comparison with both entries, or None if there is no file.
-pub(crate) fn is_modified_from_entry(found: Option<Comparison>) -> bool
+pub(crate) fn is_present_and_modified_from_entry(found: Option<Comparison>) -> bool
     ensures { IsTrue result ↔ IsSomeAnd found (λ c. (c.as_new ≡ false) × (c.as_old ≡ false)) }
 {
     match found {
@@ -153,7 +153,7 @@ fn guarded_fate<T: Tree>(
     let old = listed_so_far(change, &claim.path);
     let found = compare_file(tree, &name, Some(new), old)?;
     // The user changed the file, so it is kept.
-    if is_modified_from_entry(found) {
+    if is_present_and_modified_from_entry(found) {
         let fate = fate_if_user_modified_file(alloc, change, &name, &new, &old)?;
         return Ok(fate);
     }

@@ -23,7 +23,7 @@ ghost use Rattle.own_core.specs.Sides.{HasClaimsOfPackages, claims_before, file_
 
 use crate::claim_change::ClaimChange;
 use crate::entries::listed_before;
-use crate::fate::{AddedFileFate, fates_of, is_modified_from_entry};
+use crate::fate::{AddedFileFate, fates_of, is_present_and_modified_from_entry};
 use crate::guarded::{is_protected_path, path_of_apk_new_name};
 use base_core::{Tree, TreeFault};
 use change_files::compare_file;
@@ -155,7 +155,7 @@ fn is_file_kept<T: Tree>(
     let name = name_of_path(alloc, &claim.path)?;
     let listed = listed_before(change.db, claim, PhantomData);
     let found = compare_file(tree, &name, None, Some(listed))?;
-    Ok(is_modified_from_entry(found))
+    Ok(is_present_and_modified_from_entry(found))
 }
 
 /// Adds a flag at the end of the list.

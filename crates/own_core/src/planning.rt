@@ -9,10 +9,10 @@ ghost use Rattle.base_core.specs.Name.{IsName};
 ghost use Rattle.base_core.specs.Read.{OnlyReads};
 ghost use Rattle.base_core.specs.Tree.{files_of};
 ghost use Rattle.change_files.specs.NamesAfter.{name_change};
-ghost use Rattle.change_files.specs.PlanLists.{first_reserved_path};
+ghost use Rattle.change_files.specs.PlanLists.{first_reserved_added_path};
 ghost use Rattle.path_claim_lists.specs.Named.{HaveValidPaths};
 ghost use Rattle.path_claim_lists.specs.Once.{HasFirstClaimOfEachPath};
-ghost use Rattle.change_files.specs.db_core.Members.{member_listings};
+ghost use Rattle.change_files.specs.db_core.Members.{listings_of_members};
 ghost use Rattle.change_files.specs.db_core.Seen.{members_of};
 ghost use Rattle.change_files.specs.file_owners.Owners.{claims_in, first_contested_path_of_members, owned_flags_of};
 ghost use Rattle.base_core.specs.Sorted.{sorted_by};
@@ -25,7 +25,7 @@ ghost use Rattle.own_core.specs.ClaimEntries.{AreClaimsOf, IsClaimOf, is_of_adde
 ghost use Rattle.own_core.specs.ListsSeen.{AreListsOfParts};
 ghost use Rattle.own_core.specs.Parts.{AreFilesByFate, apk_new_claims_of, kept_claims_of, removed_claims_of, written_claims_of};
 ghost use Rattle.own_core.specs.NamesChanged.{name_change_of_parts};
-ghost use Rattle.own_core.specs.Planned.{HasDisjointUnreservedNames, HasSources, NamesRivalsIfContested, IsPlanForMembersAlone, IsPlanOverSomeFiles, IsRefusalForMembersAlone, IsRefusalOverFiles, MayBeRefusalOf, file_change_between, member_name_at};
+ghost use Rattle.own_core.specs.Planned.{HasDisjointUnreservedNames, HasSources, IsContestedPathFaultWithRivals, IsPlanForMembersAlone, IsPlanOverSomeFiles, IsRefusalForMembersAlone, IsRefusalOverFiles, MayBeRefusalOf, file_change_between, member_name_at};
 ghost use Rattle.own_core.specs.Sides.{HasClaimsOfPackages, claims_after, file_change_of};
 ghost use Rattle.own_core.specs.WritesSeen.{CanHaveApkNewNames};
 
@@ -153,7 +153,7 @@ fn is_added_and_reserved(members: &Members<'_>, claim: &Claim<'_>) -> bool
 
 /// The first reserved path in byte order that an added package lists. `claims` are those of all
 /// members.
-fn first_reserved_path(
+fn first_reserved_added_path(
     alloc: Global,
     members: &Members<'_>,
     claims: &[Claim<'_>],
@@ -163,7 +163,7 @@ fn first_reserved_path(
     // The claims are those of all files that the members list, in byte order of their paths.
     requires sorted { map claim_seen claims.now
         ≡ sorted_by claim_cmp (claims_in (members_of members.now)) }
-    ensures { IfOk result (λ found. found ≡ first_reserved_path (members_of members.now)) }
+    ensures { IfOk result (λ found. found ≡ first_reserved_added_path (members_of members.now)) }
 {
     for claim in claims {
         if is_added_and_reserved(members, claim) {
@@ -194,9 +194,9 @@ fn contest(
     requires contested { first_contested_path_of_members (members_of members.now)
         ≡ Some (contested_seen contested.now) }
     // Each path that the members list is a name of the tree.
-    requires named { All (λ l. IsName l.path) (member_listings (members_of members.now)) }
+    requires named { All (λ l. IsName l.path) (listings_of_members (members_of members.now)) }
     // On Ok, the fault is `Owned`, with the first contested path and the names of its rivals.
-    ensures { IfOk result (NamesRivalsIfContested (members_of members.now)) }
+    ensures { IfOk result (IsContestedPathFaultWithRivals (members_of members.now)) }
 {
     let path = name_of_path(alloc, &contested.path)?;
     let first = member_name_at(alloc, members, contested.rivals.first)?;
@@ -260,10 +260,10 @@ fn plan_of_claims<T: Tree>(
     // The flags are those of all files that the members list, in their order.
     requires owned { owned.items ≡ owned_flags_of (members_of change.now.members.now) }
     // Test 1 was passed: no added package lists a reserved path.
-    requires unreserved { first_reserved_path (members_of change.now.members.now) ≡ None }
+    requires unreserved { first_reserved_added_path (members_of change.now.members.now) ≡ None }
     // Each path that the members list is a name of the tree.
     requires named { All (λ l. IsName l.path)
-        (member_listings (members_of change.now.members.now)) }
+        (listings_of_members (members_of change.now.members.now)) }
     // On Ok, the lists of the plan are those of the change over the tree's files if they are
     // observable, and otherwise over some files.
     ensures plan { IfOk result (IsPlanOverSomeFiles (file_change_of change.now)
@@ -346,7 +346,7 @@ pub fn plan<'c, T: Tree>(
     let found = owners_of_files(alloc, after)?;
     let owned = found.owned;
     let contested = found.contested;
-    let reserved = first_reserved_path(alloc, after, &found.claims)?;
+    let reserved = first_reserved_added_path(alloc, after, &found.claims)?;
     if let Some(path) = reserved {
         return Err(PlanFault::Reserved { path });
     }

@@ -37,14 +37,14 @@ is_candidate_named name c = bytes_eq c.name name
 
 -- Whether a candidate is the installed package that has this text of a version and this id: the candidate is of no
 -- repository (then it comes from the database), or has the same text and the same id.
-abbrev pub is_installed_with_version_and_id : List ℕ → List ℕ → Candidate → Bool
-is_installed_with_version_and_id version id c =
+abbrev pub is_of_no_repository_or_same_version_and_id : List ℕ → List ℕ → Candidate → Bool
+is_of_no_repository_or_same_version_and_id version id c =
     not (is_some c.repository) || (bytes_eq version (candidate_version_text c) && is_same_id id c.id)
 
 -- whether a candidate is this package of the database itself, so that the package is kept as it is
 abbrev pub is_candidate_this_package : Plain → Candidate → Bool
 is_candidate_this_package pkg c =
-    is_installed_with_version_and_id (package_version_text pkg) (installed_id pkg) c
+    is_of_no_repository_or_same_version_and_id (package_version_text pkg) (installed_id pkg) c
 
 -- the change of the package `name` from the version `old` to the version `new`, given the order of old and new
 abbrev pub version_change : List ℕ → List ℕ → List ℕ → Ordering → Change
@@ -59,8 +59,8 @@ version_text_cmp old new = option_cmp version_cmp (version_of_text old) (version
 
 -- The change of the package `name`, installed as `pkg`, for which the candidate `c` is selected. `is_same` says whether
 -- the candidate is the package itself: then nothing changes, or the package is reinstalled if `is_again` is true.
-abbrev pub change_unless_same : List ℕ → Plain → Candidate → Bool → Bool → Option Change
-change_unless_same name pkg c is_same is_again =
+abbrev pub change_by_is_same_and_is_again : List ℕ → Plain → Candidate → Bool → Bool → Option Change
+change_by_is_same_and_is_again name pkg c is_same is_again =
     if not is_same then Some (version_change name (package_version_text pkg) (candidate_version_text c)
     (version_text_cmp (package_version_text pkg) (candidate_version_text c)))
     else if is_again then Some (Reinstall name (candidate_version_text c)) else None
@@ -72,7 +72,7 @@ change_between is_again name None None = None
 change_between is_again name None (Some c) = Some (Install name (candidate_version_text c))
 change_between is_again name (Some pkg) None = Some (Purge name (package_version_text pkg))
 change_between is_again name (Some pkg) (Some c) =
-    change_unless_same name pkg c (is_candidate_this_package pkg c) is_again
+    change_by_is_same_and_is_again name pkg c (is_candidate_this_package pkg c) is_again
 
 -- the change of the package of this name, if it changes
 unfoldable pub change_of_name : Replacement → List ℕ → Option Change

@@ -24,14 +24,14 @@ needs_candidate c needed =
     list_any (λ (d : Dependency). not d.conflict && meets_dependency d needed) c.depends
 
 -- whether `c` is another candidate than `needed`, and needs it
-abbrev pub is_other_candidate_needing : Candidate → Candidate → Bool
-is_other_candidate_needing needed c = not (bytes_eq c.name needed.name) && needs_candidate c needed
+abbrev pub is_candidate_needed_by_other : Candidate → Candidate → Bool
+is_candidate_needed_by_other needed c = not (bytes_eq c.name needed.name) && needs_candidate c needed
 
 -- the names of the other selected candidates that need the candidate `needed`, in byte order
 abbrev pub names_needing_candidate : List Candidate → Candidate → List (List ℕ)
 names_needing_candidate selected needed =
     sorted_distinct_names (map (λ (c : Candidate). c.name)
-    (filter (is_other_candidate_needing needed) selected))
+    (filter (is_candidate_needed_by_other needed) selected))
 
 -- the lines that say that the package `name` is kept: one for each selected candidate with this name, at most one
 abbrev pub still_needed_lines_of_name : List Candidate → List ℕ → List ℕ

@@ -7,7 +7,7 @@ ghost use Rattle.change_files.specs.adb_schema.Views.{package_value};
 ghost use Rattle.change_files.specs.db_core.Seen.{packages_of};
 ghost use Rattle.change_files.specs.file_owners.Replaces.{package_version_text};
 ghost use Rattle.change_files.specs.db_core.Packages.{installed_id};
-ghost use Rattle.package_changes.specs.Changes.{change_between, is_installed_with_version_and_id, candidate_version_text, version_change, version_text_cmp};
+ghost use Rattle.package_changes.specs.Changes.{change_between, is_of_no_repository_or_same_version_and_id, candidate_version_text, version_change, version_text_cmp};
 ghost use Rattle.package_changes.specs.Seen.{change_seen};
 ghost use Rattle.solve_core.specs.candidate_core.Values.{candidate_value};
 ghost use Rattle.report_core.specs.Reports as Texts;
@@ -149,7 +149,7 @@ pub(crate) fn replace<'a>(
 /// has the same text of the version and the same id as `old`.
 fn is_candidate_this_package(old: &OldPackage<'_>, new: &Candidate<'_>) -> bool
     ensures { result
-        ≡ is_installed_with_version_and_id old.now.version.now old.now.id.now
+        ≡ is_of_no_repository_or_same_version_and_id old.now.version.now old.now.id.now
         (candidate_value new.now) }
 {
     // A candidate of no repository is the installed package itself.

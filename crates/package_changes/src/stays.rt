@@ -6,7 +6,7 @@ ghost use Rattle.change_files.specs.db_core.Seen.{packages_of};
 ghost use Rattle.package_changes.specs.Changes.{is_candidate_named};
 ghost use Rattle.package_changes.specs.Placed.{candidates_at};
 ghost use Rattle.package_changes.specs.SelectedNames.{place_paired_with_name};
-ghost use Rattle.package_changes.specs.Report.{is_other_candidate_needing, names_needing_candidate, still_needed_lines_of_name, still_needed_lines, was_installed};
+ghost use Rattle.package_changes.specs.Report.{is_candidate_needed_by_other, names_needing_candidate, still_needed_lines_of_name, still_needed_lines, was_installed};
 ghost use Rattle.solve_core.specs.candidate_core.Candidates.{Candidate};
 ghost use Rattle.solve_core.specs.candidate_core.Rank.{candidate_at};
 ghost use Rattle.report_core.specs.Reports.{report_line, with_spaces_before, still_needed_text};
@@ -197,7 +197,7 @@ fn push_names_in_need<'a>(
     // The names of the selected candidates that need `needed` are appended, in the order of choice.
     ensures { OnOk result (map (λ n. n.now) names.new.items ≡ map (λ n. n.now) names.old.items
         ++ map (λ (c : Candidate). c.name)
-        (filter (is_other_candidate_needing needed.now) (candidates_at pool.now trace.now))) }
+        (filter (is_candidate_needed_by_other needed.now) (candidates_at pool.now trace.now))) }
 {
     for i in 0..trace.len() {
         push_name_if_it_needs(names, pool, trace.get(i), needed)?;
@@ -216,7 +216,7 @@ fn push_name_if_it_needs<'a>(
     // The name of the candidate at the place is appended, if it is another one that needs `needed`.
     ensures { OnOk result (map (λ n. n.now) names.new.items ≡ map (λ n. n.now) names.old.items
         ++ map (λ (c : Candidate). c.name)
-        (filter (is_other_candidate_needing needed.now) (option_to_list
+        (filter (is_candidate_needed_by_other needed.now) (option_to_list
         (candidate_at pool.now id)))) }
 {
     match pool.at(id) {
@@ -225,7 +225,7 @@ fn push_name_if_it_needs<'a>(
             push_name_if(
                 names,
                 details.name(),
-                is_other_candidate_needing(needed, &details),
+                is_candidate_needed_by_other(needed, &details),
             )?;
             Ok(())
         }
@@ -249,8 +249,8 @@ fn push_name_if<'a>(
 
 /// Whether `details` are those of another candidate than `needed`, and that candidate needs
 /// `needed`.
-fn is_other_candidate_needing(needed: &Details<'_>, details: &Details<'_>) -> bool
-    ensures { result ≡ is_other_candidate_needing needed.now details.now }
+fn is_candidate_needed_by_other(needed: &Details<'_>, details: &Details<'_>) -> bool
+    ensures { result ≡ is_candidate_needed_by_other needed.now details.now }
 {
     if details.name() == needed.name() {
         return false;

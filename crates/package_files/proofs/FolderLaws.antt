@@ -10,7 +10,7 @@ use Rattle.std.proofs.lemmas.List.Sorted.{IsPermutation-append_right, IsPermutat
 use Rattle.std.proofs.lemmas.List.Sums.{suffix_len_is}
 use Rattle.std.proofs.lemmas.Map.Text.{is_eq-slice_cmp}
 use Rattle.std.proofs.lemmas.Slice.Eq.{bytes_eq-Decides}
-use Rattle.package_files.specs.Folders.{FolderListing, prefixes_before_slashes, all_folders_above, folder_of, folder_listings_of, folders_above, is_slash, folder_listing_of, tree_names_in_package_folder, path_relative_to, with_folder_inserted, with_folder_inserted_by_order, with_folders_inserted}
+use Rattle.package_files.specs.Folders.{FolderListing, prefixes_before_slashes, all_folders_above, folder_of, folder_listings_of, folders_above, is_slash, folder_listing_of, tree_names_in_package_folder, path_relative_to, with_folder_inserted, with_folder_inserted_by_cmp_with_first, with_folders_inserted}
 use Rattle.package_files.proofs.FolderLemmas.{cmp, placed_sorted, turned}
 use Rattle.package_files.proofs.PlaceLemmas.{differs}
 
@@ -68,7 +68,7 @@ new_there : (x : List ℕ) (ys : List (List ℕ)) → Contains (with_folder_inse
 new_there x [] = here x []
 new_there x (y ∷ ys) = by (cmp x y) refl (new_there x ys)
   where
-    by : (o : Ordering) → cmp x y ≡ o → Contains (with_folder_inserted x ys) x → Contains (with_folder_inserted_by_order o x y ys (with_folder_inserted x ys)) x
+    by : (o : Ordering) → cmp x y ≡ o → Contains (with_folder_inserted x ys) x → Contains (with_folder_inserted_by_cmp_with_first o x y ys (with_folder_inserted x ys)) x
     by Less e h = here x (y ∷ ys)
     by Equal e h = (zero, omega arith, sym (exact x y e))
     by Greater e h = there x y (with_folder_inserted x ys) h
@@ -81,7 +81,7 @@ old_there x z (y ∷ ys) h = by (cmp x y) (old_there x z ys)
     further f (inl e) = (zero, omega arith, e)
     further f (inr t) = there z y (with_folder_inserted x ys) (f t)
 
-    by : (o : Ordering) → (Contains ys z → Contains (with_folder_inserted x ys) z) → Contains (with_folder_inserted_by_order o x y ys (with_folder_inserted x ys)) z
+    by : (o : Ordering) → (Contains ys z → Contains (with_folder_inserted x ys) z) → Contains (with_folder_inserted_by_cmp_with_first o x y ys (with_folder_inserted x ys)) z
     by Less f = there z x (y ∷ ys) h
     by Equal f = h
     by Greater f = further f (either z y ys h)
@@ -94,7 +94,7 @@ one_from x z (y ∷ ys) h = by (cmp x y) (one_from x z ys) h
     further f (inl e) = inr (zero, omega arith, e)
     further f (inr t) = ⊎_elim inl (λ g. inr (there z y ys g)) (f t)
 
-    by : (o : Ordering) → (Contains (with_folder_inserted x ys) z → (x ≡ z) ⊎ Contains ys z) → Contains (with_folder_inserted_by_order o x y ys (with_folder_inserted x ys)) z → (x ≡ z) ⊎ Contains (y ∷ ys) z
+    by : (o : Ordering) → (Contains (with_folder_inserted x ys) z → (x ≡ z) ⊎ Contains ys z) → Contains (with_folder_inserted_by_cmp_with_first o x y ys (with_folder_inserted x ys)) z → (x ≡ z) ⊎ Contains (y ∷ ys) z
     by Less f g = either z x (y ∷ ys) g
     by Equal f g = inr g
     by Greater f g = further f (either z y (with_folder_inserted x ys) g)

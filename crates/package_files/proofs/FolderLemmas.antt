@@ -10,7 +10,7 @@ use Rattle.std.proofs.lemmas.Cmp.{nat_list_cmp_total}
 use borrow.Author.Tests.{ne_eqb}
 use Rattle.std.specs.declared.cmp.Ordering.{Ordering}
 use Rattle.std.specs.declared.cmp.Ordering.TheVariants.{Less, Equal, Greater}
-use Rattle.package_files.specs.Folders.{is_slash, prefixes_extended_by_first_byte, prefixes_before_slashes, with_folder_inserted_by_order, with_folder_inserted, with_folders_inserted}
+use Rattle.package_files.specs.Folders.{is_slash, prefixes_extended_by_first_byte, prefixes_before_slashes, with_folder_inserted_by_cmp_with_first, with_folder_inserted, with_folders_inserted}
 
 abbrev pub cmp : List ℕ → List ℕ → Ordering
 cmp = slice_cmp nat_cmp
@@ -18,8 +18,8 @@ cmp = slice_cmp nat_cmp
 pub turned : (a b : List ℕ) (o : Ordering) → cmp a b ≡ o → cmp b a ≡ ordering_reverse o
 turned a b o e = nat_list_cmp_total.antisymm b a ∙ ap ordering_reverse e
 
-pub placed_as : (o : Ordering) (x y : List ℕ) (ys : List (List ℕ)) → cmp x y ≡ o → with_folder_inserted x (y ∷ ys) ≡ with_folder_inserted_by_order o x y ys (with_folder_inserted x ys)
-placed_as o x y ys e = ap (λ (r : Ordering). with_folder_inserted_by_order r x y ys (with_folder_inserted x ys)) e
+pub placed_as : (o : Ordering) (x y : List ℕ) (ys : List (List ℕ)) → cmp x y ≡ o → with_folder_inserted x (y ∷ ys) ≡ with_folder_inserted_by_cmp_with_first o x y ys (with_folder_inserted x ys)
+placed_as o x y ys e = ap (λ (r : Ordering). with_folder_inserted_by_cmp_with_first r x y ys (with_folder_inserted x ys)) e
 
 module _ {X : Type 0} (key : X → List ℕ) (x : X) where
   -- a new name goes between the lesser and the greater ones
@@ -101,7 +101,7 @@ all_placed_below : (P : List ℕ → Type 0) (x : List ℕ) (ys : List (List ℕ
 all_placed_below P x [] p h = (p, tt)
 all_placed_below P x (y ∷ ys) p h = by (cmp x y) (all_placed_below P x ys p h.1)
   where
-    by : (o : Ordering) → AllByRecursion P (with_folder_inserted x ys) → AllByRecursion P (with_folder_inserted_by_order o x y ys (with_folder_inserted x ys))
+    by : (o : Ordering) → AllByRecursion P (with_folder_inserted x ys) → AllByRecursion P (with_folder_inserted_by_cmp_with_first o x y ys (with_folder_inserted x ys))
     by Less r = (p, (h.0, h.1))
     by Equal r = (h.0, h.1)
     by Greater r = (h.0, r)
@@ -115,7 +115,7 @@ unfolding IsStrictlySortedBy
 placed_sorted x [] h = (tt, tt)
 placed_sorted x (y ∷ ys) h = by (cmp x y) refl (placed_sorted x ys h.1)
   where
-    by : (o : Ordering) → cmp x y ≡ o → IsStrictlySortedBy cmp (with_folder_inserted x ys) → IsStrictlySortedBy cmp (with_folder_inserted_by_order o x y ys (with_folder_inserted x ys))
+    by : (o : Ordering) → cmp x y ≡ o → IsStrictlySortedBy cmp (with_folder_inserted x ys) → IsStrictlySortedBy cmp (with_folder_inserted_by_cmp_with_first o x y ys (with_folder_inserted x ys))
     by Less e r = ((e, along x y ys e h.0), h)
     by Equal e r = h
     by Greater e r = (all_placed_below (λ z. cmp y z ≡ Less) x ys (turned x y Greater e) h.0, r)

@@ -12,7 +12,7 @@ use Rattle.package_files.specs.Package.{Source, SourceFolder, contents_of_file, 
 use Rattle.package_files.specs.Folders.{last_part_of, folder_listing_of, all_folders_above, tree_names_in_package_folder, path_relative_to, folder_listings_of, FolderListing}
 use Rattle.package_files.specs.Packed.{IsFileFrom, AreFilesFrom, IsPackedFile, ArePackedFiles, IsFolderFrom, AreFoldersFrom, IsPackedFolder, ArePackedFolders}
 use Rattle.package_files.specs.BorrowedNames.{listings_of, names_borrowed}
-use Rattle.package_files.specs.Runs.{AgreesOrIsFault, IsExplainedBySomeReads}
+use Rattle.package_files.specs.Runs.{AgreesOrIsFault, HoldsOfSomeReadsOfTree}
 use Rattle.package_files.specs.Sources.{found_bytes_or_missing, source_file_read_at, sources_at_place_from_read, source_folder_read_at, source_folders_at_place_from_read, and_then}
 use Rattle.make_info.specs.Reads.{Reads}
 use Rattle.base_core.specs.Tree.{TreeState}
@@ -128,9 +128,9 @@ files_go_on told place names i name R R' S file lt e so_far next grows =
 
 pub files_stop : {A : Type 0} (told : List TreeState) (place : ℕ) (names : List (Bor (List ℕ))) (i : ℕ) (name : Bor (List ℕ)) (R : List Source → Type 0) (S : File → Source → Type 0) (T : A → List Source → Type 0) (fault : MakeFault)
     → i < length names → name ≡ get_or names i name → IsSoFar told (λ (name : List ℕ). 1) (source_file_read_at place) (take i (now_of names)) R → IsNext told (source_file_read_at place) name.now S (Err fault)
-    → (n : ℕ) → IsExplainedBySomeReads told (λ read. AgreesOrIsFault T (Err fault) (sources_at_place_from_read place read n (now_of names)))
+    → (n : ℕ) → HoldsOfSomeReadsOfTree told (λ read. AgreesOrIsFault T (Err fault) (sources_at_place_from_read place read n (now_of names)))
 files_stop {A} told place names i name R S T fault lt e so_far next n =
-    let P : List (List ℕ) → Type 0 = λ xs. IsExplainedBySomeReads told (λ read. AgreesOrIsFault T (Err fault) (sources_at_place_from_read place read n xs)) in
+    let P : List (List ℕ) → Type 0 = λ xs. HoldsOfSomeReadsOfTree told (λ read. AgreesOrIsFault T (Err fault) (sources_at_place_from_read place read n xs)) in
     subst P (names_split names i name lt e) (so_far_stops told (λ (name : List ℕ). 1) (source_file_read_at place) (file_own place) (take i (now_of names)) name.now (drop (suc i) (now_of names)) R S T fault so_far next n)
 
 pub names_whole : (names : List (Bor (List ℕ))) (i : ℕ) → length names ≤ i → take i (now_of names) ≡ now_of names
@@ -240,9 +240,9 @@ folders_go_on told place all i one R R' S folder lt e so_far next grows =
 
 pub folders_stop : {A : Type 0} (told : List TreeState) (place : ℕ) (all : List FolderListing) (i : ℕ) (one : FolderListing) (R : List SourceFolder → Type 0) (S : Folder → SourceFolder → Type 0) (T : A → List SourceFolder → Type 0) (fault : MakeFault)
     → i < length all → one ≡ get_or all i one → IsSoFar told reads_in (source_folder_read_at place) (take i all) R → IsNext told (source_folder_read_at place) one S (Err fault)
-    → (n : ℕ) → IsExplainedBySomeReads told (λ read. AgreesOrIsFault T (Err fault) (source_folders_at_place_from_read place read n all))
+    → (n : ℕ) → HoldsOfSomeReadsOfTree told (λ read. AgreesOrIsFault T (Err fault) (source_folders_at_place_from_read place read n all))
 folders_stop {A} told place all i one R S T fault lt e so_far next n =
-    let P : List FolderListing → Type 0 = λ xs. IsExplainedBySomeReads told (λ read. AgreesOrIsFault T (Err fault) (source_folders_at_place_from_read place read n xs)) in
+    let P : List FolderListing → Type 0 = λ xs. HoldsOfSomeReadsOfTree told (λ read. AgreesOrIsFault T (Err fault) (source_folders_at_place_from_read place read n xs)) in
     subst P (ap (λ (l : List FolderListing). take i all ++ l) (ap (λ (x : FolderListing). x ∷ drop (suc i) all) e ∙ sym (drop-cons all i one lt)) ∙ take-append-drop i all)
     (so_far_stops told reads_in (source_folder_read_at place) (folder_own place) (take i all) one (drop (suc i) all) R S T fault so_far next n)
 

@@ -5,7 +5,7 @@ use Rattle.base_core.specs.Calls.{IfObservable}
 use Rattle.base_core.specs.Tree.{TreeState, files_of}
 use Rattle.package_files.specs.Sources.{and_then, results_from_read}
 use Rattle.make_info.specs.Reads.{Reads}
-use Rattle.package_files.specs.Runs.{AgreesOrIsFault, AreReadsOfTree, IsExplainedBySomeReads}
+use Rattle.package_files.specs.Runs.{AgreesOrIsFault, AreReadsOfTreeIfObservable, HoldsOfSomeReadsOfTree}
 use Rattle.base_core.specs.declared.tree.TreeFault.{TreeFault}
 use Rattle.base_core.specs.declared.tree.TreeFault.TheVariants as Trees
 use Rattle.std.specs.Result.{IsErrAnd}
@@ -24,7 +24,7 @@ joined_below k first second n name lt = ap (λ (b : Bool). if b then first n nam
 pub joined_from : (k : ℕ) (first second : Reads) (n : ℕ) (name : List ℕ) → k ≤ n → joined k first second n name ≡ second n name
 joined_from k first second n name le = ap (λ (b : Bool). if b then first n name else second n name) (le-ltb n k le)
 
-pub joined_told : (told : List TreeState) (k : ℕ) (first second : Reads) → AreReadsOfTree told first → AreReadsOfTree told second → AreReadsOfTree told (joined k first second)
+pub joined_told : (told : List TreeState) (k : ℕ) (first second : Reads) → AreReadsOfTreeIfObservable told first → AreReadsOfTreeIfObservable told second → AreReadsOfTreeIfObservable told (joined k first second)
 joined_told [] k first second f s = tt
 joined_told (v ∷ vs) k first second f s = λ n name. by (nat_lt n k) n name
   where
@@ -37,7 +37,7 @@ abbrev pub reads_or : List TreeState → Reads → Reads
 reads_or [] read n name = read n name
 reads_or (v ∷ vs) read n name = files_of v name
 
-pub as_told_of : (told : List TreeState) (read : Reads) → AreReadsOfTree told (reads_or told read)
+pub as_told_of : (told : List TreeState) (read : Reads) → AreReadsOfTreeIfObservable told (reads_or told read)
 as_told_of [] read = tt
 as_told_of (v ∷ vs) read = λ n name. refl
 
@@ -97,11 +97,11 @@ module _ {X Y : Type 0} (count : X → ℕ) (of : ℕ → X → Result Y MakeFau
 
 -- what came of the elements so far
 abbrev pub IsSoFar : {X Y : Type 0} → List TreeState → (X → ℕ) → (Reads → ℕ → X → Result Y MakeFault) → List X → (List Y → Type 0) → Type 0
-IsSoFar {X} {Y} told count of xs R = (n : ℕ) → IsExplainedBySomeReads told (λ read. (ys : List Y) × (results_from_read count (of read) n xs ≡ Ok ys) × R ys)
+IsSoFar {X} {Y} told count of xs R = (n : ℕ) → HoldsOfSomeReadsOfTree told (λ read. (ys : List Y) × (results_from_read count (of read) n xs ≡ Ok ys) × R ys)
 
 -- the answer at the next one
 abbrev pub IsNext : {X Y A : Type 0} → List TreeState → (Reads → ℕ → X → Result Y MakeFault) → X → (A → Y → Type 0) → Result A MakeFault → Type 0
-IsNext told of x S r = (n : ℕ) → IsExplainedBySomeReads told (λ read. AgreesOrIsFault S r (of read n x))
+IsNext told of x S r = (n : ℕ) → HoldsOfSomeReadsOfTree told (λ read. AgreesOrIsFault S r (of read n x))
 
 module _ {X Y : Type 0} (told : List TreeState) (count : X → ℕ) (of : Reads → ℕ → X → Result Y MakeFault) (own : RestsOnOwn count of) where
   abbrev SoFar : List X → (List Y → Type 0) → Type 0
@@ -137,7 +137,7 @@ module _ {X Y : Type 0} (told : List TreeState) (count : X → ℕ) (of : Reads 
 
   -- a fault of the next one is that of all
   pub so_far_stops : {A B : Type 0} (xs : List X) (x : X) (rest : List X) (R : List Y → Type 0) (S : A → Y → Type 0) (T : B → List Y → Type 0) (fault : MakeFault)
-      → SoFar xs R → Next x S (Err fault) → (n : ℕ) → IsExplainedBySomeReads told (λ read. AgreesOrIsFault T (Err fault) (results_from_read count (of read) n (xs ++ x ∷ rest)))
+      → SoFar xs R → Next x S (Err fault) → (n : ℕ) → HoldsOfSomeReadsOfTree told (λ read. AgreesOrIsFault T (Err fault) (results_from_read count (of read) n (xs ++ x ∷ rest)))
   so_far_stops {A} {B} xs x rest R S T fault before next n =
       let k : ℕ = n + total count xs in
       let p = before n in
@@ -159,15 +159,15 @@ module _ {X Y : Type 0} (told : List TreeState) (count : X → ℕ) (of : Reads 
 -- ---- one read
 
 pub read_explained : (told : List TreeState) (found : Option (List ℕ)) (name : List ℕ) → IfObservable told (λ v. found ≡ files_of v name)
-    → (n : ℕ) → IsExplainedBySomeReads told (λ read. read n name ≡ found)
+    → (n : ℕ) → HoldsOfSomeReadsOfTree told (λ read. read n name ≡ found)
 read_explained [] found name h n = record { read = λ m q. found; observed = tt; is = refl }
 read_explained (v ∷ vs) found name h n = record { read = λ m q. files_of v q; observed = λ m q. refl; is = sym h }
 
-pub explained_as : (told : List TreeState) (P Q : Reads → Type 0) → IsExplainedBySomeReads told P → ((read : Reads) → P read → Q read) → IsExplainedBySomeReads told Q
+pub explained_as : (told : List TreeState) (P Q : Reads → Type 0) → HoldsOfSomeReadsOfTree told P → ((read : Reads) → P read → Q read) → HoldsOfSomeReadsOfTree told Q
 explained_as told P Q h f = record { read = h.read; observed = h.observed; is = f h.read h.is }
 
 -- nothing is said of the reads
-pub explained : (told : List TreeState) (P : Reads → Type 0) → ((read : Reads) → P read) → IsExplainedBySomeReads told P
+pub explained : (told : List TreeState) (P : Reads → Type 0) → ((read : Reads) → P read) → HoldsOfSomeReadsOfTree told P
 explained told P h = record { read = reads_or told (λ n name. None); observed = as_told_of told (λ n name. None); is = h (reads_or told (λ n name. None)) }
 
 -- a fault of a part is that of the whole
@@ -200,5 +200,5 @@ module _ {A B : Type 0} (S : A → B → Type 0) (w : Result B MakeFault) where
   tree_fault (Err e) Trees.Memory h = answered Memory e h tt
 
 -- what is said of the states before is said of those of now, if they are the same
-pub told_as : (t0 t1 : List TreeState) (P : ℕ → Reads → Type 0) → t1 ≡ t0 → ((n : ℕ) → IsExplainedBySomeReads t1 (P n)) → (n : ℕ) → IsExplainedBySomeReads t0 (P n)
-told_as t0 t1 P e h n = let Q : List TreeState → Type 0 = λ t. IsExplainedBySomeReads t (P n) in subst Q e (h n)
+pub told_as : (t0 t1 : List TreeState) (P : ℕ → Reads → Type 0) → t1 ≡ t0 → ((n : ℕ) → HoldsOfSomeReadsOfTree t1 (P n)) → (n : ℕ) → HoldsOfSomeReadsOfTree t0 (P n)
+told_as t0 t1 P e h n = let Q : List TreeState → Type 0 = λ t. HoldsOfSomeReadsOfTree t (P n) in subst Q e (h n)

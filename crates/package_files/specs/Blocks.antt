@@ -7,12 +7,12 @@ use Rattle.std.specs.List.{flat_map}
 use Rattle.adb_block.specs.Written.{block_bytes, head_bytes}
 use Rattle.adb_block.specs.declared.block.BlockKind.TheVariants as Kinds
 use Rattle.adb_sound.specs.pkg_core.Contents.{Contents}
-use Rattle.adb_sound.specs.Container.{contents_piece}
+use Rattle.adb_sound.specs.Container.{block_of_contents}
 
 -- the bytes of the block with the contents of one file: header, two positions, the bytes of the file, and
 -- padding
 abbrev pub contents_block : Contents → List ℕ
-contents_block contents = block_bytes (contents_piece contents)
+contents_block contents = block_bytes (block_of_contents contents)
 
 -- the bytes of the blocks with these contents, one after the other
 abbrev pub contents_blocks : List Contents → List ℕ

@@ -40,17 +40,18 @@ folders_above path = [] ∷ prefixes_before_slashes path
 -- the sorted list `x ∷ xs` with a name inserted, given how the name compares with `x` (the first
 -- argument). A name that the list already has is not inserted again. `further` is the list `xs` with the
 -- name inserted
-abbrev pub with_folder_inserted_by_order :
+abbrev pub with_folder_inserted_by_cmp_with_first :
     Ordering → List ℕ → List ℕ → List (List ℕ) → List (List ℕ) → List (List ℕ)
-with_folder_inserted_by_order Less name x xs further = name ∷ x ∷ xs
-with_folder_inserted_by_order Equal name x xs further = x ∷ xs
-with_folder_inserted_by_order Greater name x xs further = x ∷ further
+with_folder_inserted_by_cmp_with_first Less name x xs further = name ∷ x ∷ xs
+with_folder_inserted_by_cmp_with_first Equal name x xs further = x ∷ xs
+with_folder_inserted_by_cmp_with_first Greater name x xs further = x ∷ further
 
 -- a sorted list of names with this name inserted, unless the list has it already
 abbrev pub with_folder_inserted : List ℕ → List (List ℕ) → List (List ℕ)
 with_folder_inserted name [] = name ∷ []
 with_folder_inserted name (x ∷ xs) =
-    with_folder_inserted_by_order (slice_cmp nat_cmp name x) name x xs (with_folder_inserted name xs)
+    with_folder_inserted_by_cmp_with_first (slice_cmp nat_cmp name x) name x xs
+    (with_folder_inserted name xs)
 
 -- the sorted list `so_far` with the names of the other list inserted, one by one
 abbrev pub with_folders_inserted : List (List ℕ) → List (List ℕ) → List (List ℕ)

@@ -8,7 +8,7 @@ use Rattle.sha2.specs.Sha256.{sha256}
 use Rattle.adb_view.specs.Plain.{Plain, Plains, null, int, none, more, blob_or_null, array_or_null, trimmed_object_or_null}
 use Rattle.adb_sound.specs.pkg_core.Contents.{Contents}
 use Rattle.command_core.specs.Values.{script_types}
-use Rattle.make_info.specs.Values.{number_value, plains_of_list, size_value}
+use Rattle.make_info.specs.Values.{number_or_null, plains_of_list, size_or_null_if_zero}
 use Rattle.package_files.specs.declared.file.FileKind.{FileKind}
 use Rattle.package_files.specs.declared.file.FileKind.TheVariants.{Link, Regular}
 
@@ -91,7 +91,7 @@ FOLDER_MODE = 7 * 8 ^ 2 + 5 * 8 + 5
 -- out), hash and target
 abbrev pub file_fields : List ℕ → FileKind → Plains
 file_fields name kind =
-    more (blob_or_null name) (more (access_value FILE_MODE) (more (size_value (size_of_kind kind))
+    more (blob_or_null name) (more (access_value FILE_MODE) (more (size_or_null_if_zero (size_of_kind kind))
     (more null (more (blob_or_null (hash_of_kind kind))
     (more (blob_or_null (target_of_kind kind)) none)))))
 
@@ -151,7 +151,7 @@ abbrev pub package_fields : Plain → List Plain → List Script → List (List 
 package_fields info paths scripts triggers priority =
     more info (more (array_or_null (plains_of_list paths)) (more (value_of_scripts scripts)
     (more (array_or_null (plains_of_list (map blob_or_null triggers)))
-    (more (number_value priority) none))))
+    (more (number_or_null priority) none))))
 
 -- the value of a package with these five parts
 abbrev pub package_with : Plain → List Plain → List Script → List (List ℕ) → Option ℕ → Plain

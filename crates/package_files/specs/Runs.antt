@@ -10,16 +10,16 @@ use Rattle.make_info.specs.declared.fault.MakeFault.TheVariants.{Disk, Memory}
 
 -- if the history of the tree is observable, each read finds the file that the tree has under the name in
 -- its newest state
-abbrev pub AreReadsOfTree : List TreeState → Reads → Type 0
-AreReadsOfTree history read =
+abbrev pub AreReadsOfTreeIfObservable : List TreeState → Reads → Type 0
+AreReadsOfTreeIfObservable history read =
     IfObservable history (λ v. (n : ℕ) (name : List ℕ) → read n name ≡ files_of v name)
 
 -- `P` holds of some reads; if the history of the tree is observable, these are reads of the tree
-pub record IsExplainedBySomeReads (history : List TreeState) (P : Reads → Type 0) : Type 0 where
+pub record HoldsOfSomeReadsOfTree (history : List TreeState) (P : Reads → Type 0) : Type 0 where
   -- the reads
   pub read : Reads
   -- if the history is observable, they are reads of the tree
-  pub observed : AreReadsOfTree history read
+  pub observed : AreReadsOfTreeIfObservable history read
   -- the property P holds of them
   pub is : P read
 

@@ -12,7 +12,7 @@ ghost use Rattle.package_files.specs.BorrowedNames.{listings_of};
 ghost use Rattle.package_files.specs.Folders.{folder_listings_of};
 ghost use Rattle.package_files.specs.Package.{has_contents};
 ghost use Rattle.package_files.specs.Packed.{IsPackedFile, ArePackedFiles, IsPackedFolder, IsPacking};
-ghost use Rattle.package_files.specs.Runs.{AgreesOrIsFault, IsExplainedBySomeReads};
+ghost use Rattle.package_files.specs.Runs.{AgreesOrIsFault, HoldsOfSomeReadsOfTree};
 ghost use Rattle.package_files.specs.Sources.{found_bytes_or_missing, source_file_read_at, sources_at_place_from_read, source_folder_read_at, source_folders_at_place_from_read};
 ghost use Rattle.std.specs.Option.{option_map};
 ghost use Rattle.std.specs.Prelude.{◌≡◌, ◌++◌, ◌≤◌, ◌-◌, length, take, drop, replicate, OnOk, IfOk, IfSome, [], ◌∷◌, ℕ, map, true, false};
@@ -119,7 +119,7 @@ pub fn pack_names<'a, T: Tree>(
         (T.counts tree.old) (T.counts tree.new) result }
     // For each number `n` of the first read, some results of reads give this result. If the tree is
     // observable, the reads find its files.
-    ensures read { (n : ℕ) → IsExplainedBySomeReads (T.history tree.old) (λ read.
+    ensures read { (n : ℕ) → HoldsOfSomeReadsOfTree (T.history tree.old) (λ read.
         AgreesOrIsFault IsPacking result (source_folders_at_place_from_read place read n
         (folder_listings_of dir.now names.now))) }
 {
@@ -145,7 +145,7 @@ fn pack_folders<'a, T: Tree>(
         (T.counts tree.old) (T.counts tree.new) result }
     // For each number `n` of the first read, some results of reads give this result. If the tree is
     // observable, the reads find its files.
-    ensures read { (n : ℕ) → IsExplainedBySomeReads (T.history tree.old) (λ read.
+    ensures read { (n : ℕ) → HoldsOfSomeReadsOfTree (T.history tree.old) (λ read.
         AgreesOrIsFault IsPacking result (source_folders_at_place_from_read place read n
         (listings_of folders.now files.now))) }
 {
@@ -194,7 +194,7 @@ fn pack_folder<'a, T: Tree>(
         (T.counts tree.old) (T.counts tree.new) result }
     // For each number `n` of the first read, some results of reads give this result. If the tree is
     // observable, the reads find its files.
-    ensures read { (n : ℕ) → IsExplainedBySomeReads (T.history tree.old) (λ read.
+    ensures read { (n : ℕ) → HoldsOfSomeReadsOfTree (T.history tree.old) (λ read.
         AgreesOrIsFault (IsPackedFolder position blocks.old.items blocks.new.items) result
         (source_folder_read_at place read n (record {
           name = name.now;
@@ -221,7 +221,7 @@ fn pack_files<'a, T: Tree>(
         (T.counts tree.old) (T.counts tree.new) result }
     // For each number `n` of the first read, some results of reads give this result. If the tree is
     // observable, the reads find its files.
-    ensures read { (n : ℕ) → IsExplainedBySomeReads (T.history tree.old) (λ read.
+    ensures read { (n : ℕ) → HoldsOfSomeReadsOfTree (T.history tree.old) (λ read.
         AgreesOrIsFault (ArePackedFiles folder blocks.old.items blocks.new.items) result
         (sources_at_place_from_read place read n (map (λ name. name.now) names.now))) }
 {
@@ -256,7 +256,7 @@ fn pack_file<'a, T: Tree>(
         (T.counts tree.old) (T.counts tree.new) result }
     // For each number `n` of the first read, some results of reads give this result. If the tree is
     // observable, the reads find its files.
-    ensures read { (n : ℕ) → IsExplainedBySomeReads (T.history tree.old) (λ read.
+    ensures read { (n : ℕ) → HoldsOfSomeReadsOfTree (T.history tree.old) (λ read.
         AgreesOrIsFault
         (IsPackedFile position.0 position.1 blocks.old.items blocks.new.items) result
         (source_file_read_at place read n name.now)) }
@@ -288,7 +288,7 @@ fn read_listed<T: Tree>(
         blocks.new.items at) }
     // For each number `n` of the first read, some results of reads give this result. If the tree is
     // observable, the reads find its files.
-    ensures read { (n : ℕ) → IsExplainedBySomeReads (T.history tree.old) (λ read.
+    ensures read { (n : ℕ) → HoldsOfSomeReadsOfTree (T.history tree.old) (λ read.
         AgreesOrIsFault (λ at bytes. bytes ≡ drop at blocks.new.items) result
         (found_bytes_or_missing place (read n name.now))) }
 {
@@ -341,7 +341,7 @@ pub fn read_file<T: Tree>(
         (T.counts tree.old) (T.counts tree.new) result }
     // For each number `n` of the first read, some results of reads give this result. If the tree is
     // observable, the reads find its files.
-    ensures read { (n : ℕ) → IsExplainedBySomeReads (T.history tree.old) (λ read.
+    ensures read { (n : ℕ) → HoldsOfSomeReadsOfTree (T.history tree.old) (λ read.
         AgreesOrIsFault (λ bytes found. found ≡ bytes.items) result
         (found_bytes_or_missing place (read n name.now))) }
 {

@@ -4,8 +4,8 @@ use Rattle.std.specs.Prelude.{IfSome, OnOk}
 use Rattle.std.proofs.lemmas.List.{drop-drop, drop-take}
 use Rattle.base_core.specs.declared.Cause.{Cause}
 use Rattle.base_core.specs.declared.Cause.TheVariants.{BlockOrder}
-use Rattle.adb_block.specs.Framing.{HeadFields, block, failed, block_head_fields, kind_of_number, next_step, step_at_end, step_by_head, step_by_order, step_by_size}
-use Rattle.adb_block.specs.Frames.{IsFrameOrEndOfStep, framed_piece, raw_size}
+use Rattle.adb_block.specs.Framing.{HeadFields, block, failed, block_head_fields, kind_of_number, next_block_result_at_offset, next_block_result_at_file_end, next_block_result_by_header, next_block_result_by_kind_order, next_block_result_by_size}
+use Rattle.adb_block.specs.Frames.{IsFrameOrEndOfBlockResult, framed_piece, raw_size}
 use Rattle.adb_block.specs.Piece.{Piece, may_be_next_kind, least_payload_len, padding_of}
 use Rattle.adb_block.specs.Reading.{block_stream_from}
 use Rattle.adb_block.specs.declared.block.BlockKind.{BlockKind}

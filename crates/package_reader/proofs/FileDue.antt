@@ -10,7 +10,7 @@ use Rattle.adb_view.specs.Plain.{Plain}
 use Rattle.pkg_core.specs.adb_fields.Repeated.{files_in, folders_in}
 use Rattle.pkg_core.specs.adb_schema.Texts.{is_file_with_contents}
 use Rattle.adb_view.specs.Values.{entry_in, int_in, text_in}
-use Rattle.pkg_core.specs.Contents.{ExpectedFile, expected_at, expected_files_of_package, expected_files_of_folder, expected_files_of_folders, hash_fault}
+use Rattle.pkg_core.specs.Contents.{ExpectedFile, expected_file_if_with_contents, expected_files_of_package, expected_files_of_folder, expected_files_of_folders, hash_fault}
 use Rattle.pkg_core.specs.Opened.{expected_file_at, expected_of, is_expected_at}
 use Rattle.pkg_core.specs.declared.walk.Wanted.{Wanted}
 use Rattle.pkg_core.specs.Pieces.{PiecesRead, no_piece, pieces_of_one_file, refusal, piece_count_before_last}
@@ -27,7 +27,7 @@ more_sizes : (es others : List ExpectedFile) → HaveSizes es → HaveSizes othe
 more_sizes [] others a b = b
 more_sizes (e ∷ es) others a b = (a.0, more_sizes es others a.1 b)
 
-file_sizes : (folder i : ℕ) (file : Plain) → HaveSizes (expected_at folder i file)
+file_sizes : (folder i : ℕ) (file : Plain) → HaveSizes (expected_file_if_with_contents folder i file)
 file_sizes folder i file = by (is_file_with_contents file) refl
   where
     by : (b : Bool) → is_file_with_contents file ≡ b → HaveSizes (cond b (record { folder = folder; file = i; size = int_in (entry_in file 2); hash = text_in (entry_in file 4) } ∷ []) [])
@@ -36,7 +36,7 @@ file_sizes folder i file = by (is_file_with_contents file) refl
 
 files_sizes : (folder i : ℕ) (files : List Plain) → HaveSizes (expected_files_of_folder folder i files)
 files_sizes folder i [] = tt
-files_sizes folder i (file ∷ files) = more_sizes (expected_at folder i file) (expected_files_of_folder folder (i + 1) files) (file_sizes folder i file) (files_sizes folder (i + 1) files)
+files_sizes folder i (file ∷ files) = more_sizes (expected_file_if_with_contents folder i file) (expected_files_of_folder folder (i + 1) files) (file_sizes folder i file) (files_sizes folder (i + 1) files)
 
 folders_sizes : (i : ℕ) (folders : List Plain) → HaveSizes (expected_files_of_folders i folders)
 folders_sizes i [] = tt

@@ -1,7 +1,7 @@
 -- The parts of a block that were read, and the result for a block. The rules are in `docs/formats.md`,
 -- "The other blocks"; the framing of a block in "Container". Serves the contracts of `block`.
 use Rattle.std.specs.Prelude.{◌≡◌, ◌≤◌, ◌<◌, ℕ, ◌+◌, min, List, [], ◌∷◌, length, drop, Option, Some, None, Result, Ok, Err}
-use Rattle.adb_block.specs.Frames.{IsFrameOrEndOfStep, raw_size}
+use Rattle.adb_block.specs.Frames.{IsFrameOrEndOfBlockResult, raw_size}
 use Rattle.adb_block.specs.declared.block.Frame.{Frame}
 use Rattle.pkg_core.specs.Contents.{POSITIONS_LEN}
 use Rattle.pkg_core.specs.Opened.{expected_of, files_left_in_walk}
@@ -39,7 +39,7 @@ AreSeenWithinPositions (Some frame) seen = seen ≤ frame.head_len + min POSITIO
 -- and its positions. Or the first failed test
 abbrev pub IsBlockRead : BlockPlace → List ℕ → Result BlockRead PieceFault → Type 0
 IsBlockRead place file (Ok read) =
-    IsFrameOrEndOfStep (Ok read.framing) (drop place.at file) (block_step_at place file)
+    IsFrameOrEndOfBlockResult (Ok read.framing) (drop place.at file) (block_step_at place file)
     × HasPositions read.framing read.positions place file
 IsBlockRead place file (Err (Bad c)) = pieces_at place file ≡ refusal c
 IsBlockRead place file (Err Disk) = Unit {0}

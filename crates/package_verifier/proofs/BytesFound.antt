@@ -4,13 +4,13 @@ use Rattle.std.specs.List.{find}
 use Rattle.base_core.specs.declared.cause.Cause.{Cause}
 use Rattle.adb_block.specs.Header.{schema_of_header}
 use Rattle.adb_block.specs.Reading.{Reading, done, fault, more, block_stream_from}
-use Rattle.adb_block.specs.ReaderPosition.{first_block_position}
+use Rattle.adb_block.specs.ReaderPosition.{first_block_position_of_schema_and_file}
 use Rattle.adb_view.specs.Plain.{Plain}
 use Rattle.base_core.proofs.Causes.{second_none}
 use Rattle.adb_view.specs.declared.tables.Which.TheVariants.{Package}
-use Rattle.package_reader.specs.adb_schema.Soundness.{blocks_fault, file_fault_after_header, first_block_payload, payload_after_header, payload_fault, payload_in, root_value, schema_fault}
+use Rattle.package_reader.specs.adb_schema.Soundness.{blocks_fault, file_fault_after_header, first_block_payload, payload_after_header, payload_fault, payload_in, root_value_of_payload, schema_fault}
 use Rattle.package_reader.specs.pkg_core.Contents.{Contents, ExpectedFile, bytes_of_file, bytes_or_none, contents_in, expected_files_of_package, hash_fault, is_contents_of_file}
-use Rattle.package_reader.specs.pkg_core.GoodContents.{AreContentsOf, IsContentsOf}
+use Rattle.package_reader.specs.pkg_core.GoodContents.{AreContentsOfExpectedFiles, IsContentsOfExpectedFile}
 use Rattle.package_reader.specs.pkg_core.Opened.{expected_file_at, is_expected_at}
 use Rattle.package_reader.specs.pkg_core.Whole.{fault_of_further_blocks, files_after_first_block, files_after_header, files_read_from_package, package_fault, container_fault_of_table}
 use Rattle.package_reader.proofs.pkg_core.Given.{files_right, nothing_expected}
@@ -21,16 +21,16 @@ use Rattle.package_verifier.proofs.FileOrder.{expected_in_order, placed_in_order
 
 -- ---- a package without fault has the contents of each file
 
-blocks_right : (r : Reading) → blocks_fault (fault_of_further_blocks Package) Package r ≡ None → AreContentsOf (expected_files_of_package (root_value Package (first_block_payload r))) (contents_in (files_after_first_block r))
-blocks_right done h = let A : List ExpectedFile → Type 0 = λ es. AreContentsOf es [] in subst A (sym nothing_expected) tt
+blocks_right : (r : Reading) → blocks_fault (fault_of_further_blocks Package) Package r ≡ None → AreContentsOfExpectedFiles (expected_files_of_package (root_value_of_payload Package (first_block_payload r))) (contents_in (files_after_first_block r))
+blocks_right done h = let A : List ExpectedFile → Type 0 = λ es. AreContentsOfExpectedFiles es [] in subst A (sym nothing_expected) tt
 blocks_right (fault c) h = (cc)
-blocks_right (more b at r) h = files_right (expected_files_of_package (root_value Package b.payload)) r (second_none (payload_fault Package b.payload) _ h)
+blocks_right (more b at r) h = files_right (expected_files_of_package (root_value_of_payload Package b.payload)) r (second_none (payload_fault Package b.payload) _ h)
 
-header_right : (file : List ℕ) (h : Result ℕ Cause) → file_fault_after_header (fault_of_further_blocks Package) Package file h ≡ None → AreContentsOf (expected_files_of_package (root_value Package (payload_after_header file h))) (contents_in (files_after_header file h))
-header_right file (Ok schema) e = blocks_right (block_stream_from (first_block_position schema file)) (second_none (schema_fault Package schema) _ e)
+header_right : (file : List ℕ) (h : Result ℕ Cause) → file_fault_after_header (fault_of_further_blocks Package) Package file h ≡ None → AreContentsOfExpectedFiles (expected_files_of_package (root_value_of_payload Package (payload_after_header file h))) (contents_in (files_after_header file h))
+header_right file (Ok schema) e = blocks_right (block_stream_from (first_block_position_of_schema_and_file schema file)) (second_none (schema_fault Package schema) _ e)
 header_right file (Err c) e = (cc)
 
-pub package_right : (file : List ℕ) → package_fault file ≡ None → AreContentsOf (expected_files_of_package (root_value Package (payload_in file))) (contents_in (files_read_from_package file))
+pub package_right : (file : List ℕ) → package_fault file ≡ None → AreContentsOfExpectedFiles (expected_files_of_package (root_value_of_payload Package (payload_in file))) (contents_in (files_read_from_package file))
 unfolding container_fault_of_table files_read_from_package payload_in
 package_right file h = header_right file (schema_of_header file) h
 
@@ -46,9 +46,9 @@ record IsFoundThere (pkg : List ℕ) (folder file at : ℕ) (cs : List Contents)
   found : find (is_contents_of_file folder file) cs ≡ Some contents
   due : expected_file_at folder file es ≡ Some expected
   located : HasBytesAtOffset pkg at contents.bytes
-  of : IsContentsOf expected contents
+  of : IsContentsOfExpectedFile expected contents
 
-found_there : (pkg : List ℕ) (folder file at : ℕ) (ps : List FilePlace) (cs : List Contents) (es : List ExpectedFile) → AreAtPlaces pkg ps cs → AreContentsOf es cs → Some at ≡ offset_of_file folder file ps → IsFoundThere pkg folder file at cs es
+found_there : (pkg : List ℕ) (folder file at : ℕ) (ps : List FilePlace) (cs : List Contents) (es : List ExpectedFile) → AreAtPlaces pkg ps cs → AreContentsOfExpectedFiles es cs → Some at ≡ offset_of_file folder file ps → IsFoundThere pkg folder file at cs es
 found_there pkg folder file at [] cs es stand are is = absurd (cc)
 found_there pkg folder file at (p ∷ ps) [] es stand are is = absurd stand
 found_there pkg folder file at (p ∷ ps) (c ∷ cs) [] stand are is = absurd are
@@ -94,7 +94,7 @@ off_there pkg folder file (p ∷ ps) (c ∷ cs) stand is =
 abbrev pub IsReadFrom : (List ℕ → List ℕ → Type 0) → ℕ → Plain → ℕ → ℕ → Option ℕ → Type 0
 IsReadFrom Reads len value folder file at = (pkg bytes : List ℕ) (e : ExpectedFile) (start : ℕ) → length pkg ≡ len → at ≡ Some start → expected_file_at folder file (expected_files_of_package value) ≡ Some e → HasBytesAtOffset pkg start bytes → length bytes ≡ e.size → hash_fault e.hash bytes ≡ None → Reads pkg bytes
 
-none_due : (folder file : ℕ) (cs : List Contents) (es : List ExpectedFile) → AreContentsOf es cs → find (is_contents_of_file folder file) cs ≡ None → expected_file_at folder file es ≡ None
+none_due : (folder file : ℕ) (cs : List Contents) (es : List ExpectedFile) → AreContentsOfExpectedFiles es cs → find (is_contents_of_file folder file) cs ≡ None → expected_file_at folder file es ≡ None
 none_due folder file [] [] are is = refl
 none_due folder file [] (e ∷ es) are is = absurd are
 none_due folder file (c ∷ cs) [] are is = absurd are
@@ -105,7 +105,7 @@ none_due folder file (c ∷ cs) (e ∷ es) are is =
     by_test true t here others = absurd (let s : Some c ≡ None = here in (cc))
     by_test false t here others = ap (λ (b : Bool). cond b (Some e) (find (is_expected_at folder file) es)) t ∙ others here
 
-pub gives_bytes : (Reads : List ℕ → List ℕ → Type 0) (due : Option ExpectedFile) (len folder file : ℕ) (at : Option ℕ) (value : Plain) (pkg : List ℕ) (places : List FilePlace) → package_fault pkg ≡ None → value ≡ root_value Package (payload_in pkg) → length pkg ≡ len → AreAtPlaces pkg places (contents_in (files_read_from_package pkg))
+pub gives_bytes : (Reads : List ℕ → List ℕ → Type 0) (due : Option ExpectedFile) (len folder file : ℕ) (at : Option ℕ) (value : Plain) (pkg : List ℕ) (places : List FilePlace) → package_fault pkg ≡ None → value ≡ root_value_of_payload Package (payload_in pkg) → length pkg ≡ len → AreAtPlaces pkg places (contents_in (files_read_from_package pkg))
     → (AreInFileOrder places → at ≡ offset_of_file folder file places) → due ≡ expected_file_at folder file (expected_files_of_package value) → IsReadFrom Reads len value folder file at → ((pkg : List ℕ) → due ≡ None → Reads pkg [])
     → Reads pkg (bytes_of_file folder file (contents_in (files_read_from_package pkg)))
 gives_bytes Reads due len folder file at value pkg places sound same long stand offset is reads empty = by at refl
@@ -113,8 +113,8 @@ gives_bytes Reads due len folder file at value pkg places sound same long stand 
     cs : List Contents
     cs = contents_in (files_read_from_package pkg)
 
-    are : AreContentsOf (expected_files_of_package value) cs
-    are = subst (λ (v : Plain). AreContentsOf (expected_files_of_package v) cs) (sym same) (package_right pkg sound)
+    are : AreContentsOfExpectedFiles (expected_files_of_package value) cs
+    are = subst (λ (v : Plain). AreContentsOfExpectedFiles (expected_files_of_package v) cs) (sym same) (package_right pkg sound)
 
     order : AreInFileOrder places
     order = placed_in_order pkg places cs (expected_files_of_package value) stand are (expected_in_order value)

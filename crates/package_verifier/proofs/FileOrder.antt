@@ -8,8 +8,8 @@ use Rattle.adb_view.specs.Plain.{Plain}
 use Rattle.package_reader.specs.adb_fields.Repeated.{files_in, folders_in}
 use Rattle.package_reader.specs.adb_schema.Texts.{is_file_with_contents}
 use Rattle.adb_view.specs.Values.{entry_in, int_in, text_in}
-use Rattle.package_reader.specs.pkg_core.Contents.{Contents, ExpectedFile, expected_at, expected_files_of_package, expected_files_of_folder, expected_files_of_folders}
-use Rattle.package_reader.specs.pkg_core.GoodContents.{AreContentsOf, IsContentsOf}
+use Rattle.package_reader.specs.pkg_core.Contents.{Contents, ExpectedFile, expected_file_if_with_contents, expected_files_of_package, expected_files_of_folder, expected_files_of_folders}
+use Rattle.package_reader.specs.pkg_core.GoodContents.{AreContentsOfExpectedFiles, IsContentsOfExpectedFile}
 use Rattle.package_verifier.specs.Places.{AreAtPlaces, AreInFileOrder, ArePlacedAfter, IsBeforeFile, is_before_file, is_place_of, offset_of_file}
 use Rattle.package_verifier.specs.declared.places.FilePlace.{FilePlace}
 
@@ -152,7 +152,7 @@ one_after false a b e before = tt
 files_after_first_block : (a b folder i : ℕ) (files : List Plain) → ((j : ℕ) → i ≤ j → IsBeforeFile a b folder j) → AreExpectedAfter a b (expected_files_of_folder folder i files)
 files_after_first_block a b folder i [] before = tt
 files_after_first_block a b folder i (f ∷ fs) before =
-    after_joined a b (expected_at folder i f) (expected_files_of_folder folder (i + 1) fs) (one_after (is_file_with_contents f) a b (expected_file folder i f) (before i (omega arith)))
+    after_joined a b (expected_file_if_with_contents folder i f) (expected_files_of_folder folder (i + 1) fs) (one_after (is_file_with_contents f) a b (expected_file folder i f) (before i (omega arith)))
     (files_after_first_block a b folder (i + 1) fs (λ j le. before j (omega (arith, le))))
 
 folders_behind : (a b i : ℕ) (folders : List Plain) → a < i → AreExpectedAfter a b (expected_files_of_folders i folders)
@@ -169,7 +169,7 @@ files_in_order : (folder i : ℕ) (files : List Plain) (rest : List ExpectedFile
 files_in_order folder i [] rest behind order = order
 files_in_order folder i (f ∷ fs) rest behind order =
     let others : List ExpectedFile = expected_files_of_folder folder (i + 1) fs in
-    subst AreExpectedInOrder (sym (append_assoc (expected_at folder i f) others rest))
+    subst AreExpectedInOrder (sym (append_assoc (expected_file_if_with_contents folder i f) others rest))
     (one_in_order (is_file_with_contents f) (expected_file folder i f) (others ++ rest)
     (after_joined folder i others rest (files_after_first_block folder i folder (i + 1) fs (λ j le. inr (refl, omega (arith, le)))) (behind i))
     (files_in_order folder (i + 1) fs rest behind order))
@@ -183,7 +183,7 @@ expected_in_order v = folders_in_order 1 (folders_in v)
 
 -- ---- and so are their places
 
-placed_after : (pkg : List ℕ) (a b : ℕ) (ps : List FilePlace) (cs : List Contents) (es : List ExpectedFile) → AreAtPlaces pkg ps cs → AreContentsOf es cs → AreExpectedAfter a b es → ArePlacedAfter a b ps
+placed_after : (pkg : List ℕ) (a b : ℕ) (ps : List FilePlace) (cs : List Contents) (es : List ExpectedFile) → AreAtPlaces pkg ps cs → AreContentsOfExpectedFiles es cs → AreExpectedAfter a b es → ArePlacedAfter a b ps
 placed_after pkg a b [] cs es at are behind = tt
 placed_after pkg a b (p ∷ ps) [] es at are behind = absurd at
 placed_after pkg a b (p ∷ ps) (c ∷ cs) [] at are behind = absurd are
@@ -192,7 +192,7 @@ placed_after pkg a b (p ∷ ps) (c ∷ cs) (e ∷ es) at are behind = (
   placed_after pkg a b ps cs es at.1 are.1 behind.1,
 )
 
-pub placed_in_order : (pkg : List ℕ) (ps : List FilePlace) (cs : List Contents) (es : List ExpectedFile) → AreAtPlaces pkg ps cs → AreContentsOf es cs → AreExpectedInOrder es → AreInFileOrder ps
+pub placed_in_order : (pkg : List ℕ) (ps : List FilePlace) (cs : List Contents) (es : List ExpectedFile) → AreAtPlaces pkg ps cs → AreContentsOfExpectedFiles es cs → AreExpectedInOrder es → AreInFileOrder ps
 placed_in_order pkg [] cs es at are order = tt
 placed_in_order pkg (p ∷ ps) [] es at are order = absurd at
 placed_in_order pkg (p ∷ ps) (c ∷ cs) [] at are order = absurd are

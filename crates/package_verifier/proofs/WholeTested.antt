@@ -12,10 +12,10 @@ use Rattle.base_core.specs.declared.cause.Cause.TheVariants.{WrongSchema}
 use Rattle.base_core.specs.declared.tree.TreeFault.{TreeFault}
 use Rattle.adb_block.specs.Header.{schema_of_header}
 use Rattle.adb_block.specs.Reading.{Reading, block_stream_from}
-use Rattle.adb_block.specs.ReaderPosition.{first_block_position}
+use Rattle.adb_block.specs.ReaderPosition.{first_block_position_of_schema_and_file}
 use Rattle.adb_view.specs.Plain.{Plain}
 use Rattle.adb_view.specs.declared.tables.Which.TheVariants.{Package}
-use Rattle.package_reader.specs.adb_schema.Soundness.{blocks_fault, file_fault_after_header, payload_fault, payload_in, root_value}
+use Rattle.package_reader.specs.adb_schema.Soundness.{blocks_fault, file_fault_after_header, payload_fault, payload_in, root_value_of_payload}
 use Rattle.package_reader.specs.adb_schema.declared.read.TheConstants.{PACKAGE_WORD}
 use Rattle.package_reader.specs.pkg_core.Contents.{FilesRead, contents_in, expected_files_of_package, fault_of_files_read, files_read_from_blocks}
 use Rattle.package_reader.specs.pkg_core.Refusals.{IsFaultOf}
@@ -47,7 +47,7 @@ use Rattle.package_verifier.specs.declared.test.PackageTest.TheVariants as Says
 package_by_front : (pkg : List ℕ) (front : Front) → IsFrontOf PACKAGE_WORD pkg front → package_fault pkg ≡ option_or (payload_fault Package (front_payload front)) (fault_of_files_read (files_read_from_package pkg))
 package_by_front pkg front is = package_steps pkg ∙ ap (λ (o : Option Cause). option_or o (fault_of_files_read (files_read_from_package pkg))) (values_alike pkg front is)
 
-files_by_front : (pkg : List ℕ) (front : Front) → IsFrontOf PACKAGE_WORD pkg front → files_read_from_package pkg ≡ files_read_from_blocks (expected_files_of_package (root_value Package (front_payload front))) (block_stream_from (position_after_front front pkg))
+files_by_front : (pkg : List ℕ) (front : Front) → IsFrontOf PACKAGE_WORD pkg front → files_read_from_package pkg ≡ files_read_from_blocks (expected_files_of_package (root_value_of_payload Package (front_payload front))) (block_stream_from (position_after_front front pkg))
 unfolding files_read_from_package
 files_by_front pkg front is = ap (files_after_header pkg) is.header ∙ ap files_after_first_block is.blocks
 
@@ -75,7 +75,7 @@ whole_by_values h name front cause first why same is within of =
           ∙ ap (λ (o : Option Cause). option_or o (fault_of_files_read (files_read_from_package pkg))) (bad ∙ ap (λ (c : Cause). Some c) (sym same)),
     )
 
-pub whole_by_contents : (h : List TreeState) (name : List ℕ) (front : Front) (value : Plain) (result : Result FilesTest TreeFault) → payload_fault Package (front_payload front) ≡ None → value ≡ root_value Package (front_payload front)
+pub whole_by_contents : (h : List TreeState) (name : List ℕ) (front : Front) (value : Plain) (result : Result FilesTest TreeFault) → payload_fault Package (front_payload front) ≡ None → value ≡ root_value_of_payload Package (front_payload front)
     → IfOk result (λ test. (seen : List ℕ) × IsSeenIn h name (front_file_len front) (front_end front) seen × ((pkg : List ℕ) → length pkg ≡ front_file_len front → HasBytesAtOffset pkg (front_end front) seen → AreFilesTested (files_read_from_blocks (expected_files_of_package value) (block_stream_from (position_after_front front pkg))) pkg test))
     → IfOk result (IsWholeTold h name front)
 whole_by_contents h name front value (Err fault) sound is told = tt
@@ -134,7 +134,7 @@ container_by_header : (file : List ℕ) (header : Result ℕ Cause) (fault : Opt
 unfolding container_fault_of_table
 container_by_header file (Err c) fault other is told = told
 container_by_header file (Ok schema) fault other is told =
-    let same : PACKAGE_WORD ≡ schema = eqb-true PACKAGE_WORD schema (by_schema (PACKAGE_WORD == schema) schema (block_stream_from (first_block_position schema file)) fault other told) in
+    let same : PACKAGE_WORD ≡ schema = eqb-true PACKAGE_WORD schema (by_schema (PACKAGE_WORD == schema) schema (block_stream_from (first_block_position_of_schema_and_file schema file)) fault other told) in
     ap (λ (n : ℕ). container_fault_after_header file (Ok n)) (sym same)
     ∙ (ap (file_fault_after_header (fault_of_further_blocks Package) Package file) (is ∙ ap (λ (n : ℕ). Ok n) (sym same))
     ∙ subst (λ (n : ℕ). file_fault_after_header (fault_of_further_blocks Package) Package file (Ok n) ≡ fault) (sym same) told)
@@ -161,7 +161,7 @@ is_tested name pkg front tested test named fronted is of whole =
     record {
       named = named;
       sound = sound.0;
-      value = ap (root_value Package) payload;
+      value = ap (root_value_of_payload Package) payload;
       id = ap sha256 payload;
       long = ap front_file_len fronted ∙ sym of.long;
       payload = payload;

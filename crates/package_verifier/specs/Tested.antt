@@ -3,7 +3,7 @@
 use Rattle.std.specs.Prelude.{◌≡◌, ℕ, List, length, Option, Some, None}
 use Rattle.sha2.specs.Sha256.{sha256}
 use Rattle.adb_view.specs.Plain.{Plain}
-use Rattle.package_reader.specs.adb_schema.Soundness.{payload_in, root_value}
+use Rattle.package_reader.specs.adb_schema.Soundness.{payload_in, root_value_of_payload}
 use Rattle.adb_view.specs.declared.tables.Which.TheVariants.{Package}
 use Rattle.package_reader.specs.pkg_core.Contents.{contents_in}
 use Rattle.package_reader.specs.pkg_core.Whole.{files_read_from_package, package_fault, package_id}
@@ -29,7 +29,7 @@ tested_payload pkg = front_payload pkg.front
 
 -- the plain value of a tested package
 abbrev pub tested_value : TestedPackage → Plain
-tested_value pkg = root_value Package (tested_payload pkg)
+tested_value pkg = root_value_of_payload Package (tested_payload pkg)
 
 -- the id of a tested package: the SHA-256 of the bytes of its value
 abbrev pub tested_id : TestedPackage → List ℕ
@@ -44,7 +44,7 @@ pub record IsTestedOf (name file : List ℕ) (pkg : TestedPackage) : Type 0 wher
   -- no test of the file fails
   pub sound : package_fault file ≡ None
   -- the tested package has the value of the package in the file
-  pub value : tested_value pkg ≡ root_value Package (payload_in file)
+  pub value : tested_value pkg ≡ root_value_of_payload Package (payload_in file)
   -- the tested package has the id of the package in the file
   pub id : tested_id pkg ≡ package_id file
   -- the tested package has the length of the file; this is needed to read its files again

@@ -5,7 +5,7 @@ use Rattle.std.specs.List.{find, list_any}
 use Rattle.std.proofs.lemmas.List.{take_all}
 use borrow.Author.Tests.{eqb-true}
 use Rattle.base_core.proofs.Numbers.{not_first}
-use Rattle.path_claims.specs.Contest.{beats_each, first_with_unbeaten_rival, rivals_of, winner, IsAsymmetric}
+use Rattle.path_claims.specs.Contest.{are_all_others_beaten_by, first_with_unbeaten_rival, rivals_of, member_beating_all_others, IsAsymmetric}
 use Rattle.path_claims.specs.LeftOver.{last_unbeaten_member}
 
 abbrev pub Among : ℕ → List ℕ → Type 0
@@ -38,14 +38,14 @@ none_found p (y ∷ ys) x h a = go (none_found p ys x) (p y) refl h a
     go rest false e q (inr r) = rest q r
 
 module _ (beats : ℕ → ℕ → Bool) (one_way : IsAsymmetric beats) where
-  beaten : (x : ℕ) (all : List ℕ) (y : ℕ) → beats_each beats all x ≡ true → Among y all → ((x == y) || beats x y) ≡ true
+  beaten : (x : ℕ) (all : List ℕ) (y : ℕ) → are_all_others_beaten_by beats all x ≡ true → Among y all → ((x == y) || beats x y) ≡ true
   beaten x [] y w h = absurd h
-  beaten x (z ∷ zs) y w (inl e) = subst (λ v. ((x == v) || beats x v) ≡ true) (sym e) (first ((x == z) || beats x z) (beats_each beats zs x) w)
+  beaten x (z ∷ zs) y w (inl e) = subst (λ v. ((x == v) || beats x v) ≡ true) (sym e) (first ((x == z) || beats x z) (are_all_others_beaten_by beats zs x) w)
     where
       first : (a b : Bool) → (a && b) ≡ true → a ≡ true
       first true b h = refl
       first false b h = absurd (true≢false (sym h))
-  beaten x (z ∷ zs) y w (inr h) = beaten x zs y (second ((x == z) || beats x z) (beats_each beats zs x) w) h
+  beaten x (z ∷ zs) y w (inr h) = beaten x zs y (second ((x == z) || beats x z) (are_all_others_beaten_by beats zs x) w) h
     where
       second : (a b : Bool) → (a && b) ≡ true → b ≡ true
       second true b h = h
@@ -62,7 +62,7 @@ module _ (beats : ℕ → ℕ → Bool) (one_way : IsAsymmetric beats) where
   not_itself x h = true≢false (sym h ∙ one_way x x h)
 
   -- a winner of all is never passed over
-  stays_left : (all : List ℕ) (x : ℕ) → beats_each beats all x ≡ true → (c : ℕ) (rest : List ℕ)
+  stays_left : (all : List ℕ) (x : ℕ) → are_all_others_beaten_by beats all x ≡ true → (c : ℕ) (rest : List ℕ)
       → ((y : ℕ) → Among y (c ∷ rest) → Among y all) → Among x (c ∷ rest) → last_unbeaten_member beats c rest ≡ x
   stays_left all x w c [] within (inl e) = sym e
   stays_left all x w c [] within (inr h) = absurd h
@@ -101,22 +101,22 @@ module _ (beats : ℕ → ℕ → Bool) (one_way : IsAsymmetric beats) where
 
   -- the one that is left is the winner if it wins, and else there is none
   winner_is : (c : ℕ) (rest : List ℕ)
-      → winner beats (c ∷ rest) ≡ (if beats_each beats (c ∷ rest) (last_unbeaten_member beats c rest) then Some (last_unbeaten_member beats c rest) else None)
-  unfolding winner
-  winner_is c rest = go (find (beats_each beats (c ∷ rest)) (c ∷ rest)) refl
+      → member_beating_all_others beats (c ∷ rest) ≡ (if are_all_others_beaten_by beats (c ∷ rest) (last_unbeaten_member beats c rest) then Some (last_unbeaten_member beats c rest) else None)
+  unfolding member_beating_all_others
+  winner_is c rest = go (find (are_all_others_beaten_by beats (c ∷ rest)) (c ∷ rest)) refl
     where
-      go : (o : Option ℕ) → find (beats_each beats (c ∷ rest)) (c ∷ rest) ≡ o → o ≡ (if beats_each beats (c ∷ rest) (last_unbeaten_member beats c rest) then Some (last_unbeaten_member beats c rest) else None)
-      go None e = sym (ap (λ b. if b then Some (last_unbeaten_member beats c rest) else None) (none_found (beats_each beats (c ∷ rest)) (c ∷ rest) (last_unbeaten_member beats c rest) e (left_among c rest)))
+      go : (o : Option ℕ) → find (are_all_others_beaten_by beats (c ∷ rest)) (c ∷ rest) ≡ o → o ≡ (if are_all_others_beaten_by beats (c ∷ rest) (last_unbeaten_member beats c rest) then Some (last_unbeaten_member beats c rest) else None)
+      go None e = sym (ap (λ b. if b then Some (last_unbeaten_member beats c rest) else None) (none_found (are_all_others_beaten_by beats (c ∷ rest)) (c ∷ rest) (last_unbeaten_member beats c rest) e (left_among c rest)))
       go (Some x) e =
-          let f = found (beats_each beats (c ∷ rest)) (c ∷ rest) x e in
+          let f = found (are_all_others_beaten_by beats (c ∷ rest)) (c ∷ rest) x e in
           let is : last_unbeaten_member beats c rest ≡ x = stays_left (c ∷ rest) x f.0 c rest (λ y a. a) f.1 in
-          sym (subst (λ l. (if beats_each beats (c ∷ rest) l then Some l else None) ≡ Some x) (sym is) (ap (λ b. if b then Some x else None) f.0))
+          sym (subst (λ l. (if are_all_others_beaten_by beats (c ∷ rest) l then Some l else None) ≡ Some x) (sym is) (ap (λ b. if b then Some x else None) f.0))
 
-  pub winner_by : (c : ℕ) (rest : List ℕ) (left : ℕ) (b : Bool) → left ≡ last_unbeaten_member beats c rest → b ≡ beats_each beats (c ∷ rest) left
-      → (if b then Some left else None) ≡ winner beats (c ∷ rest)
+  pub winner_by : (c : ℕ) (rest : List ℕ) (left : ℕ) (b : Bool) → left ≡ last_unbeaten_member beats c rest → b ≡ are_all_others_beaten_by beats (c ∷ rest) left
+      → (if b then Some left else None) ≡ member_beating_all_others beats (c ∷ rest)
   winner_by c rest left b l w =
       ap (λ x. if x then Some left else None) w
-      ∙ ((λ j. if beats_each beats (c ∷ rest) (l j) then Some (l j) else None) ∙ sym (winner_is c rest))
+      ∙ ((λ j. if are_all_others_beaten_by beats (c ∷ rest) (l j) then Some (l j) else None) ∙ sym (winner_is c rest))
 
 -- ---- no two owners
 
@@ -129,7 +129,7 @@ is_among (z ∷ zs) x h = go (x == z) refl (is_among zs x)
     go false e f = inr (f (sym (ap (λ b. b || list_any (λ z. x == z) zs) e) ∙ h))
 
 pub one_owner : (beats : ℕ → ℕ → Bool) → IsAsymmetric beats → (members : List ℕ) (x y : ℕ) → list_any (λ z. x == z) members ≡ true → list_any (λ z. y == z) members ≡ true
-    → beats_each beats members x ≡ true → beats_each beats members y ≡ true → x ≡ y
+    → are_all_others_beaten_by beats members x ≡ true → are_all_others_beaten_by beats members y ≡ true → x ≡ y
 one_owner beats w members x y h k p q =
     go (same_or_beats beats w x y (beaten beats w x members y p (is_among members y k))) (same_or_beats beats w y x (beaten beats w y members x q (is_among members x h)))
   where
@@ -140,14 +140,14 @@ one_owner beats w members x y h k p q =
 
 -- ---- over what is seen of a list
 
-pub none_wins : {X : Type 0} (beats : ℕ → ℕ → Bool) (f : X → ℕ) (xs : List X) → (length xs == 0) ≡ true → None ≡ winner beats (map f xs)
-unfolding winner
+pub none_wins : {X : Type 0} (beats : ℕ → ℕ → Bool) (f : X → ℕ) (xs : List X) → (length xs == 0) ≡ true → None ≡ member_beating_all_others beats (map f xs)
+unfolding member_beating_all_others
 none_wins beats f [] h = refl
 none_wins beats f (x ∷ xs) h = absurd (not_first (length xs) (eqb-true _ _ h))
 
 pub one_wins : {X : Type 0} (beats : ℕ → ℕ → Bool) → IsAsymmetric beats → (f : X → ℕ) (xs : List X) (d : X) (left : ℕ) (b : Bool) → (length xs == 0) ≡ false
-    → left ≡ last_unbeaten_member beats (f (slice_index_or xs 0 d)) (map f (take (length xs - 1) (drop 1 xs))) → b ≡ beats_each beats (map f xs) left
-    → (if b then Some left else None) ≡ winner beats (map f xs)
+    → left ≡ last_unbeaten_member beats (f (slice_index_or xs 0 d)) (map f (take (length xs - 1) (drop 1 xs))) → b ≡ are_all_others_beaten_by beats (map f xs) left
+    → (if b then Some left else None) ≡ member_beating_all_others beats (map f xs)
 one_wins beats w f [] d left b h l t = absurd (true≢false h)
 one_wins beats w f (x ∷ xs) d left b h l t =
     winner_by beats w (f x) (map f xs) left b (l ∙ ap (λ r. last_unbeaten_member beats (f x) (map f r)) (take_all (length (x ∷ xs) - 1) xs (omega arith))) t

@@ -6,7 +6,7 @@ use Rattle.std.specs.Cmp.Lexicographic.{bytes_decides}
 use Rattle.std.specs.List.{find}
 use Rattle.std.specs.List.Sorted.{IsSorted}
 use Rattle.adb_fields.specs.JoinedPath.{joined_path}
-use Rattle.path_claims.specs.Claims.{ContestedPath, PathClaim, claim_cmp, contested_path_at, is_claim_of_path}
+use Rattle.path_claims.specs.Claims.{ContestedPath, PathClaim, claim_cmp, path_with_rivals_of_first_claimant, is_claim_of_path}
 use Rattle.path_claims.specs.Contest.{first_with_unbeaten_rival}
 use Rattle.path_claims.specs.Runs.{differ_in_path, is_first_of_path, passing_prefix}
 use Rattle.path_claims.specs.Seen.{claim_seen}
@@ -20,7 +20,7 @@ pub rivals_here : (beats : ℕ → ℕ → Bool) (xs run : List Claim) (i : ℕ)
     → ((c : PathClaim) → slice_get (map claim_seen xs) i ≡ Some c → map claim_seen run ≡ passing_prefix (is_claim_of_path c.path) (drop i (map claim_seen xs)))
     → o ≡ first_with_unbeaten_rival beats (map (λ c. c.member) run)
     → (c : PathClaim) → slice_get (map claim_seen xs) i ≡ Some c
-    → option_map (λ r. record { path = joined_path (slice_index_or xs i d).path; rivals = r }) o ≡ contested_path_at beats (map claim_seen xs) c.path
+    → option_map (λ r. record { path = joined_path (slice_index_or xs i d).path; rivals = r }) o ≡ path_with_rivals_of_first_claimant beats (map claim_seen xs) c.path
 rivals_here beats xs run i d o l up s h r c g =
     let is : claim_seen (slice_index_or xs i d) ≡ c = ap (value_or c) (sym (seen_at claim_seen xs i d l) ∙ g) in
     let all : o ≡ first_with_unbeaten_rival beats _ = r ∙ ap (first_with_unbeaten_rival beats) (run_claimants xs run i up s h c g) in
@@ -30,7 +30,7 @@ pub no_rivals_here : (beats : ℕ → ℕ → Bool) (xs run : List Claim) (i : �
     → is_first_of_path (map claim_seen xs) i ≡ true
     → ((c : PathClaim) → slice_get (map claim_seen xs) i ≡ Some c → map claim_seen run ≡ passing_prefix (is_claim_of_path c.path) (drop i (map claim_seen xs)))
     → None ≡ first_with_unbeaten_rival beats (map (λ c. c.member) run)
-    → (c : PathClaim) → slice_get (map claim_seen xs) i ≡ Some c → None ≡ contested_path_at beats (map claim_seen xs) c.path
+    → (c : PathClaim) → slice_get (map claim_seen xs) i ≡ Some c → None ≡ path_with_rivals_of_first_claimant beats (map claim_seen xs) c.path
 no_rivals_here beats xs run i up s h r c g =
     let all : None ≡ first_with_unbeaten_rival beats _ = r ∙ ap (first_with_unbeaten_rival beats) (run_claimants xs run i up s h c g) in
     λ j. option_map (λ r. record { path = c.path; rivals = r }) (all j)

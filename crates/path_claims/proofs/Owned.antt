@@ -12,7 +12,7 @@ use Rattle.std.proofs.lemmas.Bool.{not-true, not-false}
 use Rattle.base_core.specs.ByteOrder.{bytes_cmp}
 use Rattle.base_core.proofs.Sorting.{ranks, rises_sorted}
 use Rattle.path_claims.specs.Claims.{PathClaim, claim_cmp, claimants, is_claim_of_path, owner_among}
-use Rattle.path_claims.specs.Contest.{winner}
+use Rattle.path_claims.specs.Contest.{member_beating_all_others}
 use Rattle.path_claims.specs.Runs.{differ_in_path, is_first_of_path, passing_prefix}
 use Rattle.path_claims.specs.Seen.{claim_seen}
 use Rattle.path_claims.specs.declared.claim.Claim.{Claim}
@@ -62,10 +62,10 @@ run_claimants xs run i up s h c g =
 -- the winner of the run that begins at a claim owns its path
 pub run_owner : (beats : ℕ → ℕ → Bool) (xs run : List Claim) (i : ℕ) (o : Option ℕ) → IsSorted claim_cmp (map claim_seen xs) → true ≡ is_first_of_path (map claim_seen xs) i
     → ((c : PathClaim) → slice_get (map claim_seen xs) i ≡ Some c → map claim_seen run ≡ passing_prefix (is_claim_of_path c.path) (drop i (map claim_seen xs)))
-    → o ≡ winner beats (map (λ c. c.member) run)
+    → o ≡ member_beating_all_others beats (map (λ c. c.member) run)
     → (c : PathClaim) → slice_get (map claim_seen xs) i ≡ Some c → o ≡ owner_among beats (map claim_seen xs) c.path
 run_owner beats xs run i o up s h w c g =
-    w ∙ ap (winner beats) (run_claimants xs run i up (sym s) h c g)
+    w ∙ ap (member_beating_all_others beats) (run_claimants xs run i up (sym s) h c g)
 
 -- a claim of the path before has the owner before
 pub same_owner : (beats : ℕ → ℕ → Bool) (cs : List PathClaim) (i : ℕ) (o : Option ℕ) → false ≡ is_first_of_path cs i

@@ -9,8 +9,8 @@ use Rattle.base_core.specs.ByteOrder.{bytes_cmp}
 use Rattle.base_core.specs.Sorted.{sorted_by, with_element_inserted}
 use Rattle.base_core.proofs.Sorting.{sort_seen, sorted_up, stable, stable_in_order}
 use Rattle.base_core.proofs.Orderings.{names_total}
-use Rattle.path_claims.specs.Claims.{AreNumberedByPlace, ContestedPath, PathClaim, claim_cmp, claimants, contested_path_at, first_contested_path, is_owning_member, is_claim_of_path, is_claim_of_owner, owner_among}
-use Rattle.path_claims.specs.Contest.{first_with_unbeaten_rival, winner}
+use Rattle.path_claims.specs.Claims.{AreNumberedByPlace, ContestedPath, PathClaim, claim_cmp, claimants, path_with_rivals_of_first_claimant, first_contested_path, is_owning_member, is_claim_of_path, is_claim_of_owner, owner_among}
+use Rattle.path_claims.specs.Contest.{first_with_unbeaten_rival, member_beating_all_others}
 use Rattle.path_claims.proofs.ClaimOrder.{claims_total}
 use Rattle.path_claims.proofs.Marks.{AreAlike}
 use Rattle.path_claims.proofs.Owned.{ties_path}
@@ -123,7 +123,7 @@ same_owners beats all cs s os e = e ∙ go cs
   where
     go : (xs : List PathClaim) → map (λ c. owner_among beats cs c.path) xs ≡ map (λ c. owner_among beats all c.path) xs
     go [] = refl
-    go (x ∷ xs) = λ j. winner beats (same_claimants all cs s x.path j) ∷ go xs j
+    go (x ∷ xs) = λ j. member_beating_all_others beats (same_claimants all cs s x.path j) ∷ go xs j
 
 -- ---- the flags
 
@@ -154,20 +154,20 @@ unfolding claim_cmp
 paths_in_order all = sort_seen (λ c. c.path) bytes_cmp names_total all (sorted_by claim_cmp all) (sorted_up claim_cmp claims_total all) (stable claim_cmp claims_total all)
 
 pub contested_is : (beats : ℕ → ℕ → Bool) (all cs : List PathClaim) (o : Option ContestedPath) → cs ≡ sorted_by claim_cmp all
-    → o ≡ option_and_then (contested_path_at beats cs) (find (λ path. is_none (owner_among beats cs path)) (map (λ c. c.path) cs))
+    → o ≡ option_and_then (path_with_rivals_of_first_claimant beats cs) (find (λ path. is_none (owner_among beats cs path)) (map (λ c. c.path) cs))
     → o ≡ first_contested_path beats all
 unfolding first_contested_path
 contested_is beats all cs o s e =
     e ∙ (and_ext (find (λ path. is_none (owner_among beats cs path)) (map (λ c. c.path) cs))
-    ∙ ap (option_and_then (contested_path_at beats all)) (find_ext (map (λ c. c.path) cs) ∙ ap (find (λ path. is_none (owner_among beats all path))) (paths_sorted all cs s)))
+    ∙ ap (option_and_then (path_with_rivals_of_first_claimant beats all)) (find_ext (map (λ c. c.path) cs) ∙ ap (find (λ path. is_none (owner_among beats all path))) (paths_sorted all cs s)))
   where
-    and_ext : (p : Option (List ℕ)) → option_and_then (contested_path_at beats cs) p ≡ option_and_then (contested_path_at beats all) p
+    and_ext : (p : Option (List ℕ)) → option_and_then (path_with_rivals_of_first_claimant beats cs) p ≡ option_and_then (path_with_rivals_of_first_claimant beats all) p
     and_ext None = refl
     and_ext (Some path) = ap (λ ms. option_map (λ rivals. record { path = path; rivals = rivals }) (first_with_unbeaten_rival beats ms)) (same_claimants all cs s path)
 
     find_ext : (ps : List (List ℕ)) → find (λ path. is_none (owner_among beats cs path)) ps ≡ find (λ path. is_none (owner_among beats all path)) ps
     find_ext [] = refl
-    find_ext (p ∷ ps) = λ j. cond (is_none (winner beats (same_claimants all cs s p j))) (Some p) (find_ext ps j)
+    find_ext (p ∷ ps) = λ j. cond (is_none (member_beating_all_others beats (same_claimants all cs s p j))) (Some p) (find_ext ps j)
 
     paths_sorted : (all cs : List PathClaim) → cs ≡ sorted_by claim_cmp all → map (λ c. c.path) cs ≡ sorted_by bytes_cmp (map (λ c. c.path) all)
     paths_sorted all cs s = ap (map (λ c. c.path)) s ∙ paths_in_order all

@@ -7,7 +7,7 @@ use Rattle.std.specs.Ordering.{on}
 use Rattle.std.specs.declared.cmp.Ordering.{Ordering}
 use Rattle.base_core.specs.ByteOrder.{bytes_cmp}
 use Rattle.base_core.specs.Sorted.{sorted_by}
-use Rattle.path_claims.specs.Contest.{winner, first_with_unbeaten_rival}
+use Rattle.path_claims.specs.Contest.{member_beating_all_others, first_with_unbeaten_rival}
 use Rattle.path_claims.specs.declared.contest.Rivals.{Rivals}
 
 -- a claim: an entry for a file in a member, that is, in a package installed after a change
@@ -38,7 +38,7 @@ claimants claims path = map (λ c. c.member) (filter (is_claim_of_path path) cla
 -- the index of the owner of the path, by these claims: the member that claims the path and beats every other one that
 -- does; None if there is none. `beats` says whether the first of two members beats the second
 abbrev pub owner_among : (ℕ → ℕ → Bool) → List PathClaim → List ℕ → Option ℕ
-owner_among beats claims path = winner beats (claimants claims path)
+owner_among beats claims path = member_beating_all_others beats (claimants claims path)
 
 -- whether there is an owner, the option, and it is the member `m`
 abbrev pub is_owning_member : ℕ → Option ℕ → Bool
@@ -68,12 +68,14 @@ pub record ContestedPath : Type 0 where
 
 -- the path, with the first member that claims it and the first other one that this one does not beat; None if the
 -- first member beats all others
-abbrev pub contested_path_at : (ℕ → ℕ → Bool) → List PathClaim → List ℕ → Option ContestedPath
-contested_path_at beats claims path =
+abbrev pub path_with_rivals_of_first_claimant : (ℕ → ℕ → Bool) → List PathClaim → List ℕ
+    → Option ContestedPath
+path_with_rivals_of_first_claimant beats claims path =
     option_map (λ rivals. record { path = path; rivals = rivals })
     (first_with_unbeaten_rival beats (claimants claims path))
 
 -- the first path in byte order that members claim and no member owns, with its rivals; None if each has an owner
 unfoldable pub first_contested_path : (ℕ → ℕ → Bool) → List PathClaim → Option ContestedPath
 first_contested_path beats claims =
-    option_and_then (contested_path_at beats claims) (first_path_without_owner beats claims)
+    option_and_then (path_with_rivals_of_first_claimant beats claims)
+    (first_path_without_owner beats claims)

@@ -6,12 +6,12 @@ use Rattle.std.specs.List.{find, list_all}
 use Rattle.path_claims.specs.declared.contest.Rivals.{Rivals}
 
 -- whether the member x beats each other one of `members`
-abbrev pub beats_each : (ℕ → ℕ → Bool) → List ℕ → ℕ → Bool
-beats_each beats members x = list_all (λ y. (x == y) || beats x y) members
+abbrev pub are_all_others_beaten_by : (ℕ → ℕ → Bool) → List ℕ → ℕ → Bool
+are_all_others_beaten_by beats members x = list_all (λ y. (x == y) || beats x y) members
 
 -- the member of the list that beats each other one in it, if there is one
-unfoldable pub winner : (ℕ → ℕ → Bool) → List ℕ → Option ℕ
-winner beats members = find (beats_each beats members) members
+unfoldable pub member_beating_all_others : (ℕ → ℕ → Bool) → List ℕ → Option ℕ
+member_beating_all_others beats members = find (are_all_others_beaten_by beats members) members
 
 -- two members as rivals: x is the first, y the second
 abbrev pub rivals_of : ℕ → ℕ → Rivals

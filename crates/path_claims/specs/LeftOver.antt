@@ -1,6 +1,6 @@
 -- The only member of a list that may beat all others, found in one pass.
 -- No document has a rule for this: it serves the contract of `last_unbeaten_member` in `src/contest.rt`, by which
--- *winner* is found with few questions.
+-- *member_beating_all_others* is found with few questions.
 use Rattle.std.specs.Prelude.{ℕ, Bool, if◌then◌else◌, List, [], ◌∷◌}
 
 -- The last current member of a pass through the list. The first current member is `c`; each member of the list that

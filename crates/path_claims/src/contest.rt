@@ -5,7 +5,7 @@
 //! beats which.
 
 ghost use Rattle.std.specs.Prelude.{◌≡◌, ◌==◌, ◌||◌, ℕ, Bool, map};
-ghost use Rattle.path_claims.specs.Contest.{IsAsymmetric, beats_each, first_with_unbeaten_rival, winner};
+ghost use Rattle.path_claims.specs.Contest.{IsAsymmetric, are_all_others_beaten_by, first_with_unbeaten_rival, member_beating_all_others};
 ghost use Rattle.path_claims.specs.LeftOver.{last_unbeaten_member};
 
 use crate::claim::Claim;
@@ -48,7 +48,8 @@ fn last_unbeaten_member<C: Contest>(contest: &C, first: u32, claims: &[Claim<'_>
 
 /// Whether the member `one` beats each other member of the claims, which are those of one path.
 fn is_winner<C: Contest>(contest: &C, one: u32, claims: &[Claim<'_>]) -> bool
-    ensures { result ≡ beats_each (C.beats contest.now) (map (λ c. c.member) claims.now) one }
+    ensures { result ≡ are_all_others_beaten_by (C.beats contest.now) (map
+        (λ c. c.member) claims.now) one }
 {
     for claim in claims {
         if !is_same_or_beaten(contest, one, claim.member) {
@@ -70,10 +71,14 @@ fn is_same_or_beaten<C: Contest>(contest: &C, one: u32, other: u32) -> bool
 
 /// The member that beats every other member of the claims, if there is one. The claims are those of
 /// one path. The contest is asked at most twice for each claim.
-pub(crate) fn winner<C: Contest>(contest: &C, claims: &[Claim<'_>]) -> Option<u32>
+pub(crate) fn member_beating_all_others<C: Contest>(
+    contest: &C,
+    claims: &[Claim<'_>],
+) -> Option<u32>
     // No two members beat each other, so only the last unbeaten member can beat all others.
     requires { IsAsymmetric (C.beats contest.now) }
-    ensures { result ≡ winner (C.beats contest.now) (map (λ c. c.member) claims.now) }
+    ensures { result ≡ member_beating_all_others (C.beats contest.now) (map
+        (λ c. c.member) claims.now) }
 {
     if claims.is_empty() {
         return None;

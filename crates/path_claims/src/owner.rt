@@ -5,15 +5,15 @@
 ghost use Rattle.std.specs.Prelude.{◌≡◌, ◌+◌, ◌<◌, ℕ, Bool, Option, Some, true, IfOk, is_none, length, map, option_and_then, option_map, slice_get, ◌==◌, List};
 ghost use Rattle.std.specs.List.Sorted.{IsSorted};
 ghost use Rattle.base_core.specs.Sorted.{sorted_by};
-ghost use Rattle.path_claims.specs.Claims.{AreNumberedByPlace, PathClaim, claim_cmp, contested_path_at, first_contested_path, is_owning_member, is_claim_of_owner, owner_among};
-ghost use Rattle.path_claims.specs.Contest.{IsAsymmetric, beats_each};
+ghost use Rattle.path_claims.specs.Claims.{AreNumberedByPlace, PathClaim, claim_cmp, path_with_rivals_of_first_claimant, first_contested_path, is_owning_member, is_claim_of_owner, owner_among};
+ghost use Rattle.path_claims.specs.Contest.{IsAsymmetric, are_all_others_beaten_by};
 ghost use Rattle.path_claims.specs.Runs.{is_first_of_path};
 ghost use Rattle.path_claims.specs.Seen.{claim_seen};
 ghost use Rattle.path_claims.specs.ContestedSeen.{contested_seen};
 ghost use Rattle.std.specs.List.{find, list_any};
 
 use crate::claim::{Claim, begins_path, run_at, sort_claims};
-use crate::contest::{Contest, Rivals, first_with_unbeaten_rival, winner};
+use crate::contest::{Contest, Rivals, first_with_unbeaten_rival, member_beating_all_others};
 use adb_fields::FilePath;
 use std::alloc::{AllocError, Global};
 
@@ -70,7 +70,7 @@ fn owner_at<C: Contest>(
     if !begins_path(claims, i) {
         return before;
     }
-    winner(contest, run_at(claims, i))
+    member_beating_all_others(contest, run_at(claims, i))
 }
 
 /// For each claim, in the same order, the index of the member that owns its path, or None.
@@ -148,7 +148,8 @@ fn contested_from<'a, C: Contest>(
     // The result has the path of this claim, and its rivals.
     ensures { (c : PathClaim) → slice_get (map claim_seen claims.now) i ≡ Some c
         → option_map contested_seen result
-        ≡ contested_path_at (C.beats contest.now) (map claim_seen claims.now) c.path }
+        ≡ path_with_rivals_of_first_claimant (C.beats contest.now)
+        (map claim_seen claims.now) c.path }
 {
     match first_with_unbeaten_rival(contest, run_at(claims, i)) {
         Some(rivals) => Some(Contested {
@@ -174,7 +175,8 @@ fn first_contested<'a, C: Contest>(
         (map claim_seen claims.now) }
     // The result is the first path, in the order of the claims, that has no owner, with its rivals.
     ensures { option_map contested_seen result
-        ≡ option_and_then (contested_path_at (C.beats contest.now) (map claim_seen claims.now))
+        ≡ option_and_then (path_with_rivals_of_first_claimant (C.beats contest.now)
+        (map claim_seen claims.now))
         (find
         (λ path. is_none (owner_among (C.beats contest.now) (map claim_seen claims.now) path))
         (map (λ c. c.path) (map claim_seen claims.now))) }
@@ -268,5 +270,6 @@ pub fn owners_of<'a, C: Contest>(
 pub fn a_path_has_one_owner()
     ensures { (beats : ℕ → ℕ → Bool) (members : List ℕ) (x y : ℕ) → IsAsymmetric beats
         → list_any (λ z. x == z) members ≡ true → list_any (λ z. y == z) members ≡ true
-        → beats_each beats members x ≡ true → beats_each beats members y ≡ true → x ≡ y }
+        → are_all_others_beaten_by beats members x ≡ true
+        → are_all_others_beaten_by beats members y ≡ true → x ≡ y }
 {}

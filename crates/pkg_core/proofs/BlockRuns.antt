@@ -1,16 +1,16 @@
 -- After the last block, where the file may end in its padding.
 use Rattle.std.proofs.Common.{◌≡◌, ℕ, suc, ◌+◌, ◌-◌, ◌<◌, ◌≤◌, Bool, true, false, nat_le, min, List, [], length, drop, Some, refl, ap, sym, subst, ◌∙◌, arith}
 use Rattle.std.proofs.lemmas.List.{drop_all}
-use Rattle.adb_block.specs.Framing.{next_step}
+use Rattle.adb_block.specs.Framing.{next_block_result_at_offset}
 use Rattle.adb_block.specs.ReaderPosition.{ReaderPosition}
 use Rattle.adb_block.specs.Reader.{reader_after_block}
-use Rattle.adb_block.specs.Reading.{done, block_stream_from_offset, block_stream_from}
+use Rattle.adb_block.specs.Reading.{done, bounded_block_stream_from_offset, block_stream_from}
 use Rattle.adb_block.specs.declared.block.BlockKind.{BlockKind}
 
 -- if nothing is left, nothing is read
-nothing_left : (k : BlockKind) (at : ℕ) (bytes : List ℕ) → bytes ≡ [] → block_stream_from_offset (suc (length bytes)) (Some k) at bytes ≡ done
-unfolding block_stream_from_offset next_step
-nothing_left k at bytes e = subst (λ (xs : List ℕ). block_stream_from_offset (suc (length xs)) (Some k) at xs ≡ done) (sym e) refl
+nothing_left : (k : BlockKind) (at : ℕ) (bytes : List ℕ) → bytes ≡ [] → bounded_block_stream_from_offset (suc (length bytes)) (Some k) at bytes ≡ done
+unfolding bounded_block_stream_from_offset next_block_result_at_offset
+nothing_left k at bytes e = subst (λ (xs : List ℕ). bounded_block_stream_from_offset (suc (length xs)) (Some k) at xs ≡ done) (sym e) refl
 
 reading_nothing : (s : ReaderPosition) (k : BlockKind) (size : ℕ) → length s.left ≤ size → block_stream_from (reader_after_block s k size) ≡ done
 unfolding block_stream_from

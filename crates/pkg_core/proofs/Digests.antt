@@ -22,8 +22,8 @@ use Rattle.adb_view.specs.Values.{nth, entries_in, entry_in, int_in, text_in}
 use Rattle.adb_view.specs.declared.tables.Which.{Which}
 use Rattle.adb_view.specs.declared.tables.Kind.TheVariants.{Obj}
 use Rattle.adb_view.specs.declared.tables.Which.TheVariants as Tables
-use Rattle.pkg_core.specs.Contents.{Contents, ExpectedFile, digest_fault, expected_at, expected_files_of_package, expected_files_of_folder, expected_files_of_folders, hash_fault}
-use Rattle.pkg_core.specs.GoodContents.{AreContentsOf, MatchEachExpectedSizeAndDigest, HaveValidDigestLengths, IsDigestOf}
+use Rattle.pkg_core.specs.Contents.{Contents, ExpectedFile, fault_if_digests_differ, expected_file_if_with_contents, expected_files_of_package, expected_files_of_folder, expected_files_of_folders, hash_fault}
+use Rattle.pkg_core.specs.GoodContents.{AreContentsOfExpectedFiles, MatchEachExpectedSizeAndDigest, HaveValidDigestLengths, IsDigestOf}
 
 -- ---- if nothing is told, each text and number keeps its rule
 
@@ -84,7 +84,7 @@ more_digests : (es fs : List ExpectedFile) → HaveValidDigestLengths es → Hav
 more_digests [] fs a b = b
 more_digests (e ∷ es) fs a b = (a.0, more_digests es fs a.1 b)
 
-file_digests : (d i place : ℕ) (around : Surroundings) (f : Plain) → around.root ≡ Tables.Package → Keep (leaves (shape_of (Obj Tables.File)) place around f) → HaveValidDigestLengths (expected_at d i f)
+file_digests : (d i place : ℕ) (around : Surroundings) (f : Plain) → around.root ≡ Tables.Package → Keep (leaves (shape_of (Obj Tables.File)) place around f) → HaveValidDigestLengths (expected_file_if_with_contents d i f)
 file_digests d i place around f root h = by_contents (is_file_with_contents f) refl
   where
     by_contents : (b : Bool) → is_file_with_contents f ≡ b → HaveValidDigestLengths (if b then record { folder = d; file = i; size = int_in (entry_in f 2); hash = text_in (entry_in f 4) } ∷ [] else [])
@@ -95,7 +95,7 @@ files_digests : (d i place : ℕ) (around : Surroundings) (vs : Plains) → arou
 files_digests d i place around none root h = tt
 files_digests d i place around (more f vs) root h =
     let parts = parts_keep (leaves (shape_of (Obj Tables.File)) place around f) (leaves_of_all_values (leaves (shape_of (Obj Tables.File)) place around) vs) h in
-    more_digests (expected_at d i f) (expected_files_of_folder d (i + 1) (list_of vs)) (file_digests d i place around f root parts.0) (files_digests d (i + 1) place around vs root parts.1)
+    more_digests (expected_file_if_with_contents d i f) (expected_files_of_folder d (i + 1) (list_of vs)) (file_digests d i place around f root parts.0) (files_digests d (i + 1) place around vs root parts.1)
 
 folder_digests : (d place : ℕ) (around : Surroundings) (folder : Plain) → around.root ≡ Tables.Package → Keep (leaves (shape_of (Obj Tables.Dir)) place around folder) → HaveValidDigestLengths (expected_files_of_folder d 1 (files_in folder))
 unfolding shape_of leaves
@@ -120,7 +120,7 @@ texts_give_digests told v h = texts_keep v (none_told (leaves_of Tables.Package 
 
 -- ---- what a good digest says
 
-equal_digests : (as_digest : List ℕ → Digest) (wanted found : List ℕ) → digest_fault as_digest wanted found ≡ None → wanted ≡ found
+equal_digests : (as_digest : List ℕ → Digest) (wanted found : List ℕ) → fault_if_digests_differ as_digest wanted found ≡ None → wanted ≡ found
 equal_digests as_digest wanted found h = (bytes_eq-Decides wanted found).0 (kept (bytes_eq wanted found) h)
   where
     kept : (b : Bool) → (if b then None else Some (HashDiffers (as_digest wanted) (as_digest found))) ≡ None → b ≡ true
@@ -136,7 +136,7 @@ one_of_three false false false x y z h e = (cc)
 digest_is : (wanted bytes : List ℕ) → is_digest_length (length wanted) ≡ true → hash_fault wanted bytes ≡ None → IsDigestOf wanted bytes
 unfolding hash_fault
 digest_is wanted bytes h e =
-    elim (one_of_three (length wanted == 20) (length wanted == 32) (length wanted == 64) (digest_fault Sha1 wanted (sha1 bytes)) (digest_fault Sha256 wanted (sha256 bytes)) (digest_fault Sha512 wanted (sha512 bytes)) h e) [
+    elim (one_of_three (length wanted == 20) (length wanted == 32) (length wanted == 64) (fault_if_digests_differ Sha1 wanted (sha1 bytes)) (fault_if_digests_differ Sha256 wanted (sha256 bytes)) (fault_if_digests_differ Sha512 wanted (sha512 bytes)) h e) [
       | inl x ↦ inl (equal_digests Sha1 wanted (sha1 bytes) x)
       | inr y ↦ elim y [
         | inl x ↦ inr (inl (equal_digests Sha256 wanted (sha256 bytes) x))
@@ -144,7 +144,7 @@ digest_is wanted bytes h e =
       ]
     ]
 
-pub true_contents : (es : List ExpectedFile) (all : List Contents) → HaveValidDigestLengths es → AreContentsOf es all → MatchEachExpectedSizeAndDigest es all
+pub true_contents : (es : List ExpectedFile) (all : List Contents) → HaveValidDigestLengths es → AreContentsOfExpectedFiles es all → MatchEachExpectedSizeAndDigest es all
 true_contents [] [] d h = tt
 true_contents [] (c ∷ cs) d h = h
 true_contents (e ∷ es) [] d h = h

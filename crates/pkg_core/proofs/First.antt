@@ -47,7 +47,7 @@ at_contents payload at further blocks framing (x ∷ es) c ih None e h = one_lat
 
 at_block : (kind : BlockKind) (payload : List ℕ) (at : ℕ) (further : List ExpectedFile → FilesRead) (blocks : List PlacedPayload) (framing : Option Cause) (es : List ExpectedFile) (c : Cause)
     → ((left : List ExpectedFile) → fault_of_files_read (further left) ≡ Some c → IsFirst blocks framing left c)
-    → fault_of_files_read (C.files_at_block kind payload at further es) ≡ Some c → IsFirst (with_block_if_contents kind (payload, at) blocks) framing es c
+    → fault_of_files_read (C.files_read_from_block_and_further kind payload at further es) ≡ Some c → IsFirst (with_block_if_contents kind (payload, at) blocks) framing es c
 at_block Kinds.Adb payload at further blocks framing es c ih h = ih es h
 at_block Kinds.Signature payload at further blocks framing es c ih h = ih es h
 at_block Kinds.Contents payload at further blocks framing es c ih h = at_contents payload at further blocks framing es c ih (C.contents_block_fault payload at es) refl h

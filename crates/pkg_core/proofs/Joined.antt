@@ -7,7 +7,7 @@ use Rattle.adb_block.specs.Reading.{Reading, done, fault, more}
 use Rattle.adb_block.specs.declared.block.BlockKind.{BlockKind}
 use Rattle.adb_block.specs.declared.block.BlockKind.TheVariants as Kinds
 use Rattle.adb_schema.specs.Soundness.{contents_positions}
-use Rattle.pkg_core.specs.Contents.{ExpectedFile, FilesRead, contents_bytes, files_at_block, files_read_from_blocks, given, has_positions_of, hash_fault, files_unless_fault}
+use Rattle.pkg_core.specs.Contents.{ExpectedFile, FilesRead, contents_bytes, files_read_from_block_and_further, files_read_from_blocks, given, has_positions_of, hash_fault, files_unless_fault}
 use Rattle.pkg_core.specs.Pieces.{PiecesRead, files_joined_from_pieces, pieces_at_block, pieces_read_from_blocks, pieces_of_one_file, pieces_unless_fault, piece_count_before_last}
 
 -- ---- one file
@@ -32,14 +32,14 @@ joined_file false false c d n e digest bytes further files same =
 -- ---- one block
 
 joined_contents : (few : Bool) (payload : List ℕ) (at : ℕ) (further : List ExpectedFile → PiecesRead) (files : List ExpectedFile → FilesRead) → ((left : List ExpectedFile) → files_joined_from_pieces (further left) [] ≡ files left) → (es : List ExpectedFile) → nat_lt (length payload) 8 ≡ few
-    → files_joined_from_pieces (pieces_at_block Kinds.Contents payload at further es) [] ≡ files_at_block Kinds.Contents payload at files es
+    → files_joined_from_pieces (pieces_at_block Kinds.Contents payload at further es) [] ≡ files_read_from_block_and_further Kinds.Contents payload at files es
 joined_contents true payload at further files same es e = rw e refl
 joined_contents false payload at further files same [] e = rw e refl
 joined_contents false payload at further files same (f ∷ es) e =
     rw e (joined_file (not (has_positions_of payload f)) (not (length (contents_bytes payload) == f.size)) (DataOrder (f.folder, f.file) (contents_positions payload)) (DataSize f.size (length (contents_bytes payload))) (piece_count_before_last (length (contents_bytes payload))) f (hash_fault f.hash (contents_bytes payload)) (contents_bytes payload) (further es) (files es) (same es))
 
 joined_block : (kind : BlockKind) (payload : List ℕ) (at : ℕ) (further : List ExpectedFile → PiecesRead) (files : List ExpectedFile → FilesRead) → ((left : List ExpectedFile) → files_joined_from_pieces (further left) [] ≡ files left) → (es : List ExpectedFile)
-    → files_joined_from_pieces (pieces_at_block kind payload at further es) [] ≡ files_at_block kind payload at files es
+    → files_joined_from_pieces (pieces_at_block kind payload at further es) [] ≡ files_read_from_block_and_further kind payload at files es
 joined_block Kinds.Adb payload at further files same es = same es
 joined_block Kinds.Signature payload at further files same es = same es
 joined_block Kinds.Contents payload at further files same es = joined_contents (nat_lt (length payload) 8) payload at further files same es refl

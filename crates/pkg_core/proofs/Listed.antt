@@ -5,11 +5,11 @@ use Rattle.adb_view.specs.Values.{nth, count_of, entries_in, entry_in, int_in, t
 use Rattle.adb_schema.specs.Texts.{is_file_with_contents}
 use Rattle.adb_schema.specs.adb_fields.Repeated.{list_of}
 use Rattle.adb_schema.proofs.adb_fields.Listed.{next_listed, none_listed}
-use Rattle.pkg_core.specs.Contents.{ExpectedFile, expected_at, expected_files_of_folder, expected_files_of_folders}
+use Rattle.pkg_core.specs.Contents.{ExpectedFile, expected_file_if_with_contents, expected_files_of_folder, expected_files_of_folders}
 use Rattle.pkg_core.specs.Opened.{files_left_from}
 
 -- a file more, with contents or without
-file_more : (d i : ℕ) (vs : Plains) → i < count_of vs → expected_files_of_folder d (i + 1) (drop i (list_of vs)) ≡ expected_at d (i + 1) (nth vs i) ++ expected_files_of_folder d (i + 1 + 1) (drop (i + 1) (list_of vs))
+file_more : (d i : ℕ) (vs : Plains) → i < count_of vs → expected_files_of_folder d (i + 1) (drop i (list_of vs)) ≡ expected_file_if_with_contents d (i + 1) (nth vs i) ++ expected_files_of_folder d (i + 1 + 1) (drop (i + 1) (list_of vs))
 file_more d i vs h = ap (expected_files_of_folder d (i + 1)) (next_listed vs i h)
 
 pub some_file : (d folder i : ℕ) (v f : Plain) (size : ℕ) (hash : List ℕ) → i < count_of (entries_in v) → folder ≡ d → f ≡ entry_in v (i + 1 - 1) → is_file_with_contents f ≡ true → size ≡ int_in (entry_in f 2) → hash ≡ text_in (entry_in f 4)
@@ -19,7 +19,7 @@ some_file d folder i v f size hash lt e is c s h =
     let at : f ≡ entry_in v i = is ∙ ap (entry_in v) (omega arith) in
     let this : List ExpectedFile = record { folder = d; file = i + 1; size = int_in (entry_in f 2); hash = text_in (entry_in f 4) } ∷ [] in
     file_more d i (entries_in v) lt
-    ∙ (ap (λ (g : Plain). expected_at d (i + 1) g ++ others) (sym at)
+    ∙ (ap (λ (g : Plain). expected_file_if_with_contents d (i + 1) g ++ others) (sym at)
     ∙ (ap (λ (b : Bool). (if b then this else []) ++ others) c
     ∙ (λ k. record { folder = (sym e) k; file = i + 1; size = (sym s) k; hash = (sym h) k } ∷ others)))
 
@@ -30,7 +30,7 @@ other_file d i v f lt is c =
     let at : f ≡ entry_in v i = is ∙ ap (entry_in v) (omega arith) in
     let this : List ExpectedFile = record { folder = d; file = i + 1; size = int_in (entry_in f 2); hash = text_in (entry_in f 4) } ∷ [] in
     file_more d i (entries_in v) lt
-    ∙ (ap (λ (g : Plain). expected_at d (i + 1) g ++ others) (sym at)
+    ∙ (ap (λ (g : Plain). expected_file_if_with_contents d (i + 1) g ++ others) (sym at)
     ∙ ap (λ (b : Bool). (if b then this else []) ++ others) c)
 
 pub no_file : (d j i : ℕ) (v : Plain) → count_of (entries_in v) ≤ i → expected_files_of_folder d j (drop i (list_of (entries_in v))) ≡ []

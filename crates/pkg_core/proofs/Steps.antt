@@ -3,7 +3,7 @@ use Rattle.std.proofs.Common.{◌≡◌, ◌≢◌, ℕ, List, Option, Some, Non
 use Rattle.base_core.specs.declared.cause.Cause.{Cause}
 use Rattle.adb_block.specs.Header.{schema_of_header}
 use Rattle.adb_block.specs.Reading.{Reading, done, fault, more, block_stream_from}
-use Rattle.adb_block.specs.ReaderPosition.{first_block_position}
+use Rattle.adb_block.specs.ReaderPosition.{first_block_position_of_schema_and_file}
 use Rattle.std.specs.Option.{option_or}
 use Rattle.adb_schema.specs.Soundness.{blocks_fault, file_fault_after_header, container_fault_except_contents, payload_fault, further_blocks_fault_unless_package, schema_fault}
 use Rattle.adb_view.specs.declared.tables.Which.{Which}
@@ -40,7 +40,7 @@ schema_then None r h = blocks_then r h
 schema_then (Some c) r h = (cc)
 
 header_then : (file : List ℕ) (h : Result ℕ Cause) → file_fault_after_header (λ v r. further_blocks_fault_unless_package Package r) Package file h ≡ None → file_fault_after_header (fault_of_further_blocks Package) Package file h ≡ fault_of_files_read (files_after_header file h)
-header_then file (Ok schema) e = schema_then (schema_fault Package schema) (block_stream_from (first_block_position schema file)) e
+header_then file (Ok schema) e = schema_then (schema_fault Package schema) (block_stream_from (first_block_position_of_schema_and_file schema file)) e
 header_then file (Err c) e = refl
 
 pub files_then : (file : List ℕ) → container_fault_except_contents Package file ≡ None → package_fault file ≡ fault_of_files_read (files_read_from_package file)
@@ -62,7 +62,7 @@ schema_first None r c h = blocks_first r c h
 schema_first (Some d) r c h = h
 
 header_first : (file : List ℕ) (h : Result ℕ Cause) (c : Cause) → file_fault_after_header (λ v r. further_blocks_fault_unless_package Package r) Package file h ≡ Some c → file_fault_after_header (fault_of_further_blocks Package) Package file h ≡ Some c
-header_first file (Ok schema) c e = schema_first (schema_fault Package schema) (block_stream_from (first_block_position schema file)) c e
+header_first file (Ok schema) c e = schema_first (schema_fault Package schema) (block_stream_from (first_block_position_of_schema_and_file schema file)) c e
 header_first file (Err d) c e = e
 
 pub values_first : (file : List ℕ) (c : Cause) → container_fault_except_contents Package file ≡ Some c → package_fault file ≡ Some c

@@ -5,11 +5,11 @@ use Rattle.base_core.specs.declared.cause.Cause.{Cause}
 use Rattle.base_core.specs.declared.cause.Cause.TheVariants.{WrongSchema}
 use Rattle.adb_block.specs.Header.{schema_of_header}
 use Rattle.adb_block.specs.Reading.{Reading, done, fault, more, block_stream_from}
-use Rattle.adb_block.specs.ReaderPosition.{first_block_position}
+use Rattle.adb_block.specs.ReaderPosition.{first_block_position_of_schema_and_file}
 use Rattle.adb_view.specs.Head.{payload_head_fault}
 use Rattle.std.specs.Option.{option_or}
 use Rattle.adb_view.specs.declared.tables.Which.TheVariants.{Package}
-use Rattle.adb_schema.specs.Soundness.{blocks_fault, file_fault_with_rest_test, file_fault_after_header, container_fault_except_contents, first_block_payload, payload_after_header, payload_fault, payload_in, further_blocks_fault_unless_package, root_value}
+use Rattle.adb_schema.specs.Soundness.{blocks_fault, file_fault_with_rest_test, file_fault_after_header, container_fault_except_contents, first_block_payload, payload_after_header, payload_fault, payload_in, further_blocks_fault_unless_package, root_value_of_payload}
 use Rattle.adb_schema.specs.declared.read.TheConstants.{PACKAGE_WORD}
 use Rattle.pkg_core.specs.Contents.{contents_fault, expected_files_of_package}
 use Rattle.pkg_core.specs.Whole.{fault_of_further_blocks, container_fault, container_fault_after_header, container_fault_of_table}
@@ -35,7 +35,7 @@ schema_alike false found r c h = h
 
 header_alike : (file : List ℕ) (header : Result ℕ Cause) (c : Cause) → front_fault_after_header PACKAGE_WORD file header ≡ Some c → file_fault_after_header (λ v r. further_blocks_fault_unless_package Package r) Package file header ≡ Some c
 header_alike file (Err d) c h = h
-header_alike file (Ok found) c h = schema_alike (PACKAGE_WORD == found) found (block_stream_from (first_block_position found file)) c h
+header_alike file (Ok found) c h = schema_alike (PACKAGE_WORD == found) found (block_stream_from (first_block_position_of_schema_and_file found file)) c h
 
 pub front_alike : (file : List ℕ) (c : Cause) → front_fault PACKAGE_WORD file ≡ Some c → container_fault_except_contents Package file ≡ Some c
 unfolding front_fault container_fault_except_contents
@@ -56,7 +56,7 @@ same_payload file front is = ap (payload_after_header file) is.header ∙ ap fir
 
 -- ---- a container
 
-pub whole_by_front : (file : List ℕ) (front : Front) → IsFrontOf PACKAGE_WORD file front → container_fault file ≡ option_or (payload_fault Package (front_payload front)) (contents_fault (expected_files_of_package (root_value Package (front_payload front))) (block_stream_from (position_after_front front file)))
+pub whole_by_front : (file : List ℕ) (front : Front) → IsFrontOf PACKAGE_WORD file front → container_fault file ≡ option_or (payload_fault Package (front_payload front)) (contents_fault (expected_files_of_package (root_value_of_payload Package (front_payload front))) (block_stream_from (position_after_front front file)))
 unfolding container_fault container_fault_of_table
 whole_by_front file front is =
     ap (container_fault_after_header file) is.header
@@ -80,12 +80,12 @@ whole_by_header : (file : List ℕ) (header : Result ℕ Cause) (c : Cause) → 
 unfolding container_fault_of_table
 whole_by_header file (Err d) c is h other = h
 whole_by_header file (Ok found) c is h other =
-    let (wanted, first) = package_by_schema (PACKAGE_WORD == found) file found (block_stream_from (first_block_position found file)) c h other in
+    let (wanted, first) = package_by_schema (PACKAGE_WORD == found) file found (block_stream_from (first_block_position_of_schema_and_file found file)) c h other in
     let same : PACKAGE_WORD ≡ found = eqb-true PACKAGE_WORD found wanted in
     let header : schema_of_header file ≡ Ok PACKAGE_WORD = is ∙ ap (λ (n : ℕ). Ok n) (sym same) in
     ap (λ (n : ℕ). container_fault_after_header file (Ok n)) (sym same)
     ∙ (ap (file_fault_after_header (fault_of_further_blocks Package) Package file) header
-    ∙ subst (λ (n : ℕ). blocks_fault (fault_of_further_blocks Package) Package (block_stream_from (first_block_position n file)) ≡ Some c) (sym same) first)
+    ∙ subst (λ (n : ℕ). blocks_fault (fault_of_further_blocks Package) Package (block_stream_from (first_block_position_of_schema_and_file n file)) ≡ Some c) (sym same) first)
 
 pub front_is_first : (file : List ℕ) (c : Cause) → front_fault PACKAGE_WORD file ≡ Some c → ((other : ℕ) → c ≢ WrongSchema other) → container_fault file ≡ Some c
 unfolding front_fault container_fault

@@ -36,8 +36,8 @@ pub record ExpectedFile : Type 0 where
 
 -- the expected file for the entry `file`, at the position `i` in the folder at the position `folder`. No
 -- element if the file has no contents. A file has contents if it has no target, and its size is above 0
-abbrev pub expected_at : ℕ → ℕ → Plain → List ExpectedFile
-expected_at folder i file =
+abbrev pub expected_file_if_with_contents : ℕ → ℕ → Plain → List ExpectedFile
+expected_file_if_with_contents folder i file =
     if is_file_with_contents file
     then record {
       folder = folder;
@@ -52,7 +52,7 @@ expected_at folder i file =
 abbrev pub expected_files_of_folder : ℕ → ℕ → List Plain → List ExpectedFile
 expected_files_of_folder folder i [] = []
 expected_files_of_folder folder i (file ∷ files) =
-    expected_at folder i file ++ expected_files_of_folder folder (i + 1) files
+    expected_file_if_with_contents folder i file ++ expected_files_of_folder folder (i + 1) files
 
 -- the files of several folders that have contents; the first of the given folders has the position `i` in
 -- the package
@@ -78,8 +78,8 @@ contents_bytes payload = drop POSITIONS_LEN payload
 
 -- the fault if the wanted digest is not the one that was computed (`found`); None if they are equal.
 -- `as_digest` adds the name of the function
-abbrev pub digest_fault : (List ℕ → Digest) → List ℕ → List ℕ → Option Cause
-digest_fault as_digest wanted found =
+abbrev pub fault_if_digests_differ : (List ℕ → Digest) → List ℕ → List ℕ → Option Cause
+fault_if_digests_differ as_digest wanted found =
     if bytes_eq wanted found then None else Some (HashDiffers (as_digest wanted) (as_digest found))
 
 -- the fault if the bytes do not have the digest `hash`; None if they have it. The length of the digest
@@ -87,9 +87,9 @@ digest_fault as_digest wanted found =
 -- is not compared
 unfoldable pub hash_fault : List ℕ → List ℕ → Option Cause
 hash_fault hash bytes =
-    if length hash == 20 then digest_fault Sha1 hash (sha1 bytes)
-    else if length hash == 32 then digest_fault Sha256 hash (sha256 bytes)
-    else if length hash == 64 then digest_fault Sha512 hash (sha512 bytes)
+    if length hash == 20 then fault_if_digests_differ Sha1 hash (sha1 bytes)
+    else if length hash == 32 then fault_if_digests_differ Sha256 hash (sha256 bytes)
+    else if length hash == 64 then fault_if_digests_differ Sha512 hash (sha512 bytes)
     else None
 
 -- whether a block of contents with this payload has the positions of the expected file
@@ -163,18 +163,18 @@ with_contents_of_next payload further (e ∷ es) = given (contents_of_expected p
 -- the files that are read from a block with this kind, payload and offset `at` on. `further` gives those
 -- of the blocks after it, from the files that are then still expected; a block without contents is
 -- skipped
-abbrev pub files_at_block :
+abbrev pub files_read_from_block_and_further :
     BlockKind → List ℕ → ℕ → (List ExpectedFile → FilesRead) → List ExpectedFile → FilesRead
-files_at_block Kinds.Contents payload at further es =
+files_read_from_block_and_further Kinds.Contents payload at further es =
     files_unless_fault (contents_block_fault payload at es) (with_contents_of_next payload further es)
-files_at_block kind payload at further es = further es
+files_read_from_block_and_further kind payload at further es = further es
 
 -- the files that are read from the blocks, each tested against the next expected file
 unfoldable pub files_read_from_blocks : List ExpectedFile → Reading → FilesRead
 files_read_from_blocks es done = files_unless_fault (missing_contents_fault es) no_more
 files_read_from_blocks es (fault c) = refused c
 files_read_from_blocks es (more b at r) =
-    files_at_block b.kind b.payload at (λ left. files_read_from_blocks left r) es
+    files_read_from_block_and_further b.kind b.payload at (λ left. files_read_from_blocks left r) es
 
 -- the fault that ended the reading, if one did
 abbrev pub fault_of_files_read : FilesRead → Option Cause

@@ -6,7 +6,7 @@ use Rattle.base_core.specs.declared.cause.Cause.{Cause}
 use Rattle.base_core.specs.declared.cause.Cause.TheVariants.{WrongSchema}
 use Rattle.adb_block.specs.Header.{schema_of_header}
 use Rattle.adb_block.specs.Reading.{Reading, done, fault, more, block_stream_from}
-use Rattle.adb_block.specs.ReaderPosition.{ReaderPosition, first_block_position}
+use Rattle.adb_block.specs.ReaderPosition.{ReaderPosition, first_block_position_of_schema_and_file}
 use Rattle.adb_block.specs.declared.block.BlockKind.TheVariants.{Adb}
 use Rattle.adb_view.specs.Head.{payload_head_fault}
 use Rattle.pkg_core.specs.declared.front.Front.{Front}
@@ -26,7 +26,8 @@ front_block_fault (more b at r) = payload_head_fault b.payload
 abbrev pub front_fault_after_header : ℕ → List ℕ → Result ℕ Cause → Option Cause
 front_fault_after_header schema file (Err c) = Some c
 front_fault_after_header schema file (Ok found) =
-    if schema == found then front_block_fault (block_stream_from (first_block_position found file))
+    if schema == found then front_block_fault
+    (block_stream_from (first_block_position_of_schema_and_file found file))
     else Some (WrongSchema found)
 
 -- the first failed test of the front of a file, which must have this schema
@@ -66,7 +67,7 @@ pub record IsFrontOf (schema : ℕ) (file : List ℕ) (front : Front) : Type 0 w
   -- the front has the length of the file
   pub long : length file ≡ front.len
   -- the first block of the file is the front's block of values, at offset 8
-  pub blocks : block_stream_from (first_block_position schema file)
+  pub blocks : block_stream_from (first_block_position_of_schema_and_file schema file)
       ≡ more (record { kind = Adb; payload = front_payload front }) 8
       (block_stream_from (position_after_front front file))
   -- the head of the first payload passes its tests

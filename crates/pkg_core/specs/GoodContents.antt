@@ -9,7 +9,7 @@ use Rattle.adb_schema.specs.Rules.{is_digest_length}
 use Rattle.pkg_core.specs.Contents.{Contents, ExpectedFile, hash_fault}
 
 -- the contents are those of the expected file: they have its positions, its size and its digest
-pub record IsContentsOf (e : ExpectedFile) (contents : Contents) : Type 0 where
+pub record IsContentsOfExpectedFile (e : ExpectedFile) (contents : Contents) : Type 0 where
   -- the position of the file's folder
   pub folder : contents.folder ≡ e.folder
   -- the position of the file in the folder
@@ -21,11 +21,12 @@ pub record IsContentsOf (e : ExpectedFile) (contents : Contents) : Type 0 where
   pub hash : hash_fault e.hash contents.bytes ≡ None
 
 -- there are contents for each expected file, in order, and no others
-abbrev pub AreContentsOf : List ExpectedFile → List Contents → Type 0
-AreContentsOf [] [] = Unit {0}
-AreContentsOf [] (contents ∷ others) = ⊥
-AreContentsOf (e ∷ es) [] = ⊥
-AreContentsOf (e ∷ es) (contents ∷ others) = IsContentsOf e contents × AreContentsOf es others
+abbrev pub AreContentsOfExpectedFiles : List ExpectedFile → List Contents → Type 0
+AreContentsOfExpectedFiles [] [] = Unit {0}
+AreContentsOfExpectedFiles [] (contents ∷ others) = ⊥
+AreContentsOfExpectedFiles (e ∷ es) [] = ⊥
+AreContentsOfExpectedFiles (e ∷ es) (contents ∷ others) =
+    IsContentsOfExpectedFile e contents × AreContentsOfExpectedFiles es others
 
 -- ---- if the values of the package are good
 

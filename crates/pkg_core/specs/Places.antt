@@ -3,7 +3,7 @@
 -- `BlockPlace::step`.
 use Rattle.std.specs.Prelude.{◌≡◌, ◌≤◌, ℕ, ◌+◌, ◌-◌, min, List, [], ◌∷◌, length, take, drop, Option, Some, None, Result, Ok, Err}
 use Rattle.base_core.specs.declared.cause.Cause.{Cause}
-use Rattle.adb_block.specs.Framing.{Step as BlockStep, next_step}
+use Rattle.adb_block.specs.Framing.{NextBlockResult as BlockStep, next_block_result_at_offset}
 use Rattle.adb_block.specs.Frames.{framed_piece, raw_size}
 use Rattle.adb_block.specs.Piece.{padding_of}
 use Rattle.adb_block.specs.Reading.{block_stream_from}
@@ -29,7 +29,7 @@ reader_at_place place file =
 
 -- the result of reading the framing at a place of this file: a block, the end, or a fault of the framing
 abbrev pub block_step_at : BlockPlace → List ℕ → BlockStep
-block_step_at place file = next_step (Some place.last) place.at (drop place.at file)
+block_step_at place file = next_block_result_at_offset (Some place.last) place.at (drop place.at file)
 
 -- the pieces of the blocks of this file from a place on
 abbrev pub pieces_at : BlockPlace → List ℕ → PiecesRead

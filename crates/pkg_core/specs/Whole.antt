@@ -5,10 +5,10 @@ use Rattle.sha2.specs.Sha256.{sha256}
 use Rattle.base_core.specs.declared.cause.Cause.{Cause}
 use Rattle.base_core.specs.declared.cause.Cause.TheVariants.{WrongSchema}
 use Rattle.adb_block.specs.Header.{schema_of_header}
-use Rattle.adb_block.specs.ReaderPosition.{first_block_position}
+use Rattle.adb_block.specs.ReaderPosition.{first_block_position_of_schema_and_file}
 use Rattle.adb_block.specs.Reading.{Reading, done, fault, more, block_stream_from}
 use Rattle.adb_view.specs.Plain.{Plain}
-use Rattle.adb_schema.specs.Soundness.{file_fault_with_rest_test, further_blocks_fault_unless_package, payload_in, root_value}
+use Rattle.adb_schema.specs.Soundness.{file_fault_with_rest_test, further_blocks_fault_unless_package, payload_in, root_value_of_payload}
 use Rattle.adb_view.specs.declared.tables.Which.{Which}
 use Rattle.adb_view.specs.declared.tables.Which.TheVariants.{Package, Index, Idb, Intent}
 use Rattle.adb_schema.specs.declared.read.TheConstants.{PACKAGE_WORD, INDEX_WORD, IDB_WORD, INTENT_WORD}
@@ -67,12 +67,12 @@ abbrev pub files_after_first_block : Reading → FilesRead
 files_after_first_block done = no_more
 files_after_first_block (fault c) = refused c
 files_after_first_block (more b at r) =
-    files_read_from_blocks (expected_files_of_package (root_value Package b.payload)) r
+    files_read_from_blocks (expected_files_of_package (root_value_of_payload Package b.payload)) r
 
 -- the files that are read from a package, given the result of reading its header: the schema, or a fault
 abbrev pub files_after_header : List ℕ → Result ℕ Cause → FilesRead
 files_after_header file (Ok schema) =
-    files_after_first_block (block_stream_from (first_block_position schema file))
+    files_after_first_block (block_stream_from (first_block_position_of_schema_and_file schema file))
 files_after_header file (Err c) = refused c
 
 -- the files that are read from the file of a package, with their contents
@@ -90,6 +90,6 @@ pub record PackageWithContents : Type 0 where
 abbrev pub package_with_contents : List ℕ → PackageWithContents
 package_with_contents file =
     record {
-      value = root_value Package (payload_in file);
+      value = root_value_of_payload Package (payload_in file);
       contents = contents_in (files_read_from_package file);
     }

@@ -5,7 +5,7 @@
 ghost use Rattle.std.specs.Prelude.{◌≡◌, ◌≢◌, None, IfOk, IfErr, IfSome, IsTrue, is_some, length, ℕ, List, Some};
 ghost use Rattle.std.specs.Option.{option_or};
 ghost use Rattle.std.specs.Result.{result_err};
-ghost use Rattle.pkg_core.specs.Contents.{fault_of_files_read, digest_fault, hash_fault, contents_fault, contents_in, expected_files_of_package, files_read_from_blocks, ExpectedFile};
+ghost use Rattle.pkg_core.specs.Contents.{fault_of_files_read, fault_if_digests_differ, hash_fault, contents_fault, contents_in, expected_files_of_package, files_read_from_blocks, ExpectedFile};
 ghost use Rattle.pkg_core.specs.Opened.{opened_files};
 ghost use Rattle.pkg_core.specs.Whole.{container_fault, package_fault, table_of_schema, container_fault_of_table, files_read_from_package, package_with_contents};
 ghost use Rattle.pkg_core.specs.Refusals.{IsFaultOf};
@@ -18,7 +18,7 @@ ghost use Rattle.base_core.specs.declared.cause.Cause.{Cause};
 ghost use Rattle.adb_block.specs.Reading.{Reading};
 ghost use Rattle.adb_schema.specs.Soundness.{container_fault_except_contents, schema_word};
 ghost use Rattle.pkg_core.specs.FirstContents.{IsFirstContentsFault};
-ghost use Rattle.pkg_core.specs.GoodContents.{AreContentsOf, MatchEachExpectedSizeAndDigest};
+ghost use Rattle.pkg_core.specs.GoodContents.{AreContentsOfExpectedFiles, MatchEachExpectedSizeAndDigest};
 
 use crate::pack::{Package, PackageFault};
 use adb_block::Blocks;
@@ -142,7 +142,7 @@ pub(crate) fn hash_fault(hash: &[u8], bytes: &[u8]) -> Option<Cause>
 pub fn sha1_fault(hash: &[u8], found: [u8; 20]) -> Option<Cause>
     // The listed digest has the length of a SHA-1.
     requires { length hash.now ≡ 20 }
-    ensures { result ≡ digest_fault Digests.Sha1 hash.now found }
+    ensures { result ≡ fault_if_digests_differ Digests.Sha1 hash.now found }
 {
     if hash == found.as_slice() {
         return None;
@@ -160,7 +160,7 @@ pub fn sha1_fault(hash: &[u8], found: [u8; 20]) -> Option<Cause>
 pub fn sha256_fault(hash: &[u8], found: [u8; 32]) -> Option<Cause>
     // The listed digest has the length of a SHA-256.
     requires { length hash.now ≡ 32 }
-    ensures { result ≡ digest_fault Digests.Sha256 hash.now found }
+    ensures { result ≡ fault_if_digests_differ Digests.Sha256 hash.now found }
 {
     if hash == found.as_slice() {
         return None;
@@ -178,7 +178,7 @@ pub fn sha256_fault(hash: &[u8], found: [u8; 32]) -> Option<Cause>
 pub fn sha512_fault(hash: &[u8], found: [u8; 64]) -> Option<Cause>
     // The listed digest has the length of a SHA-512.
     requires { length hash.now ≡ 64 }
-    ensures { result ≡ digest_fault Digests.Sha512 hash.now found }
+    ensures { result ≡ fault_if_digests_differ Digests.Sha512 hash.now found }
 {
     if hash == found.as_slice() {
         return None;
@@ -195,7 +195,7 @@ pub fn sha512_fault(hash: &[u8], found: [u8; 64]) -> Option<Cause>
 /// others: each with the positions, the size and the digest of its file.
 pub fn good_blocks_give_the_contents_of_each_file()
     ensures { (expected : List ExpectedFile) (r : Reading) → contents_fault expected r ≡ None
-        → AreContentsOf expected (contents_in (files_read_from_blocks expected r)) }
+        → AreContentsOfExpectedFiles expected (contents_in (files_read_from_blocks expected r)) }
 {}
 
 /// The reported fault of the blocks is the first one. Each block of contents is tested against the

@@ -3,7 +3,7 @@
 
 ghost use Rattle.std.specs.Prelude.{◌≡◌, true, None, IfOk, IfErr, is_none};
 ghost use Rattle.adb_schema.specs.ReadFaults.{IsReadFault};
-ghost use Rattle.adb_schema.specs.Soundness.{payload_fault, root_value};
+ghost use Rattle.adb_schema.specs.Soundness.{payload_fault, root_value_of_payload};
 ghost use Rattle.adb_view.specs.declared.tables.Which.TheVariants as Tables;
 ghost use Rattle.adb_view.specs.Adb.{payload_of};
 
@@ -52,7 +52,7 @@ impl<'a> Contents<'a> {
             payload_fault Tables.Package (front_payload front.entry.now) ≡ None) }
         // The plain value is that of the payload of the front.
         ensures value { IfOk result (λ contents. value_of_contents contents
-            ≡ root_value Tables.Package (front_payload front.entry.now)) }
+            ≡ root_value_of_payload Tables.Package (front_payload front.entry.now)) }
         // The payload is that of the front.
         ensures payload { IfOk result (λ contents. payload_of_contents contents
             ≡ front_payload front.entry.now) }
@@ -67,7 +67,8 @@ impl<'a> Contents<'a> {
         // The payload passes all tests of a package.
         requires { payload_fault Tables.Package payload.now ≡ None }
         // The plain value is that of the payload.
-        ensures value { value_of_contents result ≡ root_value Tables.Package payload.entry.now }
+        ensures value { value_of_contents result
+            ≡ root_value_of_payload Tables.Package payload.entry.now }
         // The result has the given payload.
         ensures payload { payload_of_contents result ≡ payload.entry.now }
     {

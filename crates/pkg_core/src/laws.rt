@@ -4,7 +4,7 @@ ghost use Rattle.std.specs.Prelude.{◌≡◌, ◌≢◌, ◌<◌, ℕ, All, Lis
 ghost use Rattle.std.specs.Option.{option_or};
 ghost use Rattle.adb_block.specs.Reading.{block_stream_from};
 ghost use Rattle.adb_schema.specs.SoundContainers.{IsSoundValue};
-ghost use Rattle.adb_schema.specs.Soundness.{container_fault_except_contents, payload_fault, payload_in, root_value};
+ghost use Rattle.adb_schema.specs.Soundness.{container_fault_except_contents, payload_fault, payload_in, root_value_of_payload};
 ghost use Rattle.adb_schema.specs.declared.read.TheConstants.{PACKAGE_WORD};
 ghost use Rattle.adb_view.specs.declared.tables.Which.{Which};
 ghost use Rattle.adb_view.specs.declared.tables.Which.TheVariants as Tables;
@@ -50,7 +50,7 @@ pub fn a_package_is_tested_by_its_front_and_then_by_its_contents()
     ensures contents { (file : List ℕ) (front : Front) → IsFrontOf PACKAGE_WORD file front
         → container_fault file
         ≡ option_or (payload_fault Tables.Package (front_payload front))
-        (contents_fault (expected_files_of_package (root_value Tables.Package
+        (contents_fault (expected_files_of_package (root_value_of_payload Tables.Package
         (front_payload front)))
         (block_stream_from (position_after_front front file))) }
 {}
@@ -61,10 +61,10 @@ pub fn a_package_is_tested_by_its_front_and_then_by_its_contents()
 pub fn tested_payloads_hold_sound_values()
     // The root of such a payload has a sound value.
     ensures value { (which : Which) (payload : List ℕ) → payload_fault which payload ≡ None
-        → IsSoundValue which (root_value which payload) }
+        → IsSoundValue which (root_value_of_payload which payload) }
     // If the payload consists of bytes, this value is normal.
     ensures normal { (which : Which) (payload : List ℕ) → payload_fault which payload ≡ None
-        → All (λ b. b < 256) payload → IsNormal (root_value which payload) }
+        → All (λ b. b < 256) payload → IsNormal (root_value_of_payload which payload) }
 {
     // Laws that the proof needs; they have no effect at run time.
     values_of_few_visits_have_no_fault();

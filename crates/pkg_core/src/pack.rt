@@ -5,7 +5,7 @@ ghost use Rattle.std.specs.Prelude.{◌≡◌, None, IfOk, IfErr};
 ghost use Rattle.sha2.specs.Sha256.{sha256};
 ghost use Rattle.adb_block.specs.Reading.{block_stream_from};
 ghost use Rattle.adb_schema.specs.Checked.{table_of_checked};
-ghost use Rattle.adb_schema.specs.Soundness.{container_fault_except_contents, payload_in, root_value};
+ghost use Rattle.adb_schema.specs.Soundness.{container_fault_except_contents, payload_in, root_value_of_payload};
 ghost use Rattle.adb_view.specs.declared.tables.Which.TheVariants as Tables;
 ghost use Rattle.pkg_core.specs.Contents.{expected_files_of_package, files_read_from_blocks};
 ghost use Rattle.pkg_core.specs.Whole.{files_read_from_package};
@@ -99,7 +99,8 @@ impl<'a> Package<'a> {
             (λ _. container_fault_except_contents Tables.Package bytes.entry.now ≡ None) }
         // The plain value is that of the payload of the file's first block.
         ensures value { IfOk result
-            (λ pkg. opened_value pkg ≡ root_value Tables.Package (payload_in bytes.entry.now)) }
+            (λ pkg. opened_value pkg
+            ≡ root_value_of_payload Tables.Package (payload_in bytes.entry.now)) }
         // The payload is that of the package's first block.
         ensures payload { IfOk result (λ pkg. opened_payload pkg ≡ payload_in bytes.entry.now) }
         // The id of the package is the SHA-256 digest of its payload.
@@ -182,7 +183,7 @@ fn first_block<'a>(bytes: &'a [u8]) -> (&'a [u8], Blocks<'a>)
     ensures payload { result.0.now ≡ payload_in bytes.entry.now }
     // The blocks in the second part of the result give the files of the package.
     ensures files { files_read_from_blocks (expected_files_of_package
-        (root_value Tables.Package result.0.now))
+        (root_value_of_payload Tables.Package result.0.now))
         (block_stream_from result.1) ≡ files_read_from_package bytes.entry.now }
 {
     // No test of the values failed, so that the header is good and the first block is there.

@@ -3,7 +3,7 @@
 
 ghost use Rattle.std.specs.Prelude.{◌≡◌, ◌≤◌, ◌+◌, ◌-◌, ℕ, List, None, Some, Ok, length, drop, IfOk, IfSome, OnOk};
 ghost use Rattle.adb_block.specs.Framing.{ended};
-ghost use Rattle.adb_block.specs.Frames.{IsFrameOrEndOfStep, raw_size};
+ghost use Rattle.adb_block.specs.Frames.{IsFrameOrEndOfBlockResult, raw_size};
 ghost use Rattle.adb_block.specs.declared.block.BlockKind.TheVariants as Kinds;
 ghost use Rattle.pkg_core.specs.Places.{HasWholeFileLeft, HasPositions, OpensOnlyContents, IsStepResult, IsWalkAfterStep, place_after, block_step_at, whole_size};
 ghost use Rattle.pkg_core.specs.declared.place.Step.TheVariants.{End as Ended};
@@ -60,7 +60,8 @@ impl<'a> BlockPlace<'a> {
         // For each file of this length that has this block at the place, the result and the new
         // place are those of *IsStepResult*.
         ensures step { (file : List ℕ) → length file ≡ self.old.len
-            → IsFrameOrEndOfStep (Ok framing) (drop self.old.at file) (block_step_at self.old file)
+            → IsFrameOrEndOfBlockResult (Ok framing) (drop self.old.at file)
+            (block_step_at self.old file)
             → HasPositions framing positions.now self.old file
             → IsStepResult framing self.old file result self.new }
         // The length of the file is unchanged.
@@ -123,7 +124,7 @@ impl<'a> BlockPlace<'a> {
         // For each file of this length that has this block at the place, the result and the new
         // place are those of *IsStepResult*.
         ensures step { (file : List ℕ) → length file ≡ self.old.len
-            → IsFrameOrEndOfStep (Ok (Some frame)) (drop self.old.at file)
+            → IsFrameOrEndOfBlockResult (Ok (Some frame)) (drop self.old.at file)
             (block_step_at self.old file)
             → HasPositions (Some frame) positions.now self.old file
             → IsStepResult (Some frame) self.old file result self.new }
@@ -162,7 +163,7 @@ impl<'a> BlockPlace<'a> {
         // For each file of this length that has this block at the place, the result and the new
         // place are those of *IsStepResult*.
         ensures step { (file : List ℕ) → length file ≡ self.old.len
-            → IsFrameOrEndOfStep (Ok (Some frame)) (drop self.old.at file)
+            → IsFrameOrEndOfBlockResult (Ok (Some frame)) (drop self.old.at file)
             (block_step_at self.old file)
             → HasPositions (Some frame) positions.now self.old file
             → IsStepResult (Some frame) self.old file result self.new }

@@ -3,8 +3,8 @@
 //! table.
 
 ghost use Rattle.std.specs.Prelude.{◌≡◌, ◌≤◌, ◌+◌, ◌-◌, ℕ, List, Option, None, true, length, min, take, IfOk, IfErr, IfSome};
-ghost use Rattle.adb_block.specs.Framing.{next_step};
-ghost use Rattle.adb_block.specs.Frames.{IsHeadPrefix, IsFrameOfStep, head_len, raw_size};
+ghost use Rattle.adb_block.specs.Framing.{next_block_result_at_offset};
+ghost use Rattle.adb_block.specs.Frames.{IsHeadPrefix, IsFrameOfBlockResult, head_len, raw_size};
 ghost use Rattle.adb_block.specs.Header.{schema_of_header};
 ghost use Rattle.adb_block.specs.Piece.{may_be_next_kind, padding_of};
 ghost use Rattle.base_core.specs.Calls.{IfObservable};
@@ -192,7 +192,7 @@ fn first_framed(left: u64, head: &HeadBytes) -> Result<Frame, Cause>
     requires short { length head.now ≤ head_len head.now }
     // The result is that of the tests, for any rest of the file that begins with these bytes.
     ensures exact { (bytes : List ℕ) → length bytes ≡ left → take (length head.now) bytes ≡ head.now
-        → IsFrameOfStep result bytes (next_step None 8 bytes) }
+        → IsFrameOfBlockResult result bytes (next_block_result_at_offset None 8 bytes) }
     // A first block may have the kind of this frame.
     ensures order { IfOk result (λ framed. may_be_next_kind None framed.kind ≡ true) }
     // The block ends within the file, and its whole header was read.

@@ -10,7 +10,7 @@ use Rattle.dep_core.specs.Dependency.{Dependency}
 use Rattle.dep_core.specs.Meets.{constraint_accepts}
 use Rattle.option_ranks.specs.candidate_core.Candidates.{Candidate, Need, entry, named, is_eligible, is_met_by_provides_entry, meets_dependency, offers_name, need_name}
 use Rattle.option_ranks.specs.candidate_core.Rank.{SealedPool, candidate_at_passes, meets_at}
-use Rattle.option_ranks.specs.candidate_core.Options.{is_eligible_for_need, places_offering, places_passing_from}
+use Rattle.option_ranks.specs.candidate_core.Options.{is_eligible_for_need, places_offering, places_passing_counted_from}
 
 any_weaker : (p q : Dependency → Bool) (xs : List Dependency) → ((x : Dependency) → p x ≡ true → q x ≡ true) → list_any p xs ≡ true → list_any q xs ≡ true
 any_weaker p q [] to h = h
@@ -29,7 +29,7 @@ meeting_offers d c h =
     (λ e. both_first (bytes_eq d.name c.name) (constraint_accepts d.version d.bits c.version) e)
     (λ e. any_weaker (is_met_by_provides_entry d) (λ (p : Dependency). not p.conflict && bytes_eq d.name p.name) c.provides (λ p g. and_weaker (not p.conflict) _ (bytes_eq d.name p.name) (λ k. both_first (bytes_eq d.name p.name) (constraint_accepts d.version d.bits p.version) k) g) e) h
 
-pub filter_places : (weak strong : Candidate → Bool) (all : ℕ → Option Candidate) (n : ℕ) (cs : List Candidate) → ((c : Candidate) → strong c ≡ true → weak c ≡ true) → ((k : ℕ) → all (n + k) ≡ slice_get cs k) → filter (λ k. option_map_or strong (all k) false) (places_passing_from n weak cs) ≡ places_passing_from n strong cs
+pub filter_places : (weak strong : Candidate → Bool) (all : ℕ → Option Candidate) (n : ℕ) (cs : List Candidate) → ((c : Candidate) → strong c ≡ true → weak c ≡ true) → ((k : ℕ) → all (n + k) ≡ slice_get cs k) → filter (λ k. option_map_or strong (all k) false) (places_passing_counted_from n weak cs) ≡ places_passing_counted_from n strong cs
 filter_places weak strong all n [] to there = refl
 filter_places weak strong all n (c ∷ cs) to there =
     let z : n + 0 ≡ n = omega arith in
@@ -43,17 +43,17 @@ filter_places weak strong all n (c ∷ cs) to there =
       ]
     ]
 
-entry_places : (pool : SealedPool) (d : Dependency) → filter (λ k. candidate_at_passes pool (is_eligible_for_need pool (entry d)) k) (places_offering d.name pool.candidates) ≡ places_passing_from 0 (is_eligible_for_need pool (entry d)) pool.candidates
+entry_places : (pool : SealedPool) (d : Dependency) → filter (λ k. candidate_at_passes pool (is_eligible_for_need pool (entry d)) k) (places_offering d.name pool.candidates) ≡ places_passing_counted_from 0 (is_eligible_for_need pool (entry d)) pool.candidates
 entry_places pool d =
     filter_places (offers_name d.name) (is_eligible_for_need pool (entry d)) (λ k. slice_get pool.candidates k) 0 pool.candidates
     (λ c h. meeting_offers d c (both_second (is_eligible pool.world c) (meets_dependency d c) h)) (λ k. ap (slice_get pool.candidates) (omega arith))
 
-named_places : (pool : SealedPool) (name : List ℕ) → filter (λ k. candidate_at_passes pool (is_eligible_for_need pool (named name)) k) (places_offering name pool.candidates) ≡ places_passing_from 0 (is_eligible_for_need pool (named name)) pool.candidates
+named_places : (pool : SealedPool) (name : List ℕ) → filter (λ k. candidate_at_passes pool (is_eligible_for_need pool (named name)) k) (places_offering name pool.candidates) ≡ places_passing_counted_from 0 (is_eligible_for_need pool (named name)) pool.candidates
 named_places pool name =
     filter_places (offers_name name) (is_eligible_for_need pool (named name)) (λ k. slice_get pool.candidates k) 0 pool.candidates
     (λ c h. rw (both_second (is_eligible pool.world c) (bytes_eq name c.name) h) refl) (λ k. ap (slice_get pool.candidates) (omega arith))
 
-pub fitting_places : (pool : SealedPool) (need : Need) → filter (λ k. candidate_at_passes pool (is_eligible_for_need pool need) k) (places_offering (need_name need) pool.candidates) ≡ places_passing_from 0 (is_eligible_for_need pool need) pool.candidates
+pub fitting_places : (pool : SealedPool) (need : Need) → filter (λ k. candidate_at_passes pool (is_eligible_for_need pool need) k) (places_offering (need_name need) pool.candidates) ≡ places_passing_counted_from 0 (is_eligible_for_need pool need) pool.candidates
 fitting_places pool (entry d) = entry_places pool d
 fitting_places pool (named name) = named_places pool name
 

@@ -13,7 +13,7 @@ use Rattle.pool_core.specs.declared.marks.Effect.{Effect}
 use Rattle.pool_core.specs.declared.marks.Effect.TheVariants.{Bar, Pin}
 use Rattle.option_ranks.specs.candidate_core.Candidates.{Candidate, is_allowed_by_tags_of_world, is_barred_by_world, offers_name}
 use Rattle.pool_core.specs.Marks.{affects, is_affected, with_mark_set_at, with_marks_set}
-use Rattle.option_ranks.specs.candidate_core.Options.{places_passing_from}
+use Rattle.option_ranks.specs.candidate_core.Options.{places_passing_counted_from}
 use Rattle.option_ranks.specs.candidate_core.Rank.{is_pinned, is_name_pinned_to_tag}
 use Rattle.pool_core.proofs.Filtered.{meeting_offers}
 use Rattle.option_ranks.proofs.candidate_core.Steps.{any_snoc}
@@ -64,7 +64,7 @@ pub length-marks_among : (test : Candidate → Bool) (ks : List ℕ) (ms : List 
 length-marks_among test [] ms cs = refl
 length-marks_among test (k ∷ ks) ms cs = length-marks_among test ks (with_mark_set_at test k ms cs) cs ∙ length-with_mark_set_at test k ms cs
 
-later_places : (n : ℕ) (test : Candidate → Bool) (cs : List Candidate) → places_passing_from (suc n) test cs ≡ map suc (places_passing_from n test cs)
+later_places : (n : ℕ) (test : Candidate → Bool) (cs : List Candidate) → places_passing_counted_from (suc n) test cs ≡ map suc (places_passing_counted_from n test cs)
 later_places n test [] = refl
 later_places n test (c ∷ cs) = elim (cases_Bool (test c)) [
   | inl e ↦ rw e (ap (λ (z : List ℕ). suc n ∷ z) (later_places (suc n) test cs))
@@ -76,14 +76,14 @@ later_marks test [] m ms c cs = refl
 later_marks test (k ∷ ks) m ms c cs = later_marks test ks m (with_mark_set_at test k ms cs) c cs
 
 -- marking at the places that pass a weaker test marks all that pass
-marks_at_places : (weak test : Candidate → Bool) → ((c : Candidate) → weak c ≡ false → test c ≡ false) → (ms : List Bool) (cs : List Candidate) → length ms ≡ length cs → marks_among test (places_passing_from 0 weak cs) ms cs ≡ with_marks_set test ms cs
+marks_at_places : (weak test : Candidate → Bool) → ((c : Candidate) → weak c ≡ false → test c ≡ false) → (ms : List Bool) (cs : List Candidate) → length ms ≡ length cs → marks_among test (places_passing_counted_from 0 weak cs) ms cs ≡ with_marks_set test ms cs
 marks_at_places weak test out [] [] h = refl
 marks_at_places weak test out [] (c ∷ cs) h = absurd (omega (arith, h))
 marks_at_places weak test out (m ∷ ms) [] h = refl
 marks_at_places weak test out (m ∷ ms) (c ∷ cs) h =
-    let rest : marks_among test (places_passing_from 0 weak cs) ms cs ≡ with_marks_set test ms cs = marks_at_places weak test out ms cs (omega (arith, h)) in
-    let behind : (b : Bool) → marks_among test (places_passing_from 1 weak cs) (b ∷ ms) (c ∷ cs) ≡ b ∷ with_marks_set test ms cs =
-    λ b. ap (λ (ks : List ℕ). marks_among test ks (b ∷ ms) (c ∷ cs)) (later_places 0 weak cs) ∙ (later_marks test (places_passing_from 0 weak cs) b ms c cs ∙ ap (λ (z : List Bool). b ∷ z) rest) in
+    let rest : marks_among test (places_passing_counted_from 0 weak cs) ms cs ≡ with_marks_set test ms cs = marks_at_places weak test out ms cs (omega (arith, h)) in
+    let behind : (b : Bool) → marks_among test (places_passing_counted_from 1 weak cs) (b ∷ ms) (c ∷ cs) ≡ b ∷ with_marks_set test ms cs =
+    λ b. ap (λ (ks : List ℕ). marks_among test ks (b ∷ ms) (c ∷ cs)) (later_places 0 weak cs) ∙ (later_marks test (places_passing_counted_from 0 weak cs) b ms c cs ∙ ap (λ (z : List Bool). b ∷ z) rest) in
     elim (cases_Bool (weak c)) [
       | inl e ↦ rw e (behind (m || test c))
       | inr e ↦ rw e (behind m ∙ ap (λ (b : Bool). b ∷ with_marks_set test ms cs) (sym (ap (λ (b : Bool). m || b) (out c e) ∙ or-false m)))
@@ -111,7 +111,7 @@ not_affected effect d c h = elim (cases_Bool (affects effect d c)) [
   | inr e ↦ e
 ]
 
-pub marks_at_offers : (effect : Effect) (d : Dependency) (ms : List Bool) (cs : List Candidate) → length ms ≡ length cs → marks_among (affects effect d) (places_passing_from 0 (offers_name d.name) cs) ms cs ≡ with_marks_set (affects effect d) ms cs
+pub marks_at_offers : (effect : Effect) (d : Dependency) (ms : List Bool) (cs : List Candidate) → length ms ≡ length cs → marks_among (affects effect d) (places_passing_counted_from 0 (offers_name d.name) cs) ms cs ≡ with_marks_set (affects effect d) ms cs
 marks_at_offers effect d ms cs h = marks_at_places (offers_name d.name) (affects effect d) (not_affected effect d) ms cs h
 
 -- ---- some entries

@@ -7,7 +7,7 @@ use Rattle.std.specs.Str.{bytes_eq}
 use Rattle.std.proofs.Math.Bool.{or-true, and-false}
 use Rattle.std.proofs.lemmas.Bool.{cases_Bool}
 use Rattle.base_core.proofs.Booleans.{both_second, both_first}
-use Rattle.option_ranks.specs.candidate_core.Candidates.{Candidate, as_installed, as_installed_where_same, is_same_id, is_same_package, is_same_version, with_installed}
+use Rattle.option_ranks.specs.candidate_core.Candidates.{Candidate, as_installed, marked_installed_where_same_as, is_same_id, is_same_package, is_same_version, with_installed_marked_or_added}
 
 pub same_version : (a b : Option (List ℕ)) → is_same_version a b ≡ true → a ≡ b
 same_version None None h = refl
@@ -70,7 +70,7 @@ front_is_same (x ∷ id) rest h = same_by (x ∷ id) (x ∷ id ++ rest) (nonempt
 
 -- ---- each place keeps its candidate
 
-kept_or_marked : (installed c : Candidate) (k : ℕ) (cs : List Candidate) → slice_get cs k ≡ Some c → slice_get (as_installed_where_same installed cs) k ≡ Some (if is_same_package installed c then as_installed c else c)
+kept_or_marked : (installed c : Candidate) (k : ℕ) (cs : List Candidate) → slice_get cs k ≡ Some c → slice_get (marked_installed_where_same_as installed cs) k ≡ Some (if is_same_package installed c then as_installed c else c)
 kept_or_marked installed c zero [] h = absurd (cc)
 kept_or_marked installed c (suc k) [] h = absurd (cc)
 kept_or_marked installed c zero (d ∷ cs) h =
@@ -98,7 +98,7 @@ none_same_at installed c (suc k) (d ∷ cs) h e = elim (cases_Bool (is_same_pack
   | inr f ↦ none_same_at installed c k cs h (rw f at e)
 ]
 
-pub kept : (cs : List Candidate) (installed c : Candidate) (k : ℕ) → slice_get cs k ≡ Some c → slice_get (with_installed cs installed) k ≡ Some (if is_same_package installed c then as_installed c else c)
+pub kept : (cs : List Candidate) (installed c : Candidate) (k : ℕ) → slice_get cs k ≡ Some c → slice_get (with_installed_marked_or_added cs installed) k ≡ Some (if is_same_package installed c then as_installed c else c)
 kept cs installed c k h = elim (cases_Bool (list_any (is_same_package installed) cs)) [
   | inl some ↦ rw some (kept_or_marked installed c k cs h)
   | inr none ↦ rw (none, none_same_at installed c k cs h none) (kept_in_front c k cs (installed ∷ []) h)

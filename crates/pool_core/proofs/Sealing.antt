@@ -8,8 +8,8 @@ use Rattle.std.proofs.lemmas.Bool.{cases_Bool}
 use Rattle.base_core.proofs.Booleans.{both_second, both_first}
 use Rattle.dep_core.specs.Dependency.{Dependency}
 use Rattle.pool_core.specs.declared.world_marks.EntryKind.TheVariants.{Conflict, Tagged}
-use Rattle.option_ranks.specs.candidate_core.Candidates.{Candidate, has_usable_install_if, is_allowed_by_tags_of_world, is_eligible, is_barred_by_world, meets_dependency, is_tag_used_in_world}
-use Rattle.option_ranks.specs.candidate_core.Options.{places_passing_from}
+use Rattle.option_ranks.specs.candidate_core.Candidates.{Candidate, is_eligible_with_positive_install_if, is_allowed_by_tags_of_world, is_eligible, is_barred_by_world, meets_dependency, is_tag_used_in_world}
+use Rattle.option_ranks.specs.candidate_core.Options.{places_passing_counted_from}
 use Rattle.option_ranks.specs.candidate_core.Rank.{is_pinned, is_name_pinned_to_tag}
 use Rattle.option_ranks.specs.candidate_core.PositiveInstallIfs.{has_positive_install_if, places_marked_with_install_if}
 use Rattle.pool_core.specs.World.{entries_of_kind, is_entry_of_kind}
@@ -69,12 +69,12 @@ pinned_marked world tagged marks cs t is =
     is ∙ (ap (λ (ds : List Dependency). map (λ (c : Candidate). is_pinned ds c) cs) t
     ∙ map_same (λ (c : Candidate). is_pinned (entries_of_kind Tagged world) c) (is_pinned world) cs (pinned_is world))
 
-marked_places : (world : List Dependency) (n : ℕ) (cs : List Candidate) → places_marked_with_install_if n (map (is_eligible world) cs) cs ≡ places_passing_from n (has_usable_install_if world) cs
+marked_places : (world : List Dependency) (n : ℕ) (cs : List Candidate) → places_marked_with_install_if n (map (is_eligible world) cs) cs ≡ places_passing_counted_from n (is_eligible_with_positive_install_if world) cs
 marked_places world n [] = refl
 marked_places world n (c ∷ cs) = elim (cases_Bool (is_eligible world c && has_positive_install_if c)) [
   | inl e ↦ rw e (ap (λ (z : List ℕ). n ∷ z) (marked_places world (suc n) cs))
   | inr e ↦ rw e (marked_places world (suc n) cs)
 ]
 
-pub install_ifs_marked : (world : List Dependency) (marks : List Bool) (cs : List Candidate) (ids : List ℕ) → marks ≡ map (is_eligible world) cs → ids ≡ places_marked_with_install_if 0 marks cs → ids ≡ places_passing_from 0 (has_usable_install_if world) cs
+pub install_ifs_marked : (world : List Dependency) (marks : List Bool) (cs : List Candidate) (ids : List ℕ) → marks ≡ map (is_eligible world) cs → ids ≡ places_marked_with_install_if 0 marks cs → ids ≡ places_passing_counted_from 0 (is_eligible_with_positive_install_if world) cs
 install_ifs_marked world marks cs ids is found = found ∙ (ap (λ (ms : List Bool). places_marked_with_install_if 0 ms cs) is ∙ marked_places world 0 cs)

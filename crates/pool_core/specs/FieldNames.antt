@@ -18,5 +18,5 @@ value_under_name name (f ∷ fields) (more v values) =
     if bytes_eq f.0 name then v else value_under_name name fields values
 
 -- the value of that field of a package's information which has this name, such as `depends`
-abbrev pub info_under_name : List ℕ → Plain → Plain
-info_under_name name info = value_under_name name (format_table PkgInfo).1 (entries_in info)
+abbrev pub value_of_info_field_named : List ℕ → Plain → Plain
+value_of_info_field_named name info = value_under_name name (format_table PkgInfo).1 (entries_in info)

@@ -4,7 +4,7 @@ use Rattle.std.specs.Prelude.{◌≡◌, ◌<◌, ℕ, List, Some, length, slice
 use Rattle.dep_core.specs.Dependency.{Dependency}
 use Rattle.option_ranks.specs.candidate_core.Candidates.{Candidate, Need}
 use Rattle.option_ranks.specs.candidate_core.Matches.{AreMatchesFor, AreRememberedMatchesOf}
-use Rattle.option_ranks.specs.candidate_core.Options.{is_eligible_for_need, places_passing_from}
+use Rattle.option_ranks.specs.candidate_core.Options.{is_eligible_for_need, places_passing_counted_from}
 use Rattle.option_ranks.specs.candidate_core.Packages.{candidates_of_packages}
 use Rattle.option_ranks.specs.candidate_core.Rank.{SealedPool}
 use Rattle.option_ranks.specs.candidate_core.VersionTexts.{source_text}
@@ -13,7 +13,7 @@ use Rattle.option_ranks.specs.candidate_core.declared.packages.Packages.{Package
 
 -- the places of the candidates that may be selected and meet the need, in rising order
 abbrev pub places_fitting : SealedPool → Need → List ℕ
-places_fitting pool need = places_passing_from 0 (is_eligible_for_need pool need) pool.candidates
+places_fitting pool need = places_passing_counted_from 0 (is_eligible_for_need pool need) pool.candidates
 
 -- the remembered results for a need are right for the versions of the packages
 abbrev pub AreMatchesOfPackages : Packages → Need → KnownMatches → Type 0

@@ -8,8 +8,8 @@ ghost use Rattle.std.specs.declared.cmp.Ordering.TheVariants.{Equal};
 ghost use Rattle.std.specs.List.{list_any};
 ghost use Rattle.adb_view.specs.Plain.{Plain};
 ghost use Rattle.adb_view.specs.Values.{int_in, text_in};
-ghost use Rattle.option_ranks.specs.candidate_core.Candidates.{Candidate, Need, as_installed, candidate_from_parts, candidate_of, dependencies_in, is_same_id, is_same_package, need_name, offers_name, version_of_text, with_installed};
-ghost use Rattle.pool_core.specs.FieldNames.{info_under_name};
+ghost use Rattle.option_ranks.specs.candidate_core.Candidates.{Candidate, Need, as_installed, candidate_from_parts, candidate_of, dependencies_in_list_value, is_same_id, is_same_package, need_name, offers_name, version_of_text, with_installed_marked_or_added};
+ghost use Rattle.pool_core.specs.FieldNames.{value_of_info_field_named};
 ghost use Rattle.option_ranks.specs.candidate_core.Rank.{SealedPool, candidate_at_passes, is_better, is_eligible_at, meets_at, rank_cmp};
 ghost use Rattle.option_ranks.specs.candidate_core.Options.{AreStrictlyIncreasing, IsSortedBestFirst, IsIn, options_for, places_offering};
 
@@ -70,13 +70,14 @@ pub fn offers_hold_what_meets()
 pub fn a_candidate_is_read_by_field_names()
     ensures { (info : Plain) (repository : Option ℕ) (tag : Option (List ℕ)) (installed : Bool) →
         candidate_of info repository tag installed
-        ≡ candidate_from_parts info (text_in (info_under_name (codes "name") info))
-        (version_of_text (text_in (info_under_name (codes "version") info)))
-        (text_in (info_under_name (codes "hashes") info))
-        (dependencies_in (info_under_name (codes "depends") info))
-        (dependencies_in (info_under_name (codes "provides") info))
-        (dependencies_in (info_under_name (codes "install-if") info))
-        (int_in (info_under_name (codes "provider-priority") info)) repository tag installed }
+        ≡ candidate_from_parts info (text_in (value_of_info_field_named (codes "name") info))
+        (version_of_text (text_in (value_of_info_field_named (codes "version") info)))
+        (text_in (value_of_info_field_named (codes "hashes") info))
+        (dependencies_in_list_value (value_of_info_field_named (codes "depends") info))
+        (dependencies_in_list_value (value_of_info_field_named (codes "provides") info))
+        (dependencies_in_list_value (value_of_info_field_named (codes "install-if") info))
+        (int_in (value_of_info_field_named
+        (codes "provider-priority") info)) repository tag installed }
 {}
 
 /// An installed package is recognized in an index by its name, by the text of its version, and by
@@ -107,14 +108,14 @@ pub fn installed_candidates_count_once()
     // If a candidate is the installed package, none is added.
     ensures once { (candidates : List Candidate) (installed : Candidate) →
         list_any (is_same_package installed) candidates ≡ true →
-        length (with_installed candidates installed) ≡ length candidates }
+        length (with_installed_marked_or_added candidates installed) ≡ length candidates }
     // Otherwise the installed package is appended.
     ensures apart { (candidates : List Candidate) (installed : Candidate) →
         list_any (is_same_package installed) candidates ≡ false →
-        with_installed candidates installed ≡ candidates ++ installed ∷ [] }
+        with_installed_marked_or_added candidates installed ≡ candidates ++ installed ∷ [] }
     // Each candidate stays at its place, and is marked if it is the installed package.
     ensures kept { (candidates : List Candidate) (installed c : Candidate) (place : ℕ) →
         slice_get candidates place ≡ Some c →
-        slice_get (with_installed candidates installed) place
+        slice_get (with_installed_marked_or_added candidates installed) place
         ≡ Some (if is_same_package installed c then as_installed c else c) }
 {}

@@ -4,7 +4,7 @@ ghost use Rattle.std.specs.Prelude.{◌≡◌, ◌≤◌, ◌<◌, ◌+◌, [], 
 ghost use Rattle.option_ranks.specs.adb_schema.Views.{index_value, info_value};
 ghost use Rattle.adb_view.specs.Values.{count_of, entries_in, entry_in};
 ghost use Rattle.option_ranks.specs.candidate_core.declared.candidate_list.TheConstants.{MOST_CANDIDATES};
-ghost use Rattle.option_ranks.specs.candidate_core.Candidates.{candidate_of, candidates_of_index, with_installed};
+ghost use Rattle.option_ranks.specs.candidate_core.Candidates.{candidate_of, candidates_of_index, with_installed_marked_or_added};
 ghost use Rattle.option_ranks.specs.candidate_core.CandidateList.{IsCandidateList};
 ghost use Rattle.option_ranks.specs.candidate_core.Packages.{candidates_of_packages};
 ghost use Rattle.option_ranks.specs.candidate_core.Rank.{sealed_pool_from_parts};
@@ -144,12 +144,13 @@ impl<'a> Pool<'a> {
         // The list then has the installed package: the candidates that are the same package are
         // marked, or the installed package is a candidate of its own.
         ensures ok { OnOk result (self.new
-            ≡ with_installed self.old (candidate_of (info_value info.entry) None None true)) }
+            ≡ with_installed_marked_or_added self.old (candidate_of
+            (info_value info.entry) None None true)) }
         ensures fits { OnOk result (length self.new ≤ MOST_CANDIDATES) }
         // A refusal for too many candidates is right for the number of candidates that the list
         // would have.
         ensures fault { IfErr result (λ fault. IsPoolFault fault
-            (length (with_installed self.old
+            (length (with_installed_marked_or_added self.old
             (candidate_of (info_value info.entry) None None true)))) }
         ensures err { OnErr result (self.new ≡ []) }
     {

@@ -4,9 +4,9 @@
 //! (install-if), and "Which selection is taken" (the rank of options).
 ghost use Rattle.std.specs.Prelude.{◌≡◌, ◌<◌, ◌==◌, ◌++◌, ◌∷◌, [], map, length, slice_get, All, Some, IfOk, OnOk, filter, not, if◌then◌else◌, false};
 ghost use Rattle.dep_core.specs.Meets.{dependency};
-ghost use Rattle.option_ranks.specs.candidate_core.Candidates.{has_usable_install_if, is_eligible};
+ghost use Rattle.option_ranks.specs.candidate_core.Candidates.{is_eligible_with_positive_install_if, is_eligible};
 ghost use Rattle.option_ranks.specs.candidate_core.CandidateList.{IsCandidateList};
-ghost use Rattle.option_ranks.specs.candidate_core.Options.{is_eligible_for_need, places_offering, options_for, places_passing_from};
+ghost use Rattle.option_ranks.specs.candidate_core.Options.{is_eligible_for_need, places_offering, options_for, places_passing_counted_from};
 ghost use Rattle.option_ranks.specs.candidate_core.Packages.{candidates_of_packages};
 ghost use Rattle.option_ranks.specs.candidate_core.Rank.{candidate_at, candidate_at_passes, is_kept_installed, is_pinned, is_pinned_at, sealed_pool_from_parts};
 ghost use Rattle.option_ranks.specs.Ranking.{IsRankingIn};
@@ -53,8 +53,8 @@ impl<'a> Model for Sealed<'a> {
     ghost use Rattle.std.specs.Coded.{codes};
     ghost use Rattle.option_ranks.specs.candidate_core.PlainCode.{plain_code};
     ghost use Rattle.std.specs.Prelude.{◌≡◌, map};
-    ghost use Rattle.option_ranks.specs.candidate_core.Candidates.{has_usable_install_if, is_eligible};
-    ghost use Rattle.option_ranks.specs.candidate_core.Options.{places_passing_from};
+    ghost use Rattle.option_ranks.specs.candidate_core.Candidates.{is_eligible_with_positive_install_if, is_eligible};
+    ghost use Rattle.option_ranks.specs.candidate_core.Options.{places_passing_counted_from};
     ghost use Rattle.option_ranks.specs.candidate_core.Packages.{candidates_of_packages};
     ghost use Rattle.option_ranks.specs.candidate_core.Rank.{SealedPool, is_kept_installed, is_pinned, sealed_pool_from_parts};
     ghost use Rattle.option_ranks.specs.candidate_core.Table.{HasPlacesOfEachName};
@@ -79,7 +79,7 @@ impl<'a> Model for Sealed<'a> {
         × (s.kept.items ≡ map (is_kept_installed (names_upgraded_by s.upgrade))
         (candidates_of_packages s.packages))
         × (s.install_ifs.items
-        ≡ places_passing_from 0 (has_usable_install_if s.world.now)
+        ≡ places_passing_counted_from 0 (is_eligible_with_positive_install_if s.world.now)
         (candidates_of_packages s.packages)) };
 }
 
@@ -143,7 +143,8 @@ impl<'a> Sealed<'a> {
     /// The places of the candidates whose install-if can apply, in rising order.
     pub fn install_ifs(&self) -> &[CandId]
         ensures { result.now
-            ≡ places_passing_from 0 (has_usable_install_if self.now.world) self.now.candidates }
+            ≡ places_passing_counted_from 0
+            (is_eligible_with_positive_install_if self.now.world) self.now.candidates }
     {
         self.install_ifs.as_slice()
     }

@@ -4,9 +4,9 @@
 //! "Which selection is taken", key 1 (pins).
 ghost use Rattle.std.specs.Prelude.{◌≡◌, ◌<◌, ◌^◌, ◌++◌, ◌∷◌, [], map, length, IfOk, OnOk, ◌&&◌, not, if◌then◌else◌};
 ghost use Rattle.dep_core.specs.Meets.{dependency};
-ghost use Rattle.option_ranks.specs.candidate_core.Candidates.{has_usable_install_if, is_eligible};
+ghost use Rattle.option_ranks.specs.candidate_core.Candidates.{is_eligible_with_positive_install_if, is_eligible};
 ghost use Rattle.option_ranks.specs.candidate_core.CandidateList.{IsCandidateList};
-ghost use Rattle.option_ranks.specs.candidate_core.Options.{places_passing_from};
+ghost use Rattle.option_ranks.specs.candidate_core.Options.{places_passing_counted_from};
 ghost use Rattle.option_ranks.specs.candidate_core.Packages.{candidates_of_packages};
 ghost use Rattle.option_ranks.specs.candidate_core.Rank.{is_pinned};
 ghost use Rattle.option_ranks.specs.candidate_core.PositiveInstallIfs.{has_positive_install_if, places_marked_with_install_if};
@@ -53,7 +53,7 @@ pub(crate) fn marks_by_world(
         ≡ map (is_pinned world.now) (candidates_of_packages list.now.packages)) }
     // The places of the candidates whose install-if can apply, in rising order.
     ensures install_ifs { IfOk result (λ marks. marks.install_ifs.items
-        ≡ places_passing_from 0 (has_usable_install_if world.now)
+        ≡ places_passing_counted_from 0 (is_eligible_with_positive_install_if world.now)
         (candidates_of_packages list.now.packages)) }
 {
     let conflicts = entries_of_kind(alloc, world, EntryKind::Conflict)?;

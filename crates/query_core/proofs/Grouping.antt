@@ -17,7 +17,7 @@ use Rattle.std.proofs.lemmas.List.Sorted.{IsPermutation-sym}
 use Rattle.std.proofs.lemmas.Bool.{and_parts, cases_Bool, ltb-true, ltb-false}
 use Rattle.pool_core.proofs.SamePackage.{same_version}
 use Rattle.pool_core.specs.candidate_core.Candidates.{Candidate, is_same_version}
-use Rattle.pool_core.specs.candidate_core.Options.{IsIn, places_passing_from}
+use Rattle.pool_core.specs.candidate_core.Options.{IsIn, places_passing_counted_from}
 use Rattle.pool_core.specs.candidate_core.Rank.{bytes_cmp, greater_version_first_cmp}
 use Rattle.pool_core.proofs.candidate_core.OptionLists.{in_places, places_in}
 use Rattle.pool_core.proofs.candidate_core.LoopTests.{any_at}
@@ -28,7 +28,7 @@ use Rattle.pool_core.proofs.option_ranks.CountedRanks.{here_is}
 use Rattle.pool_core.proofs.option_ranks.MovedMembers.{member_of_all, moved_member}
 use Rattle.pool_core.proofs.option_ranks.RankedOptions.{place_of}
 use Rattle.query_core.specs.Order.{name_and_version_cmp, candidate_places_cmp, sorted_places_passing}
-use Rattle.query_core.specs.Policy.{has_name_and_version, has_own_name, is_of_repository, versions_of_name, versions_without_repeats}
+use Rattle.query_core.specs.Policy.{has_own_name_and_version_text, has_own_name, is_of_repository, sorted_distinct_versions_of_name, versions_without_earlier_repeats}
 use Rattle.query_core.specs.QueryRanking.{AreInQueryOrder, IsQueryRanking, have_same_version}
 use Rattle.query_core.specs.VersionPlaces.{ListsPlacesOf, VersionPlaces}
 use Rattle.query_core.proofs.Gathered.{candidates_of}
@@ -90,9 +90,9 @@ first_candidate cs (q ∷ rs) r c h e = let s : q ≡ r = cc in rw (ap (λ (a : 
 
 module _ (versions : IsTotalOrder version_cmp) (cs : List Candidate) (name : List ℕ) (rs : List Ranking) (read : All (IsQueryRanking cs) rs) (places : map place_of rs ≡ sorted_places_passing (has_own_name name) cs) where
   -- what is printed of the name are the versions of the rankings
-  pub versions_are : versions_of_name cs name ≡ versions_without_repeats (map version_of rs)
+  pub versions_are : sorted_distinct_versions_of_name cs name ≡ versions_without_earlier_repeats (map version_of rs)
   versions_are =
-      ap versions_without_repeats
+      ap versions_without_earlier_repeats
       (ap (λ (ps : List ℕ). map (λ (c : Candidate). c.version) (filter_map (slice_get cs) ps)) (sym places)
       ∙ (ap (map (λ (c : Candidate). c.version)) (found_at_places cs rs) ∙ versions_found cs rs read))
 
@@ -102,7 +102,7 @@ module _ (versions : IsTotalOrder version_cmp) (cs : List Candidate) (name : Lis
   own_name : (i : ℕ) (r : Ranking) (c : Candidate) → slice_get rs i ≡ Some r → slice_get cs r.place ≡ Some c → has_own_name name c ≡ true
   own_name i r c h e =
       let there : IsIn r.place (sorted_places_passing (has_own_name name) cs) = subst (λ (ps : List ℕ). IsIn r.place ps) places (is_in_at (map place_of rs) i r.place (mapped_at place_of rs i r h)) in
-      let unsorted : List ℕ = places_passing_from 0 (has_own_name name) cs in
+      let unsorted : List ℕ = places_passing_counted_from 0 (has_own_name name) cs in
       let place = places_in 0 (has_own_name name) cs r.place (moved_member (sorted_by (candidate_places_cmp cs) unsorted) unsorted r.place (IsPermutation-sym unsorted (sorted_by (candidate_places_cmp cs) unsorted) (sorted_same (candidate_places_cmp cs) unsorted)) there) in
       let z : place.0 ≡ r.place = omega (arith, place.1) in
       let passes : option_map_or (has_own_name name) (slice_get cs r.place) false ≡ true = subst (λ (k : ℕ). option_map_or (has_own_name name) (slice_get cs k) false ≡ true) z place.2 in
@@ -119,7 +119,7 @@ module _ (versions : IsTotalOrder version_cmp) (cs : List Candidate) (name : Lis
   not_before i j a b x y low h g e f =
       let ps : List ℕ = map place_of rs in
       let total = query_total versions cs in
-      let up : IsSorted (candidate_places_cmp cs) ps = subst (IsSorted (candidate_places_cmp cs)) (sym places) (sorted_up (candidate_places_cmp cs) total (places_passing_from 0 (has_own_name name) cs)) in
+      let up : IsSorted (candidate_places_cmp cs) ps = subst (IsSorted (candidate_places_cmp cs)) (sym places) (sorted_up (candidate_places_cmp cs) total (places_passing_counted_from 0 (has_own_name name) cs)) in
       let at_i : slice_get ps i ≡ Some a.place = mapped_at place_of rs i a h in
       let at_j : slice_get ps j ≡ Some b.place = mapped_at place_of rs j b g in
       let high : j < length ps = below_length ps j b.place at_j in
@@ -175,7 +175,7 @@ module _ (versions : IsTotalOrder version_cmp) (cs : List Candidate) (name : Lis
       ]
 
       -- the version of the run is left once
-      pub next_version : versions_without_repeats (map version_of (drop start rs)) ≡ version_of s ∷ versions_without_repeats (map version_of (drop end rs))
+      pub next_version : versions_without_earlier_repeats (map version_of (drop start rs)) ≡ version_of s ∷ versions_without_earlier_repeats (map version_of (drop end rs))
       next_version =
           let n : ℕ = end - start in
           let z : start + n ≡ end = omega (arith, some) in
@@ -187,7 +187,7 @@ module _ (versions : IsTotalOrder version_cmp) (cs : List Candidate) (name : Lis
           (λ m low h.
           let found = from_mapped version_of (drop start rs) m (version_of s) h in
           none_after (start + m) found.0 (omega (arith, low)) (sym (dropped_at rs start m) ∙ found.1.0) (sym found.1.1))
-          ∙ ap (λ (vs : List (Option (List ℕ))). version_of s ∷ versions_without_repeats vs) (sym (mapped_drop version_of (drop start rs) n) ∙ ap (map version_of) (dropped_twice rs start n ∙ ap (λ (k : ℕ). drop k rs) z))
+          ∙ ap (λ (vs : List (Option (List ℕ))). version_of s ∷ versions_without_earlier_repeats vs) (sym (mapped_drop version_of (drop start rs) n) ∙ ap (map version_of) (dropped_twice rs start n ∙ ap (λ (k : ℕ). drop k rs) z))
 
       run_at : (m : ℕ) (r : Ranking) → slice_get (take (end - start) (drop start rs)) m ≡ Some r → (m < end - start) × (slice_get rs (start + m) ≡ Some r)
       run_at m r h =
@@ -199,16 +199,16 @@ module _ (versions : IsTotalOrder version_cmp) (cs : List Candidate) (name : Lis
           let z : start + (i - start) ≡ i = omega (arith, low) in
           taken_at (drop start rs) (end - start) (i - start) (omega (arith, low, high)) ∙ (dropped_at rs start (i - start) ∙ (ap (slice_get rs) z ∙ h))
 
-      of_run : (q : Candidate → Bool) → list_any q (filter (has_name_and_version name (version_of s)) cs) ≡ true → list_any q (candidates_of cs (take (end - start) (drop start rs))) ≡ true
+      of_run : (q : Candidate → Bool) → list_any q (filter (has_own_name_and_version_text name (version_of s)) cs) ≡ true → list_any q (candidates_of cs (take (end - start) (drop start rs))) ≡ true
       of_run q h =
-          let p : Candidate → Bool = has_name_and_version name (version_of s) in
+          let p : Candidate → Bool = has_own_name_and_version_text name (version_of s) in
           let found = passes_at (λ (x : Candidate). p x && q x) cs (sym (any_filtered p q cs) ∙ h) in
           let k : ℕ = found.0 in
           let x : Candidate = found.1.0 in
           let here : slice_get cs k ≡ Some x = found.1.1.0 in
           let pq = and_parts (p x) (q x) found.1.1.1 in
           let named = and_parts (has_own_name name x) (is_same_version (version_of s) x.version) pq.0 in
-          let unsorted : List ℕ = places_passing_from 0 (has_own_name name) cs in
+          let unsorted : List ℕ = places_passing_counted_from 0 (has_own_name name) cs in
           let passes : option_map_or (has_own_name name) (slice_get cs k) false ≡ true = ap (λ (o : Option Candidate). option_map_or (has_own_name name) o false) here ∙ named.0 in
           let z : 0 + k ≡ k = omega arith in
           let placed : IsIn k unsorted = subst (λ (m : ℕ). IsIn m unsorted) z (in_places 0 (has_own_name name) cs k passes) in
@@ -228,9 +228,9 @@ module _ (versions : IsTotalOrder version_cmp) (cs : List Candidate) (name : Lis
             ]
           ]
 
-      from_run : (q : Candidate → Bool) → list_any q (candidates_of cs (take (end - start) (drop start rs))) ≡ true → list_any q (filter (has_name_and_version name (version_of s)) cs) ≡ true
+      from_run : (q : Candidate → Bool) → list_any q (candidates_of cs (take (end - start) (drop start rs))) ≡ true → list_any q (filter (has_own_name_and_version_text name (version_of s)) cs) ≡ true
       from_run q h =
-          let p : Candidate → Bool = has_name_and_version name (version_of s) in
+          let p : Candidate → Bool = has_own_name_and_version_text name (version_of s) in
           let found = found_any_at (λ (a : Ranking). slice_get cs a.place) q (take (end - start) (drop start rs)) h in
           let m : ℕ = found.0 in
           let r : Ranking = found.1.0 in
@@ -244,7 +244,7 @@ module _ (versions : IsTotalOrder version_cmp) (cs : List Candidate) (name : Lis
           any_filtered p q cs ∙ any_at (λ (y : Candidate). p y && q y) cs r.place x there both
 
       -- the candidates of the run are just those of the name with the version
-      pub run_is : (q : Candidate → Bool) → list_any q (filter (has_name_and_version name (version_of s)) cs) ≡ list_any q (candidates_of cs (take (end - start) (drop start rs)))
+      pub run_is : (q : Candidate → Bool) → list_any q (filter (has_own_name_and_version_text name (version_of s)) cs) ≡ list_any q (candidates_of cs (take (end - start) (drop start rs)))
       run_is q = bool_same _ _ (of_run q) (from_run q)
 
       pub run_within : All (λ (r : Ranking). r.place < length cs) (take (end - start) (drop start rs))

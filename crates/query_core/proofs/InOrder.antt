@@ -17,16 +17,16 @@ use Rattle.version_core.specs.Order.{version_cmp}
 use Rattle.base_core.specs.Sorted.{sorted_by, with_element_inserted}
 use Rattle.base_core.proofs.Sorting.{Rises, ranks, rises_in_order, sorted_same}
 use Rattle.pool_core.specs.candidate_core.Candidates.{Candidate, is_same_version}
-use Rattle.pool_core.specs.candidate_core.Options.{AreDistinct, IsIn, places_passing_from}
+use Rattle.pool_core.specs.candidate_core.Options.{AreDistinct, IsIn, places_passing_counted_from}
 use Rattle.pool_core.specs.candidate_core.Rank.{bytes_cmp, greater_version_first_cmp}
 use Rattle.pool_core.proofs.candidate_core.OptionLists.{in_places, places_apart, places_in}
 use Rattle.dep_core.specs.Repositories.{Repository}
 use Rattle.pool_core.proofs.option_ranks.MovedMembers.{moved_member}
 use Rattle.pool_core.proofs.option_ranks.RankOrder.{versions_back}
 use Rattle.report_core.specs.QueryReports.{policy_heading}
-use Rattle.query_core.specs.Asked.{AreStrictlyInOrderBy, IsVersionOfName}
+use Rattle.query_core.specs.Asked.{AreStrictlyInOrderBy, HasCandidateWithOwnNameAndVersion}
 use Rattle.query_core.specs.Order.{candidate_places_cmp, sorted_candidates_passing, sorted_places_passing}
-use Rattle.query_core.specs.Policy.{has_own_name, name_policy, version_policy, versions_of_name, versions_without_repeats}
+use Rattle.query_core.specs.Policy.{has_own_name, name_policy, version_policy, sorted_distinct_versions_of_name, versions_without_earlier_repeats}
 use Rattle.query_core.proofs.AskedFor.{any_in}
 use Rattle.query_core.proofs.Gathered.{each_in}
 use Rattle.query_core.proofs.QueryOrder.{last_decides, one_place, query_total, texts_same}
@@ -69,14 +69,14 @@ module _ (versions : IsTotalOrder version_cmp) where
 
 pub passes : (test : Candidate → Bool) (cs : List Candidate) (place : ℕ) → IsIn place (sorted_places_passing test cs) → option_map_or test (slice_get cs place) false ≡ true
 passes test cs place h =
-    let unsorted : List ℕ = places_passing_from 0 test cs in
+    let unsorted : List ℕ = places_passing_counted_from 0 test cs in
     let found = places_in 0 test cs place (moved_member (sorted_by (candidate_places_cmp cs) unsorted) unsorted place (IsPermutation-sym unsorted (sorted_by (candidate_places_cmp cs) unsorted) (sorted_same (candidate_places_cmp cs) unsorted)) h) in
     let z : found.0 ≡ place = omega (arith, found.1) in
     subst (λ (k : ℕ). option_map_or test (slice_get cs k) false ≡ true) z found.2
 
 pub selects : (test : Candidate → Bool) (cs : List Candidate) (place : ℕ) → option_map_or test (slice_get cs place) false ≡ true → IsIn place (sorted_places_passing test cs)
 selects test cs place h =
-    let unsorted : List ℕ = places_passing_from 0 test cs in
+    let unsorted : List ℕ = places_passing_counted_from 0 test cs in
     let z : 0 + place ≡ place = omega arith in
     moved_member unsorted (sorted_by (candidate_places_cmp cs) unsorted) place (sorted_same (candidate_places_cmp cs) unsorted) (subst (λ (k : ℕ). IsIn k unsorted) z (in_places 0 test cs place h))
 
@@ -125,11 +125,11 @@ module _ (cmp : ℕ → ℕ → Ordering) (total : IsTotalOrder cmp) (one : (a b
 pub selected_in_order : IsTotalOrder version_cmp → (test : Candidate → Bool) (cs : List Candidate) → AreStrictlyInOrderBy (candidate_places_cmp cs) (sorted_places_passing test cs)
 selected_in_order versions test cs =
     let total = query_total versions cs in
-    in_order (candidate_places_cmp cs) total (one_place cs) (sorted_places_passing test cs) (rises_in_order (candidate_places_cmp cs) total (places_passing_from 0 test cs)) (sorted_distinct (candidate_places_cmp cs) (places_passing_from 0 test cs) (places_apart 0 test cs))
+    in_order (candidate_places_cmp cs) total (one_place cs) (sorted_places_passing test cs) (rises_in_order (candidate_places_cmp cs) total (places_passing_counted_from 0 test cs)) (sorted_distinct (candidate_places_cmp cs) (places_passing_counted_from 0 test cs) (places_apart 0 test cs))
 
 -- ---- versions
 
-once_in : (v : Option (List ℕ)) (vs : List (Option (List ℕ))) → IsIn v (versions_without_repeats vs) → IsIn v vs
+once_in : (v : Option (List ℕ)) (vs : List (Option (List ℕ))) → IsIn v (versions_without_earlier_repeats vs) → IsIn v vs
 once_in v [] h = h
 once_in v (w ∷ vs) h = elim (cases_Bool (list_any (is_same_version w) vs)) [
   | inl e ↦ inr (once_in v vs (rw e at h))
@@ -140,7 +140,7 @@ same_in : (v : Option (List ℕ)) (vs : List (Option (List ℕ))) → list_any (
 same_in v [] h = absurd (cc)
 same_in v (w ∷ vs) h = elim (cases_Bool (is_same_version v w)) [ inl e ↦ inl (same_version v w e) | inr e ↦ inr (same_in v vs (rw e at h)) ]
 
-in_once : (v : Option (List ℕ)) (vs : List (Option (List ℕ))) → IsIn v vs → IsIn v (versions_without_repeats vs)
+in_once : (v : Option (List ℕ)) (vs : List (Option (List ℕ))) → IsIn v vs → IsIn v (versions_without_earlier_repeats vs)
 in_once v [] h = h
 in_once v (w ∷ vs) (inl s) = elim (cases_Bool (list_any (is_same_version w) vs)) [
   | inl e ↦ rw e (in_once v vs (subst (λ (x : Option (List ℕ)). IsIn x vs) (sym s) (same_in w vs e)))
@@ -175,7 +175,7 @@ place_found cs p c (q ∷ places) (inr m) e = later (slice_get cs q) (place_foun
 own_name_is : (cs : List Candidate) (name : List ℕ) (place : ℕ) (c : Candidate) → slice_get cs place ≡ Some c → option_map_or (has_own_name name) (slice_get cs place) false ≡ true → c.name ≡ name
 own_name_is cs name place c e h = sym ((bytes_eq-Decides name c.name).0 (ap (λ (o : Option Candidate). option_map_or (has_own_name name) o false) (sym e) ∙ h))
 
-pub versions_those : (cs : List Candidate) (name : List ℕ) (version : Option (List ℕ)) → IsIn version (versions_of_name cs name) → IsVersionOfName cs name version
+pub versions_those : (cs : List Candidate) (name : List ℕ) (version : Option (List ℕ)) → IsIn version (sorted_distinct_versions_of_name cs name) → HasCandidateWithOwnNameAndVersion cs name version
 versions_those cs name version h =
     let places : List ℕ = sorted_places_passing (has_own_name name) cs in
     let found = found_place cs version places (once_in version (map (λ (c : Candidate). c.version) (sorted_candidates_passing (has_own_name name) cs)) h) in
@@ -187,12 +187,12 @@ versions_those cs name version h =
       version_is = found.1.1.1.1;
     }
 
-pub versions_each : (cs : List Candidate) (name : List ℕ) (version : Option (List ℕ)) → IsVersionOfName cs name version → IsIn version (versions_of_name cs name)
+pub versions_each : (cs : List Candidate) (name : List ℕ) (version : Option (List ℕ)) → HasCandidateWithOwnNameAndVersion cs name version → IsIn version (sorted_distinct_versions_of_name cs name)
 versions_each cs name version is =
     let own : has_own_name name is.candidate ≡ true = (bytes_eq-Decides name is.candidate.name).1 (sym is.name_is) in
     let test : option_map_or (has_own_name name) (slice_get cs is.place) false ≡ true = ap (λ (o : Option Candidate). option_map_or (has_own_name name) o false) is.here ∙ own in
     let there = place_found cs is.place is.candidate (sorted_places_passing (has_own_name name) cs) (selects (has_own_name name) cs is.place test) is.here in
-    subst (λ (v : Option (List ℕ)). IsIn v (versions_of_name cs name)) is.version_is (in_once is.candidate.version (map (λ (c : Candidate). c.version) (sorted_candidates_passing (has_own_name name) cs)) there)
+    subst (λ (v : Option (List ℕ)). IsIn v (sorted_distinct_versions_of_name cs name)) is.version_is (in_once is.candidate.version (map (λ (c : Candidate). c.version) (sorted_candidates_passing (has_own_name name) cs)) there)
 
 abbrev version_text_cmp : Option (List ℕ) → Option (List ℕ) → Ordering
 version_text_cmp = then_cmp greater_version_first_cmp (option_cmp bytes_cmp)
@@ -202,7 +202,7 @@ abbrev NeverBefore : List (Option (List ℕ)) → Type 0
 NeverBefore [] = Unit {0}
 NeverBefore (v ∷ vs) = ((w : Option (List ℕ)) → IsIn w vs → (version_text_cmp v w ≡ Less) ⊎ (v ≡ w)) × NeverBefore vs
 
-once_in_order : (vs : List (Option (List ℕ))) → NeverBefore vs → AreStrictlyInOrderBy version_text_cmp (versions_without_repeats vs)
+once_in_order : (vs : List (Option (List ℕ))) → NeverBefore vs → AreStrictlyInOrderBy version_text_cmp (versions_without_earlier_repeats vs)
 once_in_order [] h = tt
 once_in_order (v ∷ vs) h = elim (cases_Bool (list_any (is_same_version v) vs)) [
   | inl e ↦ rw e (once_in_order vs h.1)
@@ -246,7 +246,7 @@ module _ (versions : IsTotalOrder version_cmp) (cs : List Candidate) (name : Lis
         rest,
       )
 
-  pub versions_in_order : AreStrictlyInOrderBy version_text_cmp (versions_of_name cs name)
+  pub versions_in_order : AreStrictlyInOrderBy version_text_cmp (sorted_distinct_versions_of_name cs name)
   versions_in_order =
       let places : List ℕ = sorted_places_passing (has_own_name name) cs in
       once_in_order (map (λ (c : Candidate). c.version) (sorted_candidates_passing (has_own_name name) cs))
@@ -256,5 +256,5 @@ nothing_printed : (candidates : List Candidate) (repositories : List Repository)
 nothing_printed candidates repositories name [] out = append-nil (policy_heading name)
 nothing_printed candidates repositories name (v ∷ vs) out = absurd (out v (inl refl))
 
-pub unknown_name : (cs : List Candidate) (repositories : List Repository) (name : List ℕ) → ((version : Option (List ℕ)) → IsVersionOfName cs name version → ⊥) → name_policy cs repositories name ≡ policy_heading name
-unknown_name cs repositories name none = nothing_printed cs repositories name (versions_of_name cs name) (λ v m. none v (versions_those cs name v m))
+pub unknown_name : (cs : List Candidate) (repositories : List Repository) (name : List ℕ) → ((version : Option (List ℕ)) → HasCandidateWithOwnNameAndVersion cs name version → ⊥) → name_policy cs repositories name ≡ policy_heading name
+unknown_name cs repositories name none = nothing_printed cs repositories name (sorted_distinct_versions_of_name cs name) (λ v m. none v (versions_those cs name v m))

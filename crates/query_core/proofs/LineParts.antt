@@ -8,9 +8,9 @@ use Rattle.pool_core.specs.option_ranks.Ranking.{Ranking}
 use Rattle.pool_core.proofs.option_ranks.RankedOptions.{place_of}
 use Rattle.query_core.specs.Lines.{line_in_form}
 use Rattle.query_core.specs.QueryRanking.{IsQueryRanking}
-use Rattle.report_core.specs.QueryReports.{policy_database_line, version_heading}
+use Rattle.report_core.specs.QueryReports.{policy_database_line, policy_version_heading}
 use Rattle.query_core.specs.Order.{printed_version}
-use Rattle.query_core.specs.Policy.{has_name_and_version, version_policy}
+use Rattle.query_core.specs.Policy.{has_own_name_and_version_text, version_policy}
 use Rattle.query_core.specs.VersionPlaces.{ListsPlacesOfVersion, VersionPlaces, repository_line_numbered, distinct_repository_lines, version_lines}
 use Rattle.query_core.specs.declared.candidates.LineForm.{LineForm}
 use Rattle.query_core.proofs.RisingLines.{lines_of_numbers}
@@ -56,10 +56,10 @@ read_within cs rs all = λ i d h. let p = all i d h in below_length cs (get_or r
 -- what is printed of versions that are gathered is what is printed of the name
 pub printed_places : (candidates : List Candidate) (repositories : List Repository) (name : List ℕ) (v : VersionPlaces) → ListsPlacesOfVersion candidates name v → version_lines repositories v ≡ version_policy candidates repositories name v.version
 printed_places candidates repositories name v says =
-    let those : List Candidate = filter (has_name_and_version name v.version) candidates in
-    append_assoc (version_heading (printed_version v.version)) (if v.is_installed then policy_database_line else []) (distinct_repository_lines repositories 0 v.repositories)
-    ∙ ap (λ (b : Bool). version_heading (printed_version v.version) ++ ((if b then policy_database_line else []) ++ distinct_repository_lines repositories 0 v.repositories)) (sym says.installed)
-    ∙ ap (λ (lines : List ℕ). version_heading (printed_version v.version) ++ ((if list_any (λ (c : Candidate). c.installed) those then policy_database_line else []) ++ lines)) (lines_of_numbers repositories those v.repositories says.order says.each says.all)
+    let those : List Candidate = filter (has_own_name_and_version_text name v.version) candidates in
+    append_assoc (policy_version_heading (printed_version v.version)) (if v.is_installed then policy_database_line else []) (distinct_repository_lines repositories 0 v.repositories)
+    ∙ ap (λ (b : Bool). policy_version_heading (printed_version v.version) ++ ((if b then policy_database_line else []) ++ distinct_repository_lines repositories 0 v.repositories)) (sym says.installed)
+    ∙ ap (λ (lines : List ℕ). policy_version_heading (printed_version v.version) ++ ((if list_any (λ (c : Candidate). c.installed) those then policy_database_line else []) ++ lines)) (lines_of_numbers repositories those v.repositories says.order says.each says.all)
 
 pub printed_versions : (candidates : List Candidate) (repositories : List Repository) (name : List ℕ) (vs : List VersionPlaces) → All (ListsPlacesOfVersion candidates name) vs → flat_map (version_lines repositories) vs ≡ flat_map (version_policy candidates repositories name) (map (λ (v : VersionPlaces). v.version) vs)
 printed_versions candidates repositories name [] all = refl

@@ -8,7 +8,7 @@ use Rattle.std.proofs.lemmas.Bool.{cases_Bool, le-ltb, ltb-true, ltb-false}
 use Rattle.pool_core.specs.candidate_core.Candidates.{Candidate}
 use Rattle.pool_core.specs.candidate_core.Options.{IsIn}
 use Rattle.dep_core.specs.Repositories.{Repository}
-use Rattle.report_core.specs.QueryReports.{repository_line}
+use Rattle.report_core.specs.QueryReports.{policy_repository_line}
 use Rattle.query_core.specs.Policy.{is_of_repository, lines_of_repositories_of_candidates}
 use Rattle.query_core.specs.VersionPlaces.{AreNonDecreasing, repository_line_numbered, distinct_repository_lines}
 
@@ -60,18 +60,18 @@ module _ (all : List Repository) (those : List Candidate) (ns : List ℕ) (up : 
   lines_from : (last : ℕ) (rs : List Repository) → ((j : ℕ) → slice_get all (last + j) ≡ slice_get rs j) → distinct_repository_lines all last ns ≡ lines_of_repositories_of_candidates those (last + 1) rs
   lines_from last [] there = no_lines all last ns (λ n low.
       let e : n - 1 ≡ last + (n - 1 - last) = omega (arith, low) in
-      ap (λ (o : Option Repository). option_map_or (λ (r : Repository). repository_line r.tag r.path) o []) (ap (slice_get all) e ∙ there (n - 1 - last)))
+      ap (λ (o : Option Repository). option_map_or (λ (r : Repository). policy_repository_line r.tag r.path) o []) (ap (slice_get all) e ∙ there (n - 1 - last)))
   lines_from last (r ∷ rs) there =
       let k : last + 1 ≡ suc last = omega arith in
       let here : slice_get all last ≡ Some r = subst (λ (m : ℕ). slice_get all m ≡ Some r) (omega arith) (there 0) in
       let rest : distinct_repository_lines all (suc last) ns ≡ lines_of_repositories_of_candidates those (suc last + 1) rs =
       lines_from (suc last) rs (λ j. let z : suc last + j ≡ last + suc j = omega arith in ap (slice_get all) z ∙ there (suc j)) in
       let less : suc last - 1 ≡ last = omega arith in
-      let line : repository_line_numbered all (suc last) ≡ repository_line r.tag r.path =
-      ap (λ (o : Option Repository). option_map_or (λ (q : Repository). repository_line q.tag q.path) o []) (ap (slice_get all) less ∙ here) in
+      let line : repository_line_numbered all (suc last) ≡ policy_repository_line r.tag r.path =
+      ap (λ (o : Option Repository). option_map_or (λ (q : Repository). policy_repository_line q.tag q.path) o []) (ap (slice_get all) less ∙ here) in
       subst (λ (m : ℕ). distinct_repository_lines all last ns ≡ lines_of_repositories_of_candidates those m (r ∷ rs)) (sym k)
       (elim (cases_Bool (list_any (is_of_repository (suc last)) those)) [
-        | inl e ↦ rw e (among all last ns up (every (suc last) e) ∙ (ap (λ (z : List ℕ). z ++ distinct_repository_lines all (suc last) ns) line ∙ ap (λ (z : List ℕ). repository_line r.tag r.path ++ z) rest))
+        | inl e ↦ rw e (among all last ns up (every (suc last) e) ∙ (ap (λ (z : List ℕ). z ++ distinct_repository_lines all (suc last) ns) line ∙ ap (λ (z : List ℕ). policy_repository_line r.tag r.path ++ z) rest))
         | inr e ↦ rw e (not_among all last ns (λ h. let bad : false ≡ true = sym e ∙ each (suc last) h in absurd (cc)) ∙ rest)
       ])
 

@@ -44,7 +44,8 @@ abbrev pub IsOwnOrProvidedName : Candidate → List ℕ → Type 0
 IsOwnOrProvidedName c name = (c.name ≡ name) ⊎ ProvidesName c name
 
 -- one of these candidates has this name of its own, and this version
-pub record IsVersionOfName (candidates : List Candidate) (name : List ℕ) (version : Option (List ℕ))
+pub record HasCandidateWithOwnNameAndVersion (candidates : List Candidate) (name : List ℕ)
+    (version : Option (List ℕ))
     : Type 0 where
   -- the place of this candidate in the list, counted from 0
   pub place : ℕ

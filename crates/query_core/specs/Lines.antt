@@ -5,7 +5,7 @@ use Rattle.adb_view.specs.FieldIndexes.{INFO_ARCH, INFO_LICENSE, INFO_ORIGIN}
 use Rattle.adb_view.specs.Values.{entry_in, text_in}
 use Rattle.pool_core.specs.candidate_core.Candidates.{Candidate}
 use Rattle.report_core.specs.QueryReports.{installed_mark, search_line, text_between_unless_empty}
-use Rattle.query_core.specs.List.{candidate_line}
+use Rattle.query_core.specs.List.{list_line_of_candidate}
 use Rattle.query_core.specs.Order.{printed_version}
 use Rattle.query_core.specs.declared.candidates.LineForm.{LineForm}
 use Rattle.query_core.specs.declared.candidates.LineForm.TheVariants.{Full, Short}
@@ -21,5 +21,5 @@ description_part c =
 
 -- the line of a candidate: that of `list` (`Full`), or that of `search` (`Short`)
 abbrev pub line_in_form : LineForm → Candidate → List ℕ
-line_in_form Full c = candidate_line c
+line_in_form Full c = list_line_of_candidate c
 line_in_form Short c = search_line c.name (printed_version c.version)

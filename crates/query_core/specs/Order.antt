@@ -5,7 +5,7 @@ use Rattle.std.specs.Option.{option_cmp}
 use Rattle.std.specs.Ordering.{nat_cmp, on, then_cmp}
 use Rattle.std.specs.declared.cmp.Ordering.{Ordering}
 use Rattle.pool_core.specs.candidate_core.Candidates.{Candidate}
-use Rattle.pool_core.specs.candidate_core.Options.{places_passing_from}
+use Rattle.pool_core.specs.candidate_core.Options.{places_passing_counted_from}
 use Rattle.pool_core.specs.candidate_core.Rank.{bytes_cmp, greater_version_first_cmp}
 use Rattle.base_core.specs.Sorted.{sorted_by}
 
@@ -31,7 +31,7 @@ candidate_places_cmp candidates =
 -- the places, counted from 0, of the candidates that pass a test, in the order of queries
 abbrev pub sorted_places_passing : (Candidate → Bool) → List Candidate → List ℕ
 sorted_places_passing test candidates =
-    sorted_by (candidate_places_cmp candidates) (places_passing_from 0 test candidates)
+    sorted_by (candidate_places_cmp candidates) (places_passing_counted_from 0 test candidates)
 
 -- the candidates that pass a test, in the order of queries
 abbrev pub sorted_candidates_passing : (Candidate → Bool) → List Candidate → List Candidate

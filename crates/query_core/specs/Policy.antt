@@ -6,7 +6,7 @@ use Rattle.std.specs.Str.{bytes_eq}
 use Rattle.pool_core.specs.candidate_core.Candidates.{Candidate, is_same_version}
 use Rattle.command_core.specs.declared.operands.Operand.{Operand}
 use Rattle.dep_core.specs.Repositories.{Repository}
-use Rattle.report_core.specs.QueryReports.{policy_database_line, policy_heading, repository_line, version_heading}
+use Rattle.report_core.specs.QueryReports.{policy_database_line, policy_heading, policy_repository_line, policy_version_heading}
 use Rattle.query_core.specs.Order.{printed_version, sorted_candidates_passing}
 
 -- ---- the versions of a name
@@ -16,23 +16,23 @@ abbrev pub has_own_name : List ℕ → Candidate → Bool
 has_own_name name c = bytes_eq name c.name
 
 -- the versions, with each text only once: of versions with the same text, the last one is left
-abbrev pub versions_without_repeats : List (Option (List ℕ)) → List (Option (List ℕ))
-versions_without_repeats [] = []
-versions_without_repeats (version ∷ versions) =
-    if list_any (is_same_version version) versions then versions_without_repeats versions
-    else version ∷ versions_without_repeats versions
+abbrev pub versions_without_earlier_repeats : List (Option (List ℕ)) → List (Option (List ℕ))
+versions_without_earlier_repeats [] = []
+versions_without_earlier_repeats (version ∷ versions) =
+    if list_any (is_same_version version) versions then versions_without_earlier_repeats versions
+    else version ∷ versions_without_earlier_repeats versions
 
 -- the versions of the candidates that have this name of their own, in the order of queries, each text once
-abbrev pub versions_of_name : List Candidate → List ℕ → List (Option (List ℕ))
-versions_of_name candidates name =
-    versions_without_repeats
+abbrev pub sorted_distinct_versions_of_name : List Candidate → List ℕ → List (Option (List ℕ))
+sorted_distinct_versions_of_name candidates name =
+    versions_without_earlier_repeats
     (map (λ (c : Candidate). c.version) (sorted_candidates_passing (has_own_name name) candidates))
 
 -- ---- where a version is
 
 -- whether a candidate has this name of its own and this text of a version
-abbrev pub has_name_and_version : List ℕ → Option (List ℕ) → Candidate → Bool
-has_name_and_version name version c =
+abbrev pub has_own_name_and_version_text : List ℕ → Option (List ℕ) → Candidate → Bool
+has_own_name_and_version_text name version c =
     has_own_name name c && is_same_version version c.version
 
 -- whether a candidate is from the repository with this number, counted from 1
@@ -44,7 +44,7 @@ is_of_repository number c = option_map_or (λ repository. repository == number) 
 abbrev pub lines_of_repositories_of_candidates : List Candidate → ℕ → List Repository → List ℕ
 lines_of_repositories_of_candidates candidates number [] = []
 lines_of_repositories_of_candidates candidates number (r ∷ repositories) =
-    (if list_any (is_of_repository number) candidates then repository_line r.tag r.path else [])
+    (if list_any (is_of_repository number) candidates then policy_repository_line r.tag r.path else [])
     ++ lines_of_repositories_of_candidates candidates (number + 1) repositories
 
 -- the lines that say where these candidates are, which have one name and version. There is a line for the database if
@@ -60,14 +60,15 @@ policy_origin_lines repositories candidates =
 abbrev pub version_policy :
     List Candidate → List Repository → List ℕ → Option (List ℕ) → List ℕ
 version_policy candidates repositories name version =
-    version_heading (printed_version version)
-    ++ policy_origin_lines repositories (filter (has_name_and_version name version) candidates)
+    policy_version_heading (printed_version version)
+    ++ policy_origin_lines repositories (filter (has_own_name_and_version_text name version) candidates)
 
 -- what `policy` prints of a name: its heading, and each version of the candidates of this name
 abbrev pub name_policy : List Candidate → List Repository → List ℕ → List ℕ
 name_policy candidates repositories name =
     policy_heading name
-    ++ flat_map (version_policy candidates repositories name) (versions_of_name candidates name)
+    ++ flat_map (version_policy candidates repositories name)
+    (sorted_distinct_versions_of_name candidates name)
 
 -- what `policy` prints for the names that are asked for, in the order given
 abbrev pub policy_report : List Candidate → List Repository → List Operand → List ℕ

@@ -6,9 +6,9 @@ use Rattle.std.specs.Option.{option_map_or}
 use Rattle.pool_core.specs.candidate_core.Candidates.{Candidate}
 use Rattle.pool_core.specs.candidate_core.Options.{IsIn}
 use Rattle.dep_core.specs.Repositories.{Repository}
-use Rattle.report_core.specs.QueryReports.{policy_database_line, repository_line, version_heading}
+use Rattle.report_core.specs.QueryReports.{policy_database_line, policy_repository_line, policy_version_heading}
 use Rattle.query_core.specs.Order.{printed_version}
-use Rattle.query_core.specs.Policy.{has_name_and_version, is_of_repository}
+use Rattle.query_core.specs.Policy.{has_own_name_and_version_text, is_of_repository}
 
 -- A version of a name: whether a candidate with it is installed, and the numbers of the repositories that
 -- have such a candidate. No number is less than one before it.
@@ -34,7 +34,7 @@ AreNonDecreasing (n ∷ numbers) = ((m : ℕ) → IsIn m numbers → n ≤ m) ×
 -- the line of the repository with a number, counted from 1; nothing if there is none
 abbrev pub repository_line_numbered : List Repository → ℕ → List ℕ
 repository_line_numbered repositories number =
-    option_map_or (λ (r : Repository). repository_line r.tag r.path)
+    option_map_or (λ (r : Repository). policy_repository_line r.tag r.path)
     (slice_get repositories (number - 1)) []
 
 -- the lines of the repositories with these numbers, which are in rising order. A number is skipped if it is not
@@ -50,7 +50,7 @@ distinct_repository_lines repositories last (n ∷ numbers) =
 -- repositories
 abbrev pub version_lines : List Repository → VersionPlaces → List ℕ
 version_lines repositories places =
-    version_heading (printed_version places.version)
+    policy_version_heading (printed_version places.version)
     ++ (if places.is_installed then policy_database_line else [])
     ++ distinct_repository_lines repositories 0 places.repositories
 
@@ -70,4 +70,4 @@ pub record ListsPlacesOf (candidates : List Candidate) (places : VersionPlaces) 
 -- `places` says rightly where the candidates with this name of their own and with its version are
 abbrev pub ListsPlacesOfVersion : List Candidate → List ℕ → VersionPlaces → Type 0
 ListsPlacesOfVersion candidates name places =
-    ListsPlacesOf (filter (has_name_and_version name places.version) candidates) places
+    ListsPlacesOf (filter (has_own_name_and_version_text name places.version) candidates) places

@@ -7,10 +7,10 @@ ghost use Rattle.command_core.specs.Command.{CommandLine};
 ghost use Rattle.command_core.specs.declared.operands.Operand.{Operand};
 ghost use Rattle.dep_core.specs.Dependency.{Dependency};
 ghost use Rattle.dep_core.specs.Repositories.{Repository};
-ghost use Rattle.query_core.specs.Asked.{AreStrictlyInOrderBy, IsOwnOrProvidedName, IsNameMatchedBySomePattern, HasPartMatchedBySomePattern, IsVersionOfName};
+ghost use Rattle.query_core.specs.Asked.{AreStrictlyInOrderBy, IsOwnOrProvidedName, IsNameMatchedBySomePattern, HasPartMatchedBySomePattern, HasCandidateWithOwnNameAndVersion};
 ghost use Rattle.query_core.specs.List.{is_list_candidate};
 ghost use Rattle.query_core.specs.Order.{candidate_places_cmp, sorted_places_passing};
-ghost use Rattle.query_core.specs.Policy.{name_policy, versions_of_name};
+ghost use Rattle.query_core.specs.Policy.{name_policy, sorted_distinct_versions_of_name};
 ghost use Rattle.query_core.specs.Queries.{text_of_query};
 ghost use Rattle.query_core.specs.Search.{is_search_candidate};
 ghost use Rattle.report_core.specs.QueryReports.{policy_heading};
@@ -105,18 +105,20 @@ pub fn search_prints_what_is_asked_for()
 pub fn policy_prints_each_version_once()
     // Each version that is printed is that of a candidate of this name.
     ensures those { (cs : List Candidate) (name : List ℕ) (version : Option (List ℕ))
-        → IsIn version (versions_of_name cs name) → IsVersionOfName cs name version }
+        → IsIn version (sorted_distinct_versions_of_name cs name)
+        → HasCandidateWithOwnNameAndVersion cs name version }
     // The version of each candidate of this name is printed.
     ensures each { (cs : List Candidate) (name : List ℕ) (version : Option (List ℕ))
-        → IsVersionOfName cs name version → IsIn version (versions_of_name cs name) }
+        → HasCandidateWithOwnNameAndVersion cs name version
+        → IsIn version (sorted_distinct_versions_of_name cs name) }
     // The greater version comes first, and of equal versions the one whose text is less in byte
     // order.
     ensures order { (cs : List Candidate) (name : List ℕ)
         → AreStrictlyInOrderBy (then_cmp greater_version_first_cmp (option_cmp bytes_cmp))
-        (versions_of_name cs name) }
+        (sorted_distinct_versions_of_name cs name) }
     // For a name without a candidate only the heading is printed.
     ensures unknown { (cs : List Candidate) (repositories : List Repository) (name : List ℕ)
-        → ((version : Option (List ℕ)) → IsVersionOfName cs name version → ⊥)
+        → ((version : Option (List ℕ)) → HasCandidateWithOwnNameAndVersion cs name version → ⊥)
         → name_policy cs repositories name ≡ policy_heading name }
 {
     // A law that the proof needs; it has no effect at run time.

@@ -2,7 +2,7 @@
 ghost use Rattle.query_core.specs.Appends.{Appends};
 ghost use Rattle.query_core.specs.Policy.{name_policy, policy_report};
 ghost use Rattle.query_core.specs.VersionPlaces.{repository_line_numbered, distinct_repository_lines, version_lines};
-ghost use Rattle.report_core.specs.QueryReports.{policy_database_line, indented_policy_line, policy_heading, repository_line, version_heading};
+ghost use Rattle.report_core.specs.QueryReports.{policy_database_line, indented_policy_line, policy_heading, policy_repository_line, policy_version_heading};
 ghost use Rattle.std.specs.List.{flat_map};
 ghost use Rattle.std.specs.Prelude.{◌≡◌, ◌<◌, ◌++◌, [], IfOk, OnOk, codes, if◌then◌else◌, nat_lt, option_copied};
 
@@ -104,7 +104,7 @@ fn put_database<O: ReportOut>(out: &mut O, is_installed: bool) -> Result<(), All
 
 // Writes the heading of a version, which is printed below the heading of the name.
 fn put_version_heading<O: ReportOut>(out: &mut O, version: &[u8]) -> Result<(), AllocError>
-    ensures { OnOk result (Appends O.holds out.old out.new (version_heading version.now)) }
+    ensures { OnOk result (Appends O.holds out.old out.new (policy_version_heading version.now)) }
 {
     out.put(b"  ")?;
     out.put(version)?;
@@ -178,7 +178,7 @@ fn put_repository<O: ReportOut>(
     path: &[u8],
 ) -> Result<(), AllocError>
     ensures { OnOk result (Appends O.holds out.old out.new
-        (repository_line (option_copied tag.entry) path.now)) }
+        (policy_repository_line (option_copied tag.entry) path.now)) }
 {
     match tag {
         Some(tag) => put_tagged(out, tag, path),

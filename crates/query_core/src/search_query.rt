@@ -1,5 +1,5 @@
 //! What `search` prints (apk(8)). The rule is in `docs/commands.md`, "`search`".
-ghost use Rattle.pool_core.specs.candidate_core.Options.{places_passing_from};
+ghost use Rattle.pool_core.specs.candidate_core.Options.{places_passing_counted_from};
 ghost use Rattle.dep_core.specs.Meets.{dependency};
 ghost use Rattle.query_core.specs.EntryFound.{is_provides_entry_found};
 ghost use Rattle.query_core.specs.Search.{is_part_of_name_matched, is_search_candidate, provided_names, search_report};
@@ -34,7 +34,7 @@ fn found_places(
     patterns: &Operands,
 ) -> Result<Vec<CandId>, AllocError>
     ensures { IfOk result (λ places. places.items
-        ≡ places_passing_from 0 (is_search_candidate patterns.now) pool.now.candidates) }
+        ≡ places_passing_counted_from 0 (is_search_candidate patterns.now) pool.now.candidates) }
 {
     let mut places = Vec::new(alloc);
     for number in 0..pool.len() {

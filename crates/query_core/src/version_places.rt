@@ -2,11 +2,11 @@
 //! and which repositories have it. `policy_query` prints them. The rule is in `docs/commands.md`,
 //! "`policy`".
 ghost use Rattle.pool_core.specs.candidate_core.Candidates.{Candidate, is_same_version};
-ghost use Rattle.pool_core.specs.candidate_core.Options.{places_passing_from};
+ghost use Rattle.pool_core.specs.candidate_core.Options.{places_passing_counted_from};
 ghost use Rattle.pool_core.specs.candidate_core.Rank.{candidate_at_passes};
 ghost use Rattle.pool_core.specs.option_ranks.Ranking.{Ranking};
 ghost use Rattle.query_core.specs.Order.{sorted_places_passing};
-ghost use Rattle.query_core.specs.Policy.{has_own_name, versions_of_name};
+ghost use Rattle.query_core.specs.Policy.{has_own_name, sorted_distinct_versions_of_name};
 ghost use Rattle.query_core.specs.QueryRanking.{AreInQueryOrder, have_same_version};
 ghost use Rattle.query_core.specs.VersionPlaces.{ListsPlacesOfVersion, ListsPlacesOf};
 ghost use Rattle.std.specs.List.{filter, filter_map};
@@ -50,7 +50,7 @@ pub(crate) fn placed_versions<'a>(
     // The versions are those of the candidates of this name, in the order of queries, each text
     // once.
     ensures versions { IfOk result (λ versions. map (λ v. v.version) versions.items
-        ≡ versions_of_name pool.now.candidates name.now) }
+        ≡ sorted_distinct_versions_of_name pool.now.candidates name.now) }
     // Each says rightly where the candidates of this name with its version are.
     ensures places { IfOk result (λ versions.
         All (ListsPlacesOfVersion pool.now.candidates name.now) versions.items) }
@@ -63,7 +63,7 @@ pub(crate) fn placed_versions<'a>(
 // The places of the candidates whose own name is this one.
 fn named_places(alloc: Global, pool: &Sealed<'_>, name: &[u8]) -> Result<Vec<CandId>, AllocError>
     ensures { IfOk result (λ places. places.items
-        ≡ places_passing_from 0 (has_own_name name.now) pool.now.candidates) }
+        ≡ places_passing_counted_from 0 (has_own_name name.now) pool.now.candidates) }
 {
     let offers = pool.offers(name);
     let places = named_among(alloc, pool, name, offers)?;
@@ -116,7 +116,7 @@ fn grouped<'a>(
     // The versions are those of the candidates of this name, in the order of queries, each text
     // once.
     ensures versions { IfOk result (λ versions. map (λ v. v.version) versions.items
-        ≡ versions_of_name pool.now.candidates name.now) }
+        ≡ sorted_distinct_versions_of_name pool.now.candidates name.now) }
     // Each says rightly where the candidates of this name with its version are.
     ensures places { IfOk result (λ versions.
         All (ListsPlacesOfVersion pool.now.candidates name.now) versions.items) }

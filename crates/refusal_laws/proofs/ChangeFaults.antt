@@ -4,20 +4,20 @@ use Rattle.std.specs.Prelude.{if◌then◌else◌}
 use Rattle.std.proofs.lemmas.Bool.{and_parts}
 use Rattle.outcome.specs.adb_fields.FirstPair.{IsIn}
 use Rattle.adb_view.specs.Plain.{Plain}
-use Rattle.outcome.specs.adb_write.Canonical.{PayloadCounts, counts_after_values, empty_layout, exceeds_a_limit, overflow_of, payload_or_overflow}
+use Rattle.outcome.specs.adb_write.Canonical.{ByteAndValueCounts, counts_after_values, empty_layout, exceeds_a_limit, overflow_of, payload_or_overflow}
 use Rattle.base_core.specs.Files.{Files}
 use Rattle.outcome.specs.change_files.FileChange.{FileChange}
-use Rattle.outcome.specs.change_files.PlanLists.{first_reserved_path}
+use Rattle.outcome.specs.change_files.PlanLists.{first_reserved_added_path}
 use Rattle.outcome.proofs.change_files.InOrder.{from_order}
 use Rattle.outcome.specs.change_inputs.Chains.{and_then}
 use Rattle.outcome.specs.change_inputs.Inputs.{Inputs}
-use Rattle.outcome.specs.change_outcome.ChangeOutcome.{ChangeDone, ChangeWishes, IsClashFound, IsClashOfChange, intent_of_change, change_done, members_after_change, change_or_refusal, change_with_members, file_change, member_name_at_place, database_and_world_after_change, touched_paths, unless_clash, unless_contested, or_result_too_large, unless_overflow, unless_reserved_path, change_done_unless_too_large}
+use Rattle.outcome.specs.change_outcome.ChangeOutcome.{ChangeDone, ChangeWishes, IsFirstClashIfMembersFound, IsFirstClashOfChange, intent_of_change, change_done, members_after_change, change_or_refusal, change_with_members, file_change, member_name_at_place, database_and_world_after_change, touched_paths, unless_clash, unless_contested, or_result_too_large, unless_overflow, unless_reserved_path, change_done_unless_too_large}
 use Rattle.outcome.specs.change_outcome.MembersAfter.{MemberFound}
-use Rattle.outcome.specs.change_outcome.PackageFiles.{has_script_of}
+use Rattle.outcome.specs.change_outcome.PackageFiles.{has_script_with_number}
 use Rattle.report_core.specs.Numbers.{TRIGGER_SCRIPT}
 use Rattle.outcome.specs.change_outcome.Triggers.{folders_of_paths, has_due_trigger, is_trigger_due, is_folder_matched_by_pattern, watches_folder, trigger_patterns_of_package, unless_trigger_due}
 use Rattle.outcome.specs.db_core.Members.{Member, member_name}
-use Rattle.outcome.specs.db_write.NewDatabase.{database_container, database_of, database_value}
+use Rattle.outcome.specs.db_write.NewDatabase.{database_file_unless_too_large, database_of, database_value}
 use Rattle.outcome.specs.file_owners.Owners.{first_contested_path_of_members, owned_flags_of}
 use Rattle.outcome.specs.journal_intent.IntentValue.{intent_of_lists, value_of_intent}
 use Rattle.outcome.proofs.journal_intent.Rooted.{payload_large}
@@ -35,26 +35,26 @@ use Rattle.refusal_laws.proofs.Paths.{contested_is, first_reserved_is}
 
 -- ---- limits
 
-pub too_large : (v : Plain) (counts : PayloadCounts) → overflow_of v ≡ Some counts → IsTooLarge v counts.0 counts.1
+pub too_large : (v : Plain) (counts : ByteAndValueCounts) → overflow_of v ≡ Some counts → IsTooLarge v counts.0 counts.1
 too_large v counts e = (e, (found_in exceeds_a_limit (counts_after_values v empty_layout) counts e).1)
 
-database_err : (members : List Member) (flags : List Bool) (counts : PayloadCounts) → database_of members flags ≡ Err counts → payload_or_overflow (database_value members flags) ≡ Err counts
+database_err : (members : List Member) (flags : List Bool) (counts : ByteAndValueCounts) → database_of members flags ≡ Err counts → payload_or_overflow (database_value members flags) ≡ Err counts
 unfolding database_of
 database_err members flags counts e = by_written (payload_or_overflow (database_value members flags)) refl e
   where
-    by_written : (w : Result (List ℕ) PayloadCounts) → payload_or_overflow (database_value members flags) ≡ w → database_container w ≡ Err counts → payload_or_overflow (database_value members flags) ≡ Err counts
+    by_written : (w : Result (List ℕ) ByteAndValueCounts) → payload_or_overflow (database_value members flags) ≡ w → database_file_unless_too_large w ≡ Err counts → payload_or_overflow (database_value members flags) ≡ Err counts
     by_written (Ok payload) is e = absurd (cc (e))
-    by_written (Err first) is e = let same : first ≡ counts = cc in is ∙ ap (λ (c : PayloadCounts). Err c) same
+    by_written (Err first) is e = let same : first ≡ counts = cc in is ∙ ap (λ (c : ByteAndValueCounts). Err c) same
 
-large_err : {A : Type 0} (w : Result A PayloadCounts) (refusal : Refusal) → or_result_too_large w ≡ Err refusal → (counts : PayloadCounts) × (w ≡ Err counts) × (ResultTooLarge counts.0 counts.1 ≡ refusal)
+large_err : {A : Type 0} (w : Result A ByteAndValueCounts) (refusal : Refusal) → or_result_too_large w ≡ Err refusal → (counts : ByteAndValueCounts) × (w ≡ Err counts) × (ResultTooLarge counts.0 counts.1 ≡ refusal)
 large_err (Ok a) refusal e = absurd (cc (e))
 large_err (Err counts) refusal e = (counts, refl, (let same : ResultTooLarge counts.0 counts.1 ≡ refusal = cc in same))
 
-large_ok : {A : Type 0} (w : Result A PayloadCounts) (a : A) → or_result_too_large w ≡ Ok a → w ≡ Ok a
+large_ok : {A : Type 0} (w : Result A ByteAndValueCounts) (a : A) → or_result_too_large w ≡ Ok a → w ≡ Ok a
 large_ok (Ok x) a e = let same : x ≡ a = cc in ap (λ y. Ok y) same
 large_ok (Err counts) a e = absurd (cc (e))
 
-overflow_err : {A : Type 0} (o : Option PayloadCounts) (a : A) (refusal : Refusal) → unless_overflow o a ≡ Err refusal → (counts : PayloadCounts) × (o ≡ Some counts) × (ResultTooLarge counts.0 counts.1 ≡ refusal)
+overflow_err : {A : Type 0} (o : Option ByteAndValueCounts) (a : A) (refusal : Refusal) → unless_overflow o a ≡ Err refusal → (counts : ByteAndValueCounts) × (o ≡ Some counts) × (ResultTooLarge counts.0 counts.1 ≡ refusal)
 overflow_err None a refusal e = absurd (cc (e))
 overflow_err (Some counts) a refusal e = (counts, refl, (let same : ResultTooLarge counts.0 counts.1 ≡ refusal = cc in same))
 
@@ -74,10 +74,10 @@ trigger_of paths (m ∷ members) refusal e = by_test (has_due_trigger (folders_o
     by_test true due e more = (m, inl refl, due, (let same : TriggerNeeded (member_name m) ≡ refusal = cc in same))
     by_test false due e more = let other = more e in (other.0, inr other.1, other.2, other.3)
 
-watches : (change : FileChange) (files : Files) (pkg : Plain) → has_due_trigger (folders_of_paths (touched_paths change files)) pkg ≡ true → (has_script_of pkg TRIGGER_SCRIPT ≡ true) × HasPatternOfTouchedFolder change files pkg
+watches : (change : FileChange) (files : Files) (pkg : Plain) → has_due_trigger (folders_of_paths (touched_paths change files)) pkg ≡ true → (has_script_with_number pkg TRIGGER_SCRIPT ≡ true) × HasPatternOfTouchedFolder change files pkg
 watches change files pkg due =
     let folder = any_in (is_trigger_due pkg) (folders_of_paths (touched_paths change files)) due in
-    let both = and_parts (has_script_of pkg TRIGGER_SCRIPT) (watches_folder pkg folder.0) folder.2 in
+    let both = and_parts (has_script_with_number pkg TRIGGER_SCRIPT) (watches_folder pkg folder.0) folder.2 in
     let pattern = any_in (is_folder_matched_by_pattern folder.0) (trigger_patterns_of_package pkg) both.1 in
     let path = mapped_in folder_of (touched_paths change files) folder.0 (from_order folder.0 (map folder_of (touched_paths change files)) (in_names folder.0 (folders_of_paths (touched_paths change files)) folder.1)) in (
       both.0,
@@ -157,16 +157,16 @@ module _ (inputs : Inputs) (r : Replacement) (wishes : ChangeWishes) (files : Fi
       let same : Owned c.path (member_name_at_place change.members c.rivals.first) (member_name_at_place change.members c.rivals.second) ≡ refusal = cc in
       subst IsSo same (contested_is change.members c is)
 
-  clash_fault : (o : Option NamePair) (refusal : Refusal) → IsClashFound inputs wishes files (Ok found) o → unless_clash o (unless_contested change.members (first_contested_path_of_members change.members) after_owners) ≡ Err refusal → IsSo refusal
+  clash_fault : (o : Option NamePair) (refusal : Refusal) → IsFirstClashIfMembersFound inputs wishes files (Ok found) o → unless_clash o (unless_contested change.members (first_contested_path_of_members change.members) after_owners) ≡ Err refusal → IsSo refusal
   clash_fault None refusal is e = owned_fault (first_contested_path_of_members change.members) refusal refl e
   clash_fault (Some pair) refusal is e =
       let same : PathClash pair.path pair.other ≡ refusal = cc in
       subst IsSo same is
 
-  pub files_fault : (clash : Option NamePair) (refusal : Refusal) → IsClashFound inputs wishes files (Ok found) clash → change_with_members inputs r wishes clash files found ≡ Err refusal → IsFaultOfFiles inputs wishes files found refusal
-  files_fault clash refusal is e = by_path (first_reserved_path change.members) refl e
+  pub files_fault : (clash : Option NamePair) (refusal : Refusal) → IsFirstClashIfMembersFound inputs wishes files (Ok found) clash → change_with_members inputs r wishes clash files found ≡ Err refusal → IsFaultOfFiles inputs wishes files found refusal
+  files_fault clash refusal is e = by_path (first_reserved_added_path change.members) refl e
     where
-      by_path : (o : Option (List ℕ)) → first_reserved_path change.members ≡ o → unless_reserved_path o (unless_clash clash (unless_contested change.members (first_contested_path_of_members change.members) after_owners)) ≡ Err refusal → IsSo refusal
+      by_path : (o : Option (List ℕ)) → first_reserved_added_path change.members ≡ o → unless_reserved_path o (unless_clash clash (unless_contested change.members (first_contested_path_of_members change.members) after_owners)) ≡ Err refusal → IsSo refusal
       by_path None none e = clash_fault clash refusal is e
       by_path (Some path) first e =
           let same : Reserved path ≡ refusal = cc in
@@ -175,10 +175,10 @@ module _ (inputs : Inputs) (r : Replacement) (wishes : ChangeWishes) (files : Fi
 -- ---- a change
 
 pub change_fault : (inputs : Inputs) (r : Replacement) (wishes : ChangeWishes) (read : Reads) (clash : Option NamePair) (files : Files) (refusal : Refusal)
-    → change_or_refusal inputs r wishes read clash files ≡ Err refusal → IsClashOfChange inputs r wishes read files clash → IsFaultOfChange inputs r wishes read files refusal
+    → change_or_refusal inputs r wishes read clash files ≡ Err refusal → IsFirstClashOfChange inputs r wishes read files clash → IsFaultOfChange inputs r wishes read files refusal
 unfolding change_or_refusal
 change_fault inputs r wishes read clash files refusal e is =
     elim (and_then_err (members_after_change inputs r wishes read) (change_with_members inputs r wishes clash files) refusal e) [
       | inl first ↦ inl (members_fault inputs r wishes read refusal first)
-      | inr next ↦ inr (next.0, next.1, files_fault inputs r wishes files next.0 clash refusal (subst (λ (m : Result (List MemberFound) Refusal). IsClashFound inputs wishes files m clash) next.1 is) next.2)
+      | inr next ↦ inr (next.0, next.1, files_fault inputs r wishes files next.0 clash refusal (subst (λ (m : Result (List MemberFound) Refusal). IsFirstClashIfMembersFound inputs wishes files m clash) next.1 is) next.2)
     ]

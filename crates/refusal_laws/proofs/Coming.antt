@@ -9,7 +9,7 @@ use Rattle.base_core.specs.declared.cause.Cause.{Cause}
 use Rattle.outcome.specs.change_inputs.Inputs.{Inputs, first_index_read_number}
 use Rattle.outcome.specs.change_outcome.ChangeOutcome.{ChangeWishes}
 use Rattle.outcome.specs.change_outcome.MembersAfter.{added_package_by_path}
-use Rattle.outcome.specs.change_outcome.PackageFiles.{AddedPackage, first_script_of, has_script_of, package_file_path_of_candidate, added_package_or_refusal, package_in_file, scripts_of_change, package_unless_other_than_candidate, unless_script_number, unless_package_bad, unless_script_needed}
+use Rattle.outcome.specs.change_outcome.PackageFiles.{AddedPackage, first_script_number_of_package, has_script_with_number, package_file_path_of_candidate, added_package_or_refusal, package_in_file, scripts_of_change, package_unless_other_than_candidate, unless_script_number, package_unless_bad_or_different, unless_script_needed}
 use Rattle.outcome.specs.file_owners.Replaces.{package_version_text}
 use Rattle.outcome.specs.make_info.Reads.{Reads}
 use Rattle.outcome.specs.package_changes.Changes.{Replacement, change_of_name, is_candidate_named, names_before_and_selected, candidate_version_text}
@@ -84,7 +84,7 @@ module _ (c : Candidate) (pkg : AddedPackage) where
 pub found_ok : (c : Candidate) (file : List ℕ) (pkg : AddedPackage) → added_package_or_refusal c (Some file) ≡ Ok pkg → IsSoundFileOfCandidate c file × (pkg ≡ package_in_file file)
 found_ok c file pkg e = by_fault (package_fault file) refl e
   where
-    by_fault : (fault : Option Cause) → package_fault file ≡ fault → unless_package_bad c fault (package_in_file file) ≡ Ok pkg → IsSoundFileOfCandidate c file × (pkg ≡ package_in_file file)
+    by_fault : (fault : Option Cause) → package_fault file ≡ fault → package_unless_bad_or_different c fault (package_in_file file) ≡ Ok pkg → IsSoundFileOfCandidate c file × (pkg ≡ package_in_file file)
     by_fault None sound e =
         let ok = different_ok c (package_in_file file) pkg e in
         (record { sound = sound; id = ok.1; name = ok.2; version = ok.3 }, ok.0)
@@ -98,31 +98,31 @@ path_is read n c (Some path) = refl
 
 pub script_ok : {A : Type 0} (no_scripts : Bool) (name : List ℕ) (pkg : Plain) (numbers : List ℕ) (a b : A) → unless_script_needed no_scripts name pkg numbers a ≡ Ok b → a ≡ b
 script_ok true name pkg numbers a b e = (cc (e))
-script_ok false name pkg numbers a b e = by_number (first_script_of pkg numbers) e
+script_ok false name pkg numbers a b e = by_number (first_script_number_of_package pkg numbers) e
   where
     by_number : (o : Option ℕ) → unless_script_number name o a ≡ Ok b → a ≡ b
     by_number None e = (cc (e))
     by_number (Some number) e = absurd (cc (e))
 
 abbrev pub IsScriptTold : Bool → List ℕ → Plain → List ℕ → Refusal → Type 0
-IsScriptTold no_scripts name pkg numbers refusal = (script : ℕ) × (no_scripts ≡ false) × (first_script_of pkg numbers ≡ Some script) × (ScriptNeeded name script ≡ refusal)
+IsScriptTold no_scripts name pkg numbers refusal = (script : ℕ) × (no_scripts ≡ false) × (first_script_number_of_package pkg numbers ≡ Some script) × (ScriptNeeded name script ≡ refusal)
 
 pub script_err : {A : Type 0} (no_scripts : Bool) (name : List ℕ) (pkg : Plain) (numbers : List ℕ) (a : A) (refusal : Refusal) → unless_script_needed no_scripts name pkg numbers a ≡ Err refusal
     → IsScriptTold no_scripts name pkg numbers refusal
 script_err true name pkg numbers a refusal e = absurd (cc (e))
-script_err false name pkg numbers a refusal e = by_number (first_script_of pkg numbers) refl e
+script_err false name pkg numbers a refusal e = by_number (first_script_number_of_package pkg numbers) refl e
   where
-    by_number : (o : Option ℕ) → first_script_of pkg numbers ≡ o → unless_script_number name o a ≡ Err refusal → IsScriptTold false name pkg numbers refusal
+    by_number : (o : Option ℕ) → first_script_number_of_package pkg numbers ≡ o → unless_script_number name o a ≡ Err refusal → IsScriptTold false name pkg numbers refusal
     by_number None is e = absurd (cc (e))
     by_number (Some number) is e = (number, refl, is, (let same : ScriptNeeded name number ≡ refusal = cc in same))
 
-first_has : (pkg : Plain) (numbers : List ℕ) (script : ℕ) → first_script_of pkg numbers ≡ Some script → IsIn script numbers × (has_script_of pkg script ≡ true)
+first_has : (pkg : Plain) (numbers : List ℕ) (script : ℕ) → first_script_number_of_package pkg numbers ≡ Some script → IsIn script numbers × (has_script_with_number pkg script ≡ true)
 first_has pkg [] script e = absurd (cc (e))
-first_has pkg (number ∷ numbers) script e = by_test (has_script_of pkg number) refl e (first_has pkg numbers script)
+first_has pkg (number ∷ numbers) script e = by_test (has_script_with_number pkg number) refl e (first_has pkg numbers script)
   where
-    by_test : (b : Bool) → has_script_of pkg number ≡ b → (if b then Some number else first_script_of pkg numbers) ≡ Some script
-        → (first_script_of pkg numbers ≡ Some script → IsIn script numbers × (has_script_of pkg script ≡ true)) → IsIn script (number ∷ numbers) × (has_script_of pkg script ≡ true)
-    by_test true has e more = let same : script ≡ number = cc in (inl same, ap (has_script_of pkg) same ∙ has)
+    by_test : (b : Bool) → has_script_with_number pkg number ≡ b → (if b then Some number else first_script_number_of_package pkg numbers) ≡ Some script
+        → (first_script_number_of_package pkg numbers ≡ Some script → IsIn script numbers × (has_script_with_number pkg script ≡ true)) → IsIn script (number ∷ numbers) × (has_script_with_number pkg script ≡ true)
+    by_test true has e more = let same : script ≡ number = cc in (inl same, ap (has_script_with_number pkg) same ∙ has)
     by_test false has e more = let behind = more e in (inr behind.0, behind.1)
 
 -- ---- of a change
@@ -173,7 +173,7 @@ module _ (inputs : Inputs) (r : Replacement) (wishes : ChangeWishes) (read : Rea
         subst IsTrue same (read_for None is)
     file_fault (Some file) refusal is e = by_fault (package_fault file) refl e
       where
-        by_fault : (fault : Option Cause) → package_fault file ≡ fault → unless_package_bad c fault (package_in_file file) ≡ Err refusal → IsTrue refusal
+        by_fault : (fault : Option Cause) → package_fault file ≡ fault → package_unless_bad_or_different c fault (package_in_file file) ≡ Err refusal → IsTrue refusal
         by_fault None sound e = different_fault file refusal is sound e
         by_fault (Some cause) fault e =
             let told : PackageBad c.name (candidate_version_text c) cause ≡ refusal = cc in

@@ -15,7 +15,7 @@ use Rattle.outcome.specs.change_inputs.Chains.{and_then}
 use Rattle.outcome.specs.change_inputs.Inputs.{Inputs, first_index_read_number}
 use Rattle.outcome.specs.change_outcome.ChangeOutcome.{ChangeWishes, members_after_change}
 use Rattle.outcome.specs.change_outcome.MembersAfter.{MemberFound, added_package_by_path, added_member_found, members_after, member_of_name_after, member_of_name_by_change, member_of_name_by_selected, member_of_added_name, member_of_removed_name, members_of_names_after}
-use Rattle.outcome.specs.change_outcome.PackageFiles.{AddedPackage, first_script_of, package_file_path_of_candidate, added_package_or_refusal, package_in_file, scripts_of_change, unless_script_number, unless_package_bad, unless_script_needed}
+use Rattle.outcome.specs.change_outcome.PackageFiles.{AddedPackage, first_script_number_of_package, package_file_path_of_candidate, added_package_or_refusal, package_in_file, scripts_of_change, unless_script_number, package_unless_bad_or_different, unless_script_needed}
 use Rattle.outcome.specs.db_core.Packages.{is_package_named}
 use Rattle.outcome.specs.file_owners.Replaces.{package_version_text}
 use Rattle.base_core.specs.ByteOrder.{precedes}
@@ -45,21 +45,21 @@ found_name : (c : Candidate) (file : Option (List ℕ)) (refusal : Refusal) → 
 found_name c None refusal e = let told : PackageMissing c.name (candidate_version_text c) ≡ refusal = cc in ap refused_name (sym told)
 found_name c (Some file) refusal e = by_fault (package_fault file) e
   where
-    by_fault : (fault : Option Cause) → unless_package_bad c fault (package_in_file file) ≡ Err refusal → refused_name refusal ≡ c.name
+    by_fault : (fault : Option Cause) → package_unless_bad_or_different c fault (package_in_file file) ≡ Err refusal → refused_name refusal ≡ c.name
     by_fault None e = ap refused_name (sym (different_err c (package_in_file file) refusal e).4)
     by_fault (Some cause) e = let told : PackageBad c.name (candidate_version_text c) cause ≡ refusal = cc in ap refused_name (sym told)
 
 script_name : {A : Type 0} (no_scripts : Bool) (name : List ℕ) (pkg : Plain) (numbers : List ℕ) (a : A) (refusal : Refusal) → unless_script_needed no_scripts name pkg numbers a ≡ Err refusal → refused_name refusal ≡ name
 script_name no_scripts name pkg numbers a refusal e = ap refused_name (sym (script_err no_scripts name pkg numbers a refusal e).3)
 
-script_is : {A : Type 0} (no_scripts : Bool) (name : List ℕ) (pkg : Plain) (numbers : List ℕ) (a : A) (script : ℕ) → no_scripts ≡ false → first_script_of pkg numbers ≡ Some script
+script_is : {A : Type 0} (no_scripts : Bool) (name : List ℕ) (pkg : Plain) (numbers : List ℕ) (a : A) (script : ℕ) → no_scripts ≡ false → first_script_number_of_package pkg numbers ≡ Some script
     → unless_script_needed no_scripts name pkg numbers a ≡ Err (ScriptNeeded name script)
 script_is no_scripts name pkg numbers a script asked first = ap (λ b. unless_script_needed b name pkg numbers a) asked ∙ ap (λ o. unless_script_number name o a) first
 
 -- what passes all tests is found
 found_so : (c : Candidate) (file : List ℕ) → IsSoundFileOfCandidate c file → added_package_or_refusal c (Some file) ≡ Ok (package_in_file file)
 found_so c file is =
-    ap (λ o. unless_package_bad c o (package_in_file file)) is.sound
+    ap (λ o. package_unless_bad_or_different c o (package_in_file file)) is.sound
     ∙ (λ i. by_fields c (package_in_file file) (is.id i) ((bytes_eq-Decides c.name (package_name (package_in_file file).value)).1 (sym is.name) i)
     ((bytes_eq-Decides (candidate_version_text c) (package_version_text (package_in_file file).value)).1 (sym is.version) i))
 
@@ -163,7 +163,7 @@ module _ (inputs : Inputs) (r : Replacement) (wishes : ChangeWishes) (read : Rea
 
   different_told : (name version file : List ℕ) (is : IsFileReadForAddedPackage inputs r read name version (Some file)) (field : ℕ) (wanted found : List ℕ) → package_fault file ≡ None
       → IsFirstFieldThatDiffers is.candidate (package_in_file file) field wanted found → added_package_or_refusal is.candidate (Some file) ≡ Err (PackageDiffers name version field wanted found)
-  different_told name version file is field wanted found sound other = ap (λ o. unless_package_bad is.candidate o (package_in_file file)) sound ∙ by other
+  different_told name version file is field wanted found sound other = ap (λ o. package_unless_bad_or_different is.candidate o (package_in_file file)) sound ∙ by other
     where
       by : IsFirstFieldThatDiffers is.candidate (package_in_file file) field wanted found
           → by_fields is.candidate (package_in_file file) (is_same_id is.candidate.id (package_in_file file).id) (bytes_eq is.candidate.name (package_name (package_in_file file).value)) (bytes_eq (candidate_version_text is.candidate) (package_version_text (package_in_file file).value)) ≡ Err (PackageDiffers name version field wanted found)
@@ -179,7 +179,7 @@ module _ (inputs : Inputs) (r : Replacement) (wishes : ChangeWishes) (read : Rea
           ∙ (λ i. Err (PackageDiffers (named name version (Some file) is i) (is.has_version i) (sym field_is i) (sym wanted_is i) (sym found_is i)))
 
   script_told : (name : List ℕ) (script : ℕ) (pkg : Plain) (change : Change) → wishes.no_scripts ≡ false → IsAddedOrRemoved inputs r read name pkg → change_of_name r name ≡ Some change
-      → first_script_of pkg (scripts_of_change change) ≡ Some script → IsToldAt (ScriptNeeded name script)
+      → first_script_number_of_package pkg (scripts_of_change change) ≡ Some script → IsToldAt (ScriptNeeded name script)
   script_told name script pkg change asked (inl (coming, brought, value)) becomes first =
       let is = brought.is_read in
       let same : (package_in_file brought.file).value ≡ pkg = sym (value ∙ ap (λ (p : AddedPackage). p.value) brought.is_package) in
@@ -191,7 +191,7 @@ module _ (inputs : Inputs) (r : Replacement) (wishes : ChangeWishes) (read : Rea
             file_is name brought.version (Some brought.file) is
             ∙ (ap (λ p. and_then p (with_scripts name is.change)) (found_so is.candidate brought.file brought.as_selected)
             ∙ script_is wishes.no_scripts name (package_in_file brought.file).value (scripts_of_change is.change) (Some (added_member_found (package_in_file brought.file))) script asked
-            ((λ i. first_script_of (same i) (scripts_of_change (one i))) ∙ first));
+            ((λ i. first_script_number_of_package (same i) (scripts_of_change (one i))) ∙ first));
       }
   script_told name script pkg change asked (inr going) becomes first =
       let here = found_in (is_package_named name) r.before pkg going.before in
@@ -222,7 +222,7 @@ module _ (inputs : Inputs) (r : Replacement) (wishes : ChangeWishes) (read : Rea
         at = is.is_place;
         told =
             file_is name version (Some bad.file) is
-            ∙ (ap (λ o. and_then (unless_package_bad is.candidate o (package_in_file bad.file)) (with_scripts name is.change)) bad.fault
+            ∙ (ap (λ o. and_then (package_unless_bad_or_different is.candidate o (package_in_file bad.file)) (with_scripts name is.change)) bad.fault
             ∙ (λ i. Err (PackageBad (named name version (Some bad.file) is i) (is.has_version i) cause)));
       }
   fault_told (PackageDiffers name version field wanted found) other =

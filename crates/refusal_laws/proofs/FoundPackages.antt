@@ -12,7 +12,7 @@ use Rattle.outcome.specs.change_inputs.Chains.{and_then}
 use Rattle.outcome.specs.change_inputs.Inputs.{Inputs, first_index_read_number}
 use Rattle.outcome.specs.change_outcome.ChangeOutcome.{ChangeWishes, members_after_change}
 use Rattle.outcome.specs.change_outcome.MembersAfter.{MemberFound, added_package_by_path, added_member_found, members_after, member_of_name_after, member_of_name_by_change, member_of_name_by_selected, member_of_added_name, member_of_removed_name, members_of_names_after}
-use Rattle.outcome.specs.change_outcome.PackageFiles.{AddedPackage, first_script_of, package_file_path_of_candidate, added_package_or_refusal, package_in_file, scripts_of_change, unless_script_number, unless_package_bad, unless_script_needed}
+use Rattle.outcome.specs.change_outcome.PackageFiles.{AddedPackage, first_script_number_of_package, package_file_path_of_candidate, added_package_or_refusal, package_in_file, scripts_of_change, unless_script_number, package_unless_bad_or_different, unless_script_needed}
 use Rattle.outcome.specs.db_core.Packages.{is_package_named}
 use Rattle.outcome.specs.make_info.Reads.{Reads}
 use Rattle.outcome.specs.package_changes.Changes.{Replacement, change_of_name, is_candidate_named, names_before_and_selected}
@@ -43,14 +43,14 @@ not_other c file field wanted found agrees (inr (inl other)) = other.2.2 (other.
 not_other c file field wanted found agrees (inr (inr other)) = other.3.2 (other.3.0 ∙ (sym agrees.version ∙ sym other.3.1))
 
 no_bad_file : (c : Candidate) (file : List ℕ) (cause : Cause) (pkg : AddedPackage) → package_fault file ≡ Some cause → added_package_or_refusal c (Some file) ≡ Ok pkg → ⊥
-no_bad_file c file cause pkg fault e = refused (ap (λ o. unless_package_bad c o (package_in_file file)) (sym fault) ∙ e)
+no_bad_file c file cause pkg fault e = refused (ap (λ o. package_unless_bad_or_different c o (package_in_file file)) (sym fault) ∙ e)
   where
-    refused : unless_package_bad c (Some cause) (package_in_file file) ≡ Ok pkg → ⊥
+    refused : package_unless_bad_or_different c (Some cause) (package_in_file file) ≡ Ok pkg → ⊥
     refused e = cc (e)
 
-no_script : {A : Type 0} (no_scripts : Bool) (name : List ℕ) (pkg : Plain) (numbers : List ℕ) (a b : A) (script : ℕ) → no_scripts ≡ false → first_script_of pkg numbers ≡ Some script → unless_script_needed no_scripts name pkg numbers a ≡ Ok b → ⊥
+no_script : {A : Type 0} (no_scripts : Bool) (name : List ℕ) (pkg : Plain) (numbers : List ℕ) (a b : A) (script : ℕ) → no_scripts ≡ false → first_script_number_of_package pkg numbers ≡ Some script → unless_script_needed no_scripts name pkg numbers a ≡ Ok b → ⊥
 no_script true name pkg numbers a b script asked first e = true≢false asked
-no_script false name pkg numbers a b script asked first e = refused (first_script_of pkg numbers) first e
+no_script false name pkg numbers a b script asked first e = refused (first_script_number_of_package pkg numbers) first e
   where
     refused : (o : Option ℕ) → o ≡ Some script → unless_script_number name o a ≡ Ok b → ⊥
     refused None is e = cc (is)
@@ -121,14 +121,14 @@ module _ (inputs : Inputs) (r : Replacement) (wishes : ChangeWishes) (read : Rea
   -- ---- scripts
 
   no_script_of : (name : List ℕ) (script : ℕ) (pkg : Plain) (change : Change) → wishes.no_scripts ≡ false → IsAddedOrRemoved inputs r read name pkg → change_of_name r name ≡ Some change
-      → first_script_of pkg (scripts_of_change change) ≡ Some script → ⊥
+      → first_script_number_of_package pkg (scripts_of_change change) ≡ Some script → ⊥
   no_script_of name script pkg change asked (inl (coming, brought, value)) becomes first =
       let is = fine name brought.version (Some brought.file) brought.is_read in
       let ok = found_ok brought.is_read.candidate brought.file is.pkg is.is in
       let same : pkg ≡ is.pkg.value = value ∙ ap (λ (p : AddedPackage). p.value) (brought.is_package ∙ sym ok.1) in
       let one : change ≡ brought.is_read.change = (let both = sym becomes ∙ brought.is_read.becomes in cc) in
       no_script wishes.no_scripts name is.pkg.value (scripts_of_change brought.is_read.change) (Some (added_member_found is.pkg)) is.after script asked
-      (ap (λ p. first_script_of p (scripts_of_change brought.is_read.change)) (sym same) ∙ (ap (λ (ch : Change). first_script_of pkg (scripts_of_change ch)) (sym one) ∙ first)) is.scripts
+      (ap (λ p. first_script_number_of_package p (scripts_of_change brought.is_read.change)) (sym same) ∙ (ap (λ (ch : Change). first_script_number_of_package pkg (scripts_of_change ch)) (sym one) ∙ first)) is.scripts
   no_script_of name script pkg change asked (inr going) becomes first =
       let here = found_in (is_package_named name) r.before pkg going.before in
       let named : package_name pkg ≡ name = (bytes_eq-Decides (package_name pkg) name).0 here.1 in

@@ -3,13 +3,13 @@ use Rattle.command_core.specs.declared.values.TheConstants.{FILES, SCRIPT, TRIGG
 use Rattle.std.proofs.Common.{◌≡◌, ◌⊎◌, inl, inr, ◌∙◌, ℕ, ◌+◌, List, [], ◌∷◌, length, Option, Some, None, Result, Ok, Err, refl, ap}
 use Rattle.outcome.specs.adb_sound.Container.{package_with_contents_from_parts}
 use Rattle.adb_view.specs.Plain.{Plain}
-use Rattle.outcome.specs.adb_write.Canonical.{PayloadCounts, overflow_of}
+use Rattle.outcome.specs.adb_write.Canonical.{ByteAndValueCounts, overflow_of}
 use Rattle.command_core.specs.Command.{CommandLine}
 use Rattle.command_core.specs.Files.{without_dot_slash}
 use Rattle.command_core.specs.Values.{script_file, script_type}
 use Rattle.command_core.specs.declared.values.OptionValue.{OptionValue}
-use Rattle.outcome.specs.make_core.ReadBack.{packed_of_parts, packed_package}
-use Rattle.outcome.specs.make_info.Information.{FieldWithValue, information, information_value, replaces_priority}
+use Rattle.outcome.specs.make_core.ReadBack.{packed_of_parts, package_with_contents_of_command}
+use Rattle.outcome.specs.make_info.Information.{FieldWithValue, information, information_value_with_installed_size, replaces_priority}
 use Rattle.outcome.specs.make_info.Reads.{Reads}
 use Rattle.outcome.specs.make_info.declared.fault.MakeFault.{MakeFault}
 use Rattle.outcome.specs.make_info.declared.fault.MakeFault.TheVariants.{TooLarge}
@@ -18,7 +18,7 @@ use Rattle.outcome.specs.make_package.Making.{container_unless_too_large, made_p
 use Rattle.outcome.specs.package_files.Package.{Script, Source, SourceFolder, contents_of_folders, installed_size, value_of_package}
 use Rattle.outcome.specs.package_files.Sources.{results_from_read, source_file_read_at, source_folder_read_at, source_folders_of_first_option, found_bytes_or_missing, and_then, script_at, script_with, scripts_from_read, source_of_read, sources_at_place_from_read, texts_of, values_of_letter}
 use Rattle.outcome.specs.pkg_core.Contents.{Contents}
-use Rattle.refusal_laws.specs.MadeTooLarge.{IsPackageTooLarge}
+use Rattle.refusal_laws.specs.MadeTooLarge.{IsPackageToBeMadeTooLarge}
 use Rattle.refusal_laws.proofs.ChangeFaults.{too_large}
 
 -- ---- nothing that is read is too large
@@ -76,7 +76,7 @@ module _ (bytes values : ℕ) where
 
   -- ---- what is written
 
-  counts_of : (o : Option PayloadCounts) (v : Plain) (contents : List Contents) → container_unless_too_large o v contents ≡ Err (TooLarge bytes values) → o ≡ Some (bytes, values)
+  counts_of : (o : Option ByteAndValueCounts) (v : Plain) (contents : List Contents) → container_unless_too_large o v contents ≡ Err (TooLarge bytes values) → o ≡ Some (bytes, values)
   counts_of None v contents e = absurd (cc (e))
   counts_of (Some counts) v contents e =
       let same : TooLarge counts.0 counts.1 ≡ TooLarge bytes values = cc in
@@ -88,7 +88,7 @@ module _ (bytes values : ℕ) where
   unfolding package_container
   container_counts v contents e = counts_of (overflow_of v) v contents e
 
-  pub made_too_large : (command : CommandLine) (names : List (List ℕ)) (read : Reads) → made_package command names read ≡ Err (TooLarge bytes values) → IsPackageTooLarge command names read bytes values
+  pub made_too_large : (command : CommandLine) (names : List (List ℕ)) (read : Reads) → made_package command names read ≡ Err (TooLarge bytes values) → IsPackageToBeMadeTooLarge command names read bytes values
   unfolding made_package
   made_too_large command names read e =
       elim (success_err scripts then_scripts (TooLarge bytes values) e) [
@@ -117,10 +117,10 @@ module _ (bytes values : ℕ) where
 
       value_of : List Script → List FieldWithValue → List SourceFolder → Plain
       value_of found about folders =
-          value_of_package (information_value about (installed_size folders)) folders found (texts_of (values_of_letter TRIGGER command.values)) (replaces_priority about)
+          value_of_package (information_value_with_installed_size about (installed_size folders)) folders found (texts_of (values_of_letter TRIGGER command.values)) (replaces_priority about)
 
       packed_is : (found : List Script) (about : List FieldWithValue) (folders : List SourceFolder) → scripts ≡ Ok found → or_info_bad (information command) ≡ Ok about
-          → source_folders_of_first_option read (length found) (values_of_letter FILES command.values) names ≡ Ok folders → packed_package command names read ≡ Ok (package_with_contents_from_parts (value_of found about folders) (contents_of_folders 1 folders))
+          → source_folders_of_first_option read (length found) (values_of_letter FILES command.values) names ≡ Ok folders → package_with_contents_of_command command names read ≡ Ok (package_with_contents_from_parts (value_of found about folders) (contents_of_folders 1 folders))
       packed_is found about folders s a f =
           ap (λ (x : Result (List Script) MakeFault). and_then x (λ scripts.
           and_then (or_info_bad (information command)) (λ about.

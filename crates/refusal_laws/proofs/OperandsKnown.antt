@@ -9,12 +9,12 @@ use Rattle.command_core.specs.declared.command.Applet.TheVariants.{Del, Fix, Upg
 use Rattle.command_core.specs.declared.operands.Operand.{Operand}
 use Rattle.outcome.specs.engine_core.Changed.{selected_from_pool_by_choice, selected_from_inputs_by_choice}
 use Rattle.outcome.specs.engine_core.Selecting.{pool_of_inputs}
-use Rattle.outcome.specs.engine_core.Wishes.{place_of_first_unknown_operand, is_installed_name, is_known_name, names_to_upgrade, unknown_operand_place, unless_unknown_operand}
+use Rattle.outcome.specs.engine_core.Wishes.{place_of_first_unknown_operand, is_installed_name, is_name_in_world_or_installed, names_to_upgrade, unknown_operand_place, unless_unknown_operand}
 use Rattle.outcome.specs.candidate_core.Rank.{SealedPool}
 use Rattle.report_core.specs.declared.refusal.Refusal.{Refusal}
 use Rattle.report_core.specs.declared.refusal.Refusal.TheVariants.{NotInstalled, Unsatisfied}
 use Rattle.refusal_laws.specs.CommandFaults.{IsNameUnknownToApplet}
-use Rattle.refusal_laws.specs.OperandsKnown.{AreKnownOperands, HasPassedBeforeSelectionRefusal, IsFirstUnknown}
+use Rattle.refusal_laws.specs.OperandsKnown.{AreKnownOperands, HasPassedTestsBeforeSelectionRefusal, IsFirstUnknown}
 use Rattle.refusal_laws.proofs.CommandFaults.{pool_fault}
 use Rattle.refusal_laws.proofs.Lists.{and_then_err}
 
@@ -69,7 +69,7 @@ known_to : (command : CommandLine) (inputs : Inputs) (applet : Applet) (is_known
 known_to command inputs applet is_known known same operands pass o inside unknown =
     known o.text (pass o inside) (subst (λ (a : Applet). IsNameUnknownToApplet a inputs o.text) (sym same) unknown)
 
-del_knows : (inputs : Inputs) (name : List ℕ) → is_known_name inputs name ≡ true → IsNameUnknownToApplet Del inputs name → ⊥
+del_knows : (inputs : Inputs) (name : List ℕ) → is_name_in_world_or_installed inputs name ≡ true → IsNameUnknownToApplet Del inputs name → ⊥
 del_knows inputs name known (world, installed) = true≢false (sym known ∙ (λ i. world i || installed i))
 
 module _ (command : CommandLine) (inputs : Inputs) where
@@ -80,31 +80,31 @@ module _ (command : CommandLine) (inputs : Inputs) where
       record { before = f.before; operand = f.operand; after = f.after; are = f.are; at = f.at; known = known_to command inputs applet is_known known same f.before f.known }
 
   first_place : (applet : Applet) (place : ℕ) → applet ≡ command.applet → unknown_operand_place applet inputs command.operands ≡ Some place → IsFirstUnknown command inputs place
-  first_place Del place same e = first_by Del (is_known_name inputs) place (del_knows inputs) same e
+  first_place Del place same e = first_by Del (is_name_in_world_or_installed inputs) place (del_knows inputs) same e
   first_place Upgrade place same e = first_by Upgrade (is_installed_name inputs) place (λ name known off. true≢false (sym known ∙ off)) same e
   first_place Fix place same e = first_by Fix (is_installed_name inputs) place (λ name known off. true≢false (sym known ∙ off)) same e
   first_place applet place same e = absurd (cc (e))
 
   no_place : (applet : Applet) → applet ≡ command.applet → unknown_operand_place applet inputs command.operands ≡ None → AreKnownOperands command inputs command.operands
-  no_place Del same e = known_to command inputs Del (is_known_name inputs) (del_knows inputs) same command.operands (all_passing (is_known_name inputs) command.operands e)
+  no_place Del same e = known_to command inputs Del (is_name_in_world_or_installed inputs) (del_knows inputs) same command.operands (all_passing (is_name_in_world_or_installed inputs) command.operands e)
   no_place Upgrade same e =
       known_to command inputs Upgrade (is_installed_name inputs) (λ name known off. true≢false (sym known ∙ off)) same command.operands (all_passing (is_installed_name inputs) command.operands e)
   no_place Fix same e = known_to command inputs Fix (is_installed_name inputs) (λ name known off. true≢false (sym known ∙ off)) same command.operands (all_passing (is_installed_name inputs) command.operands e)
   no_place applet same e = λ o inside unknown. subst (λ (a : Applet). IsNameUnknownToApplet a inputs o.text) (sym same) unknown
 
   passed : (pool : SealedPool) → pool_of_inputs command inputs ≡ Ok pool → (place : Option ℕ) → unknown_operand_place command.applet inputs command.operands ≡ place → (chosen : Option (List ℕ)) (refusal : Refusal)
-      → unless_unknown_operand place (selected_from_pool_by_choice command inputs pool chosen) ≡ Err refusal → HasPassedBeforeSelectionRefusal command inputs refusal
+      → unless_unknown_operand place (selected_from_pool_by_choice command inputs pool chosen) ≡ Err refusal → HasPassedTestsBeforeSelectionRefusal command inputs refusal
   passed pool is (Some place) at chosen refusal e =
       let same : NotInstalled place ≡ refusal = cc in
-      subst (HasPassedBeforeSelectionRefusal command inputs) same ((pool, is), first_place command.applet place refl at)
+      subst (HasPassedTestsBeforeSelectionRefusal command inputs) same ((pool, is), first_place command.applet place refl at)
   passed pool is None at None refusal e =
       let same : Unsatisfied ≡ refusal = cc in
-      subst (HasPassedBeforeSelectionRefusal command inputs) same ((pool, is), no_place command.applet refl at)
+      subst (HasPassedTestsBeforeSelectionRefusal command inputs) same ((pool, is), no_place command.applet refl at)
   passed pool is None at (Some trace) refusal e = absurd (cc (e))
 
-  pub selection_passed : (chosen : Option (List ℕ)) (refusal : Refusal) → selected_from_inputs_by_choice command chosen inputs ≡ Err refusal → HasPassedBeforeSelectionRefusal command inputs refusal
+  pub selection_passed : (chosen : Option (List ℕ)) (refusal : Refusal) → selected_from_inputs_by_choice command chosen inputs ≡ Err refusal → HasPassedTestsBeforeSelectionRefusal command inputs refusal
   selection_passed chosen refusal e =
       elim (and_then_err (pool_of_inputs command inputs) (λ pool. unless_unknown_operand (unknown_operand_place command.applet inputs command.operands) (selected_from_pool_by_choice command inputs pool chosen)) refusal e) [
-        | inl first ↦ (let many = pool_fault inputs (names_to_upgrade command.applet command.operands) refusal first in subst (HasPassedBeforeSelectionRefusal command inputs) many.2 tt)
+        | inl first ↦ (let many = pool_fault inputs (names_to_upgrade command.applet command.operands) refusal first in subst (HasPassedTestsBeforeSelectionRefusal command inputs) many.2 tt)
         | inr next ↦ passed next.0 next.1 (unknown_operand_place command.applet inputs command.operands) refl chosen refusal next.2
       ]

@@ -16,7 +16,7 @@ use Rattle.outcome.specs.change_outcome.PackageFiles.{AddedPackage, package_file
 use Rattle.outcome.specs.db_core.Members.{member_name}
 use Rattle.outcome.specs.db_core.Packages.{is_package_named}
 use Rattle.outcome.specs.make_info.Reads.{Reads}
-use Rattle.outcome.specs.package_changes.Changes.{Replacement, change_between, change_of_name, is_candidate_this_package, is_candidate_named, names_before_and_selected, change_unless_same}
+use Rattle.outcome.specs.package_changes.Changes.{Replacement, change_between, change_of_name, is_candidate_this_package, is_candidate_named, names_before_and_selected, change_by_is_same_and_is_again}
 use Rattle.outcome.specs.candidate_core.Candidates.{Candidate}
 use Rattle.report_core.specs.Reports.{Change}
 use Rattle.report_core.specs.declared.refusal.Refusal.{Refusal}
@@ -41,7 +41,7 @@ same_where_unchanged is_again name None (Some c) e = absurd (cc (e))
 same_where_unchanged is_again name (Some pkg) None e = absurd (cc (e))
 same_where_unchanged is_again name (Some pkg) (Some c) e = by_test (is_candidate_this_package pkg c) e
   where
-    by_test : (b : Bool) → change_unless_same name pkg c b is_again ≡ None → b ≡ true
+    by_test : (b : Bool) → change_by_is_same_and_is_again name pkg c b is_again ≡ None → b ≡ true
     by_test true e = refl
     by_test false e = absurd (cc (e))
 

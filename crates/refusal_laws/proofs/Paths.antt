@@ -12,10 +12,10 @@ use Rattle.outcome.specs.adb_schema.Reserved.{is_reserved}
 use Rattle.base_core.proofs.Rising as Names
 use Rattle.outcome.proofs.change_files.InOrder.{from_filter, in_filter, in_sorted, from_sorted}
 use Rattle.outcome.specs.change_files.NamesAfter.{added_paths}
-use Rattle.outcome.specs.change_files.PlanLists.{first_reserved_path}
+use Rattle.outcome.specs.change_files.PlanLists.{first_reserved_added_path}
 use Rattle.outcome.specs.change_outcome.ChangeOutcome.{member_name_at_place}
-use Rattle.outcome.specs.db_core.Members.{Listing, Member, member_listings, member_name}
-use Rattle.outcome.specs.file_owners.Owners.{claim_of_listing, claims_from, claims_in, first_contested_path_of_members, member_beats, owner_of_path, takes_over_if_both_exist}
+use Rattle.outcome.specs.db_core.Members.{Listing, Member, listings_of_members, member_name}
+use Rattle.outcome.specs.file_owners.Owners.{numbered_claim_of_listing, claims_of_listings_numbered_from, claims_in, first_contested_path_of_members, member_beats, owner_of_path, takes_over_if_both_exist}
 use Rattle.outcome.specs.file_owners.Replaces.{takes_over}
 use Rattle.outcome.proofs.file_owners.Claiming.{owner_is}
 use Rattle.base_core.specs.ByteOrder.{bytes_cmp, precedes, smallest_text}
@@ -25,8 +25,8 @@ use Rattle.base_core.proofs.Sorting.{Each, Rises, ranks, rises_in_order}
 use Rattle.base_core.proofs.Numbers.{same_number}
 use Rattle.outcome.proofs.own_core.Listings.{IsPlaced, each_placed}
 use Rattle.outcome.proofs.own_core.NamesOnce.{not_below}
-use Rattle.outcome.specs.path_claims.Claims.{ContestedPath, claimants, contested_path_at, first_contested_path, first_path_without_owner, is_claim_of_path, owner_among}
-use Rattle.outcome.specs.path_claims.Contest.{beats_each, first_with_unbeaten_rival, rivals_of, winner}
+use Rattle.outcome.specs.path_claims.Claims.{ContestedPath, claimants, path_with_rivals_of_first_claimant, first_contested_path, first_path_without_owner, is_claim_of_path, owner_among}
+use Rattle.outcome.specs.path_claims.Contest.{are_all_others_beaten_by, first_with_unbeaten_rival, rivals_of, member_beating_all_others}
 use Rattle.outcome.specs.path_claims.declared.contest.Rivals.{Rivals}
 use Rattle.refusal_laws.specs.ChangeFaults.{IsFirstContestedPath, IsFirstReservedAddedPath}
 use Rattle.refusal_laws.specs.TestsPassed.{AreAddedPathsUnreserved, EachListedPathHasOwner}
@@ -62,8 +62,8 @@ smallest_is xs x e = by_list (sorted_by bytes_cmp xs) refl (sym (smallest_first 
           λ q here. found_is_first (λ z. true) (y ∷ ys) x up e q (subst (λ zs. Names.IsIn q zs) is (in_sorted q xs here)) refl,
         )
 
-pub first_reserved_is : (members : List Member) (path : List ℕ) → first_reserved_path members ≡ Some path → IsFirstReservedAddedPath members path
-unfolding first_reserved_path
+pub first_reserved_is : (members : List Member) (path : List ℕ) → first_reserved_added_path members ≡ Some path → IsFirstReservedAddedPath members path
+unfolding first_reserved_added_path
 first_reserved_is members path e =
     let is = smallest_is (filter is_reserved (added_paths members)) path e in
     let passes = from_filter is_reserved (added_paths members) path is.0 in
@@ -80,8 +80,8 @@ none_smallest xs q e here = by_list (sorted_by bytes_cmp xs) (sym (smallest_firs
     by_list [] e here = here
     by_list (y ∷ ys) e here = cc (e)
 
-pub are_unreserved : (members : List Member) → first_reserved_path members ≡ None → AreAddedPathsUnreserved members
-unfolding first_reserved_path
+pub are_unreserved : (members : List Member) → first_reserved_added_path members ≡ None → AreAddedPathsUnreserved members
+unfolding first_reserved_added_path
 are_unreserved members none path here = by_test (is_reserved path) refl
   where
     by_test : (b : Bool) → is_reserved path ≡ b → b ≡ false
@@ -96,12 +96,12 @@ each_here P (y ∷ ys) x h (inl is) = subst P (sym is) h.0
 each_here P (y ∷ ys) x h (inr more) = each_here P ys x h.1 more
 
 -- a member that claims a path lists it
-claimant_lists : (path : List ℕ) (n : ℕ) (ls : List Listing) (y : ℕ) → IsIn y (claimants (claims_from n ls) path) → (l : Listing) × IsIn l ls × (l.path ≡ path) × (y ≡ l.place)
+claimant_lists : (path : List ℕ) (n : ℕ) (ls : List Listing) (y : ℕ) → IsIn y (claimants (claims_of_listings_numbered_from n ls) path) → (l : Listing) × IsIn l ls × (l.path ≡ path) × (y ≡ l.place)
 claimant_lists path n [] y here = absurd here
 claimant_lists path n (l ∷ ls) y here = by_test (bytes_eq l.path path) refl here (claimant_lists path (n + 1) ls y)
   where
-    by_test : (b : Bool) → bytes_eq l.path path ≡ b → IsIn y (map (λ c. c.member) (cond b (claim_of_listing n l ∷ filter (is_claim_of_path path) (claims_from (n + 1) ls)) (filter (is_claim_of_path path) (claims_from (n + 1) ls))))
-        → (IsIn y (claimants (claims_from (n + 1) ls) path) → (k : Listing) × IsIn k ls × (k.path ≡ path) × (y ≡ k.place)) → (k : Listing) × IsIn k (l ∷ ls) × (k.path ≡ path) × (y ≡ k.place)
+    by_test : (b : Bool) → bytes_eq l.path path ≡ b → IsIn y (map (λ c. c.member) (cond b (numbered_claim_of_listing n l ∷ filter (is_claim_of_path path) (claims_of_listings_numbered_from (n + 1) ls)) (filter (is_claim_of_path path) (claims_of_listings_numbered_from (n + 1) ls))))
+        → (IsIn y (claimants (claims_of_listings_numbered_from (n + 1) ls) path) → (k : Listing) × IsIn k ls × (k.path ≡ path) × (y ≡ k.place)) → (k : Listing) × IsIn k (l ∷ ls) × (k.path ≡ path) × (y ≡ k.place)
     by_test true is (inl same) more = (l, inl refl, (bytes_eq-Decides l.path path).0 is, same)
     by_test true is (inr here) more = let other = more here in (other.0, inr other.1, other.2, other.3)
     by_test false is here more = let other = more here in (other.0, inr other.1, other.2, other.3)
@@ -141,7 +141,7 @@ none_is : (o : Option ℕ) → is_none o ≡ true → o ≡ None
 none_is None e = refl
 none_is (Some x) e = absurd (true≢false (sym e))
 
-listing_claimed : (n : ℕ) (ls : List Listing) (l : Listing) → IsIn l ls → Names.IsIn l.path (map (λ c. c.path) (claims_from n ls))
+listing_claimed : (n : ℕ) (ls : List Listing) (l : Listing) → IsIn l ls → Names.IsIn l.path (map (λ c. c.path) (claims_of_listings_numbered_from n ls))
 listing_claimed n [] l here = absurd here
 listing_claimed n (k ∷ ls) l (inl is) = inl (ap (λ (l : Listing). l.path) is)
 listing_claimed n (k ∷ ls) l (inr more) = inr (listing_claimed (n + 1) ls l more)
@@ -157,48 +157,48 @@ module _ (members : List Member) where
       by_owner None not_none = absurd (not_none refl)
       by_owner (Some x) not_none = refl
 
-  listed_by : (place : ℕ) (l : Listing) → IsIn l (member_listings members) → place ≡ l.place → member_name_at_place members place ≡ member_name l.member
+  listed_by : (place : ℕ) (l : Listing) → IsIn l (listings_of_members members) → place ≡ l.place → member_name_at_place members place ≡ member_name l.member
   listed_by place l here is =
-      let at = each_here (IsPlaced members) (member_listings members) l (each_placed members) here in
+      let at = each_here (IsPlaced members) (listings_of_members members) l (each_placed members) here in
       ap (λ (o : Option Member). option_map_or member_name o []) (ap (slice_get members) is ∙ at.at)
 
-  beats_is : (one other : Listing) → IsIn one (member_listings members) → IsIn other (member_listings members) → member_beats members one.place other.place ≡ takes_over one.member.pkg other.member.pkg
+  beats_is : (one other : Listing) → IsIn one (listings_of_members members) → IsIn other (listings_of_members members) → member_beats members one.place other.place ≡ takes_over one.member.pkg other.member.pkg
   unfolding member_beats
   beats_is one other here there =
-      let first = each_here (IsPlaced members) (member_listings members) one (each_placed members) here in
-      let second = each_here (IsPlaced members) (member_listings members) other (each_placed members) there in
+      let first = each_here (IsPlaced members) (listings_of_members members) one (each_placed members) here in
+      let second = each_here (IsPlaced members) (listings_of_members members) other (each_placed members) there in
       ap₂ takes_over_if_both_exist first.at second.at
 
   -- where no third member claims the path, and one of the two took it over, it would own it
   takes_neither : (path : List ℕ) (x y : ℕ) → owner_by_claims path ≡ None → IsIn x (claimants (claims_in members) path)
       → ((z : ℕ) → IsIn z (claimants (claims_in members) path) → (z ≡ x) ⊎ (z ≡ y)) → member_beats members x y ≡ false
-  unfolding winner
+  unfolding member_beating_all_others
   takes_neither path x y unowned here two = by_test (member_beats members x y) refl
     where
       by_test : (b : Bool) → member_beats members x y ≡ b → b ≡ false
       by_test false t = refl
       by_test true t =
           let ms : List ℕ = claimants (claims_in members) path in
-          let each : beats_each (member_beats members) ms x ≡ true = all_pass (λ z. (x == z) || member_beats members x z) ms (λ z there. elim (two z there) [
+          let each : are_all_others_beaten_by (member_beats members) ms x ≡ true = all_pass (λ z. (x == z) || member_beats members x z) ms (λ z there. elim (two z there) [
             | inl is ↦ or_left (x == z) (member_beats members x z) (ap (λ w. x == w) is ∙ same_number x)
             | inr is ↦ or_right (x == z) (member_beats members x z) (ap (member_beats members x) is ∙ t)
           ]) in
-          absurd (true≢false (sym each ∙ none_found (beats_each (member_beats members) ms) ms x unowned here))
+          absurd (true≢false (sym each ∙ none_found (are_all_others_beaten_by (member_beats members) ms) ms x unowned here))
 
   contested_rivals : (path : List ℕ) (rivals : Rivals) → first_path_without_owner (member_beats members) (claims_in members) ≡ Some path → first_with_unbeaten_rival (member_beats members) (claimants (claims_in members) path) ≡ Some rivals
       → IsFirstContestedPath members path (member_name_at_place members rivals.first) (member_name_at_place members rivals.second)
   unfolding claims_in
   contested_rivals path rivals found e =
       let are = rivals_are (member_beats members) (claimants (claims_in members) path) rivals e in
-      let one = claimant_lists path 0 (member_listings members) rivals.first are.first in
-      let other = claimant_lists path 0 (member_listings members) rivals.second are.second in
+      let one = claimant_lists path 0 (listings_of_members members) rivals.first are.first in
+      let other = claimant_lists path 0 (listings_of_members members) rivals.second are.second in
       let paths : List (List ℕ) = map (λ c. c.path) (claims_in members) in
       let test : List ℕ → Bool = λ p. is_none (owner_by_claims p) in
       record {
         unowned = sym (owner_is members path) ∙ none_is (owner_by_claims path) (found_in test (sorted_by bytes_cmp paths) path found).1;
         first = λ l here before. owned_or_not l.path (λ none.
             true≢false (sym before ∙ found_is_first test (sorted_by bytes_cmp paths) path (rises_in_order bytes_cmp nat_list_cmp_total paths) found l.path
-            (in_sorted l.path paths (listing_claimed 0 (member_listings members) l here)) none));
+            (in_sorted l.path paths (listing_claimed 0 (listings_of_members members) l here)) none));
         by_one = one.0;
         lists_one = record { listed = one.1; of_path = one.2; by = sym (listed_by rivals.first one.0 one.1 one.3) };
         by_other = other.0;
@@ -209,7 +209,7 @@ module _ (members : List Member) where
             sym (beats_is other.0 one.0 other.1 one.1)
             ∙ (sym (ap₂ (member_beats members) other.3 one.3)
             ∙ takes_neither path rivals.second rivals.first unowned are.second (λ z there.
-            (let third = claimant_lists path 0 (member_listings members) z there in
+            (let third = claimant_lists path 0 (listings_of_members members) z there in
             elim (two third.0 third.1 third.2) [
               | inl is ↦ inr (third.3 ∙ (is ∙ sym one.3))
               | inr is ↦ inl (third.3 ∙ (is ∙ sym other.3))
@@ -219,20 +219,20 @@ module _ (members : List Member) where
 
   -- ---- no contested path
 
-  some_claimant : (path : List ℕ) (n : ℕ) (ls : List Listing) → Names.IsIn path (map (λ c. c.path) (claims_from n ls)) → (y : ℕ) × IsIn y (claimants (claims_from n ls) path)
+  some_claimant : (path : List ℕ) (n : ℕ) (ls : List Listing) → Names.IsIn path (map (λ c. c.path) (claims_of_listings_numbered_from n ls)) → (y : ℕ) × IsIn y (claimants (claims_of_listings_numbered_from n ls) path)
   some_claimant path n [] here = absurd here
   some_claimant path n (l ∷ ls) here = by_test (bytes_eq l.path path) refl here (some_claimant path (n + 1) ls)
     where
-      by_test : (b : Bool) → bytes_eq l.path path ≡ b → Names.IsIn path (l.path ∷ map (λ c. c.path) (claims_from (n + 1) ls))
-          → (Names.IsIn path (map (λ c. c.path) (claims_from (n + 1) ls)) → (y : ℕ) × IsIn y (claimants (claims_from (n + 1) ls) path))
-          → (y : ℕ) × IsIn y (map (λ c. c.member) (cond b (claim_of_listing n l ∷ filter (is_claim_of_path path) (claims_from (n + 1) ls)) (filter (is_claim_of_path path) (claims_from (n + 1) ls))))
+      by_test : (b : Bool) → bytes_eq l.path path ≡ b → Names.IsIn path (l.path ∷ map (λ c. c.path) (claims_of_listings_numbered_from (n + 1) ls))
+          → (Names.IsIn path (map (λ c. c.path) (claims_of_listings_numbered_from (n + 1) ls)) → (y : ℕ) × IsIn y (claimants (claims_of_listings_numbered_from (n + 1) ls) path))
+          → (y : ℕ) × IsIn y (map (λ c. c.member) (cond b (numbered_claim_of_listing n l ∷ filter (is_claim_of_path path) (claims_of_listings_numbered_from (n + 1) ls)) (filter (is_claim_of_path path) (claims_of_listings_numbered_from (n + 1) ls))))
       by_test true is here more = (l.place, inl refl)
       by_test false is (inl same) more = absurd (true≢false (sym ((bytes_eq-Decides l.path path).1 (sym same)) ∙ is))
       by_test false is (inr here) more = more here
 
   -- where a path has no owner, two of its claimants are told
-  rivals_told : (beats : ℕ → ℕ → Bool) (ms : List ℕ) (y : ℕ) → IsIn y ms → winner beats ms ≡ None → first_with_unbeaten_rival beats ms ≡ None → ⊥
-  unfolding winner first_with_unbeaten_rival
+  rivals_told : (beats : ℕ → ℕ → Bool) (ms : List ℕ) (y : ℕ) → IsIn y ms → member_beating_all_others beats ms ≡ None → first_with_unbeaten_rival beats ms ≡ None → ⊥
+  unfolding member_beating_all_others first_with_unbeaten_rival
   rivals_told beats [] y here none e = here
   rivals_told beats (x ∷ ms) y here none e = by_found (find (λ z. not ((x == z) || beats x z)) (x ∷ ms)) refl e
     where
@@ -243,8 +243,8 @@ module _ (members : List Member) where
       by_found : (o : Option ℕ) → find (λ z. not ((x == z) || beats x z)) (x ∷ ms) ≡ o → option_map (rivals_of x) o ≡ None → ⊥
       by_found (Some z) f e = cc (e)
       by_found None f e =
-          let each : beats_each beats (x ∷ ms) x ≡ true = all_pass (λ z. (x == z) || beats x z) (x ∷ ms) (λ z there. beaten ((x == z) || beats x z) (none_found (λ z. not ((x == z) || beats x z)) (x ∷ ms) z f there)) in
-          true≢false (sym each ∙ none_found (beats_each beats (x ∷ ms)) (x ∷ ms) x none (inl refl))
+          let each : are_all_others_beaten_by beats (x ∷ ms) x ≡ true = all_pass (λ z. (x == z) || beats x z) (x ∷ ms) (λ z there. beaten ((x == z) || beats x z) (none_found (λ z. not ((x == z) || beats x z)) (x ∷ ms) z f there)) in
+          true≢false (sym each ∙ none_found (are_all_others_beaten_by beats (x ∷ ms)) (x ∷ ms) x none (inl refl))
 
   owned_where : (path : List ℕ) → is_none (owner_by_claims path) ≡ false → is_some (owner_of_path members path) ≡ true
   owned_where path e = owned_or_not path (λ t. true≢false (sym t ∙ e))
@@ -253,16 +253,16 @@ module _ (members : List Member) where
   unfolding first_contested_path_of_members first_contested_path claims_in
   have_owners e l here = by_path (first_path_without_owner (member_beats members) (claims_in members)) refl e
     where
-      by_path : (o : Option (List ℕ)) → first_path_without_owner (member_beats members) (claims_in members) ≡ o → option_and_then (contested_path_at (member_beats members) (claims_in members)) o ≡ None → is_some (owner_of_path members l.path) ≡ true
+      by_path : (o : Option (List ℕ)) → first_path_without_owner (member_beats members) (claims_in members) ≡ o → option_and_then (path_with_rivals_of_first_claimant (member_beats members) (claims_in members)) o ≡ None → is_some (owner_of_path members l.path) ≡ true
       by_path None is e =
           let paths : List (List ℕ) = map (λ c. c.path) (claims_in members) in
-          let sorted : Names.IsIn l.path (sorted_by bytes_cmp paths) = in_sorted l.path paths (listing_claimed 0 (member_listings members) l here) in
+          let sorted : Names.IsIn l.path (sorted_by bytes_cmp paths) = in_sorted l.path paths (listing_claimed 0 (listings_of_members members) l here) in
           owned_where l.path (none_found (λ p. is_none (owner_by_claims p)) (sorted_by bytes_cmp paths) l.path is (name_in l.path (sorted_by bytes_cmp paths) sorted))
       by_path (Some path) is e =
           let paths : List (List ℕ) = map (λ c. c.path) (claims_in members) in
           let passes = found_in (λ p. is_none (owner_by_claims p)) (sorted_by bytes_cmp paths) path is in
           let claimed : Names.IsIn path paths = from_sorted path paths (in_names path (sorted_by bytes_cmp paths) passes.0) in
-          let some = some_claimant path 0 (member_listings members) claimed in
+          let some = some_claimant path 0 (listings_of_members members) claimed in
           absurd (rivals_told (member_beats members) (claimants (claims_in members) path) some.0 some.1 (none_is (owner_by_claims path) passes.1)
           (no_rivals (first_with_unbeaten_rival (member_beats members) (claimants (claims_in members) path)) e))
         where
@@ -281,7 +281,7 @@ module _ (members : List Member) where
           let same : record { path = path; rivals = rivals } ≡ c = cc in
           subst (λ (d : ContestedPath). IsFirstContestedPath members d.path (member_name_at_place members d.rivals.first) (member_name_at_place members d.rivals.second)) same (contested_rivals path rivals found is)
 
-      by_path : (o : Option (List ℕ)) → first_path_without_owner (member_beats members) (claims_in members) ≡ o → option_and_then (contested_path_at (member_beats members) (claims_in members)) o ≡ Some c
+      by_path : (o : Option (List ℕ)) → first_path_without_owner (member_beats members) (claims_in members) ≡ o → option_and_then (path_with_rivals_of_first_claimant (member_beats members) (claims_in members)) o ≡ Some c
           → IsFirstContestedPath members c.path (member_name_at_place members c.rivals.first) (member_name_at_place members c.rivals.second)
       by_path None is e = absurd (cc (e))
       by_path (Some path) is e = by_rivals path is (first_with_unbeaten_rival (member_beats members) (claimants (claims_in members) path)) refl e

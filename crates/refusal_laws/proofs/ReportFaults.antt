@@ -17,8 +17,8 @@ use Rattle.outcome.specs.query_core.Queries.{text_of_query}
 use Rattle.report_core.specs.declared.refusal.Refusal.{Refusal}
 use Rattle.report_core.specs.declared.refusal.Refusal.TheVariants.{NotInstalled}
 use Rattle.root_names.specs.RootNames.{database_name, text_database_name}
-use Rattle.outcome.specs.tell_core.AuditResult.{audit_of, audit_result, manifest_report, manifest_result}
-use Rattle.outcome.specs.tell_core.QueryResult.{query_report, query_result}
+use Rattle.outcome.specs.tell_core.AuditResult.{audit_of, audit_result, manifest_report_or_refusal, manifest_result}
+use Rattle.outcome.specs.tell_core.QueryResult.{query_report_or_refusal, query_result}
 use Rattle.refusal_laws.specs.InfoFaults.{IsPackageAskedFor, IsFaultOfDatabase, IsFaultOfInfo, IsFirstNotInstalled, IsFoundInstalled}
 use Rattle.refusal_laws.specs.QueryFaults.{HasTooManyCandidates, IsFaultOfQuery}
 use Rattle.refusal_laws.proofs.CommandFaults.{pool_fault}
@@ -105,7 +105,7 @@ module _ (command : CommandLine) (named : command.flags.who_owns ≡ false) (pac
         told = f.told;
       }
 
-manifest_err : (command : CommandLine) (database : Database) (refusal : Refusal) → manifest_report command database ≡ Err refusal → manifest_of database.packages command.operands ≡ Err refusal
+manifest_err : (command : CommandLine) (database : Database) (refusal : Refusal) → manifest_report_or_refusal command database ≡ Err refusal → manifest_of database.packages command.operands ≡ Err refusal
 manifest_err command database refusal e =
     elim (and_then_err (manifest_of database.packages command.operands) (λ report. Ok (report_and_refusal report None)) refusal e) [
       | inl first ↦ first
@@ -124,12 +124,12 @@ module _ (command : CommandLine) (read : Reads) where
 
   pub manifest_fault : (refusal : Refusal) → command.flags.who_owns ≡ false → manifest_result command read ≡ Err refusal → IsFaultOfInfo command read refusal
   manifest_fault refusal named e =
-      elim (and_then_err (database_for command read) (manifest_report command) refusal e) [
+      elim (and_then_err (database_for command read) (manifest_report_or_refusal command) refusal e) [
         | inl first ↦ inl (database_fault command read (read database_read_number database_name) (read text_database_read_number text_database_name) refusal refl refl first)
         | inr next ↦ inr (record { database = next.0; is_database = next.1; first = first_missing command named next.0.packages refusal (manifest_err command next.0 refusal next.2) })
       ]
 
-  too_many : (inputs : Inputs) (refusal : Refusal) → inputs_of command read ≡ Ok inputs → query_report command inputs ≡ Err refusal → HasTooManyCandidates command read refusal
+  too_many : (inputs : Inputs) (refusal : Refusal) → inputs_of command read ≡ Ok inputs → query_report_or_refusal command inputs ≡ Err refusal → HasTooManyCandidates command read refusal
   too_many inputs refusal are e =
       elim (and_then_err (root_pool inputs no_names) (λ (pool : SealedPool). Ok (report_and_refusal (text_of_query command pool inputs.root.repositories) None)) refusal e) [
         | inl first ↦ (let fault = pool_fault inputs no_names refusal first in record { inputs = inputs; are_inputs = are; count = fault.0; too_many = fault.1; is = sym fault.2 })
@@ -138,7 +138,7 @@ module _ (command : CommandLine) (read : Reads) where
 
   pub query_fault : (refusal : Refusal) → query_result command read ≡ Err refusal → IsFaultOfQuery command read refusal
   query_fault refusal e =
-      elim (and_then_err (inputs_of command read) (query_report command) refusal e) [
+      elim (and_then_err (inputs_of command read) (query_report_or_refusal command) refusal e) [
         | inl first ↦ inl (input_fault command read refusal first)
         | inr next ↦ inr (too_many next.0 refusal next.1 next.2)
       ]

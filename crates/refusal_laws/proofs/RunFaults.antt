@@ -4,8 +4,8 @@ use Rattle.base_core.specs.Files.{Files}
 use Rattle.base_core.specs.declared.cause.Cause.{Cause}
 use Rattle.outcome.specs.change_outcome.ChangeOutcome.{ChangeDone}
 use Rattle.command_core.specs.Command.{CommandLine}
-use Rattle.outcome.specs.engine_core.Changed.{IsClashOfCommand, change_of_command}
-use Rattle.outcome.specs.engine_core.Choice.{IsChoiceFrom}
+use Rattle.outcome.specs.engine_core.Changed.{IsFirstClashOfCommand, change_of_command}
+use Rattle.outcome.specs.engine_core.Choice.{IsPreferredChoiceUnlessRefused}
 use Rattle.outcome.specs.engine_core.Selecting.{pool_of_command}
 use Rattle.outcome.specs.journal_core.Recovery.{intent_name}
 use Rattle.outcome.specs.journal_core.Staged.{unstaged_files}
@@ -29,8 +29,8 @@ refused_is files (Err first) refusal e = ap (λ (r : Refusal). Err r) (some_same
 
 pub over_fault : (command : CommandLine) (files : Files) (o : Outcome) (refusal : Refusal) → effect_of command.applet ≡ Changes → IsOutcomeOverRecoveredFiles command files o → o.refusal ≡ Some refusal → IsFaultOfCommandOverFiles command files refusal
 over_fault command files o refusal changes (given, is, outcome) e =
-    let choice : IsChoiceFrom (pool_of_command command (reads_in files)) given.chosen = subst (λ (x : Effect). IsChoiceForCommand x command (reads_in files) given.chosen) changes is.chosen in
-    let clash : IsClashOfCommand command (reads_in files) files given.chosen given.clash = subst (λ (x : Effect). IsFirstClashForEffect x command (reads_in files) files given.chosen given.clash) changes is.clash in
+    let choice : IsPreferredChoiceUnlessRefused (pool_of_command command (reads_in files)) given.chosen = subst (λ (x : Effect). IsChoiceForCommand x command (reads_in files) given.chosen) changes is.chosen in
+    let clash : IsFirstClashOfCommand command (reads_in files) files given.chosen given.clash = subst (λ (x : Effect). IsFirstClashForEffect x command (reads_in files) files given.chosen given.clash) changes is.clash in
     let same : change_outcome files (change_of_command command (reads_in files) files given.chosen given.clash) ≡ o = change_is command.applet command given (reads_in files) files changes ∙ sym outcome in
     record {
       chosen = given.chosen;

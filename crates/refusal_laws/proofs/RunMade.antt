@@ -4,7 +4,7 @@ use Rattle.std.specs.Prelude.{if◌then◌else◌}
 use Rattle.base_core.specs.Files.{Files}
 use Rattle.outcome.specs.change_outcome.ChangeOutcome.{ChangeDone, change_or_refusal}
 use Rattle.command_core.specs.Command.{CommandLine}
-use Rattle.outcome.specs.engine_core.Changed.{IsClashOfSelected, IsClashUnlessSimulated, InputsAndReplacement, change_of_selected, simulated_change}
+use Rattle.outcome.specs.engine_core.Changed.{IsFirstClashUnlessRefused, IsFirstClashUnlessSimulated, InputsAndReplacement, change_of_selected, simulated_change}
 use Rattle.outcome.specs.engine_core.Wishes.{wishes_of}
 use Rattle.outcome.specs.ChangeEnd.{IsChangeEnd, IsEndOfSelectedChange, TakesFirstPreferredSelection}
 use Rattle.outcome.specs.Commands.{reads_in}
@@ -26,12 +26,12 @@ ended command files s (Err refusal) o end none = absurd (not_refused files o ref
 takes_first : (command : CommandLine) (files : Files) (o : Outcome) → o.refusal ≡ None → command.flags.simulate ≡ false → TakesFirstPreferredSelection command files o → HasFaultlessFirstPreferredSelection command files
 takes_first command files o none off takes =
     let s : InputsAndReplacement = takes.selected in
-    let clash = subst (λ (x : Result InputsAndReplacement Refusal). IsClashOfSelected command (reads_in files) files x takes.clash) takes.selects takes.is_clash in
+    let clash = subst (λ (x : Result InputsAndReplacement Refusal). IsFirstClashUnlessRefused command (reads_in files) files x takes.clash) takes.selects takes.is_clash in
     let done = ended command files s (change_of_selected command (reads_in files) files takes.clash s) o takes.end none in
     let ok : change_or_refusal s.inputs s.replacement (wishes_of command) (reads_in files) takes.clash files ≡ Ok done.0 =
     ap (λ b. kept_done (if b then Ok (simulated_change s.replacement (wishes_of command) files) else change_or_refusal s.inputs s.replacement (wishes_of command) (reads_in files) takes.clash files)) (sym off) ∙ done.1 in
     let made = change_made s.inputs s.replacement (wishes_of command) (reads_in files) takes.clash files done.0 ok
-    (subst (λ b. IsClashUnlessSimulated b (wishes_of command) (reads_in files) files s takes.clash) off clash) in
+    (subst (λ b. IsFirstClashUnlessSimulated b (wishes_of command) (reads_in files) files s takes.clash) off clash) in
     record {
       pool = takes.pool;
       is_pool = takes.is_pool;

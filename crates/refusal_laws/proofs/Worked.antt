@@ -7,18 +7,18 @@ use Rattle.outcome.specs.change_outcome.ChangeOutcome.{ChangeWishes}
 use Rattle.outcome.specs.change_outcome.MembersAfter.{MemberFound}
 use Rattle.command_core.specs.Command.{CommandLine}
 use Rattle.outcome.specs.make_info.Reads.{Reads}
-use Rattle.outcome.specs.path_claims.Contest.{first_with_unbeaten_rival, rivals_of, winner}
+use Rattle.outcome.specs.path_claims.Contest.{first_with_unbeaten_rival, rivals_of, member_beating_all_others}
 use Rattle.report_core.specs.declared.refusal.Refusal.TheVariants.{NoDatabase, Unsatisfied}
 use Rattle.refusal_laws.specs.ChangeFaults.{IsFaultOfFiles}
-use Rattle.refusal_laws.specs.InputFaults.{HasNoDatabase, IsFaultOfInput}
+use Rattle.refusal_laws.specs.InputFaults.{IsDatabaseAbsentAndInitdbNotGiven, IsFaultOfInput}
 
 -- ---- of three members the second beats the first, and nobody the third
 
 beats : ℕ → ℕ → Bool
 beats x y = (x == 1) && (y == 0)
 
-none_wins : winner beats (0 ∷ 1 ∷ 2 ∷ []) ≡ None
-unfolding beats winner
+none_wins : member_beating_all_others beats (0 ∷ 1 ∷ 2 ∷ []) ≡ None
+unfolding beats member_beating_all_others
 none_wins = refl
 
 -- so these two are told, though the second takes over the files of the first
@@ -33,7 +33,7 @@ both_are_told = refl
 
 -- ---- a refusal of one kind is no fault of another
 
-no_database : (command : CommandLine) (read : Reads) → IsFaultOfInput command read NoDatabase ≡ HasNoDatabase command read
+no_database : (command : CommandLine) (read : Reads) → IsFaultOfInput command read NoDatabase ≡ IsDatabaseAbsentAndInitdbNotGiven command read
 no_database command read = refl
 
 no_input : (command : CommandLine) (read : Reads) → IsFaultOfInput command read Unsatisfied ≡ ⊥

@@ -11,10 +11,10 @@ use Rattle.outcome.specs.change_files.NamesAfter.{added_paths, name_change}
 use Rattle.outcome.specs.change_inputs.Inputs.{Inputs}
 use Rattle.outcome.specs.change_outcome.ChangeOutcome.{ChangeWishes, intent_of_change, members_after_change, file_change, database_and_world_after_change, touched_paths}
 use Rattle.outcome.specs.change_outcome.MembersAfter.{MemberFound, found_members}
-use Rattle.outcome.specs.change_outcome.PackageFiles.{has_script_of}
+use Rattle.outcome.specs.change_outcome.PackageFiles.{has_script_with_number}
 use Rattle.report_core.specs.Numbers.{TRIGGER_SCRIPT}
 use Rattle.outcome.specs.change_outcome.Triggers.{is_folder_matched_by_pattern, trigger_patterns_of_package}
-use Rattle.outcome.specs.db_core.Members.{Listing, Member, member_listings, member_name}
+use Rattle.outcome.specs.db_core.Members.{Listing, Member, listings_of_members, member_name}
 use Rattle.outcome.specs.db_write.NewDatabase.{database_of, database_value}
 use Rattle.outcome.specs.file_owners.Owners.{owned_flags_of, owner_of_path}
 use Rattle.outcome.specs.file_owners.Replaces.{takes_over}
@@ -43,7 +43,7 @@ pub record IsFirstReservedAddedPath (members : List Member) (path : List ℕ) : 
 -- `l` is an entry for this path in a package of this name after the change
 pub record IsListingOfPathByName (members : List Member) (path name : List ℕ) (l : Listing) : Type 0 where
   -- the listing is one of the packages after the change
-  pub listed : IsIn l (member_listings members)
+  pub listed : IsIn l (listings_of_members members)
   -- the listing is for this path
   pub of_path : l.path ≡ path
   -- the package of the listing has this name
@@ -56,7 +56,7 @@ pub record IsFirstContestedPath (members : List Member) (path one other : List �
   -- no package owns the path
   pub unowned : owner_of_path members path ≡ None
   -- each listed path that precedes this one in byte order has an owner
-  pub first : (l : Listing) → IsIn l (member_listings members) → precedes l.path path ≡ true
+  pub first : (l : Listing) → IsIn l (listings_of_members members) → precedes l.path path ≡ true
       → is_some (owner_of_path members l.path) ≡ true
   -- the listing of the first of the two packages
   pub by_one : Listing
@@ -69,7 +69,7 @@ pub record IsFirstContestedPath (members : List Member) (path one other : List �
   -- the first package does not take over files of the second
   pub located : takes_over by_one.member.pkg by_other.member.pkg ≡ false
   -- if no third package lists the path, the second does not take over files of the first
-  pub neither : ((l : Listing) → IsIn l (member_listings members) → l.path ≡ path
+  pub neither : ((l : Listing) → IsIn l (listings_of_members members) → l.path ≡ path
       → (l.place ≡ by_one.place) ⊎ (l.place ≡ by_other.place))
       → takes_over by_other.member.pkg by_one.member.pkg ≡ false
 
@@ -97,7 +97,7 @@ pub record IsTriggerDueAndNotSkipped (wishes : ChangeWishes) (change : FileChang
   pub located : IsIn member change.members
   pub named : member_name member ≡ name
   -- the package has a trigger script
-  pub has : has_script_of member.pkg TRIGGER_SCRIPT ≡ true
+  pub has : has_script_with_number member.pkg TRIGGER_SCRIPT ≡ true
   -- a trigger pattern of the package matches the folder of a touched file
   pub watches : HasPatternOfTouchedFolder change files member.pkg
 

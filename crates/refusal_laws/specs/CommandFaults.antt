@@ -67,17 +67,18 @@ IsSelectionRefused command read refusal =
 
 -- the candidates at the places `chosen` are selected, the change is not simulated, and the refusal is true of this
 -- change
-abbrev pub IsChangeRefused :
+abbrev pub IsFaultOfUnsimulatedChangeOfChosen :
     CommandLine → Reads → Files → Option (List ℕ) → Refusal → Type 0
-IsChangeRefused command read files chosen refusal =
+IsFaultOfUnsimulatedChangeOfChosen command read files chosen refusal =
     (s : InputsAndReplacement) × (selected_from_reads_by_choice command read chosen ≡ Ok s)
     × (command.flags.simulate ≡ false)
     × IsFaultOfChange s.inputs s.replacement (wishes_of command) read files refusal
 
 -- a refusal of the command is true: of an input, of the selection, or of the change. `chosen` has the places of the
 -- candidates of the first preferred selection, if there is one
-abbrev pub IsFaultOfCommand : CommandLine → Reads → Files → Option (List ℕ) → Refusal → Type 0
-IsFaultOfCommand command read files chosen refusal =
+abbrev pub IsFaultOfCommandWithChosenCandidates : CommandLine → Reads → Files → Option (List ℕ) → Refusal
+    → Type 0
+IsFaultOfCommandWithChosenCandidates command read files chosen refusal =
     IsFaultOfInput command read refusal
     ⊎ (IsSelectionRefused command read refusal
-    ⊎ IsChangeRefused command read files chosen refusal)
+    ⊎ IsFaultOfUnsimulatedChangeOfChosen command read files chosen refusal)

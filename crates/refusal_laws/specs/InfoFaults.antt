@@ -13,13 +13,13 @@ use Rattle.outcome.specs.make_info.Reads.{Reads}
 use Rattle.report_core.specs.declared.refusal.Refusal.{Refusal}
 use Rattle.report_core.specs.declared.refusal.Refusal.TheVariants.{DatabaseBad, NoDatabase, NotInstalled, ResultTooLarge}
 use Rattle.outcome.specs.v2_core.declared.read.V2Fault.TheVariants.{Bad, TooLarge}
-use Rattle.refusal_laws.specs.InputFaults.{HasNoDatabase, IsDatabaseContainerBad, IsTextDatabaseRefused}
+use Rattle.refusal_laws.specs.InputFaults.{IsDatabaseAbsentAndInitdbNotGiven, IsDatabaseContainerBad, IsTextDatabaseRefused}
 
 -- ---- the database
 
 -- a refusal of the database is true: there is none, or it fails a test, or the text database is too large
 abbrev pub IsFaultOfDatabase : CommandLine → Reads → Refusal → Type 0
-IsFaultOfDatabase command read NoDatabase = HasNoDatabase command read
+IsFaultOfDatabase command read NoDatabase = IsDatabaseAbsentAndInitdbNotGiven command read
 IsFaultOfDatabase command read (DatabaseBad cause) =
     IsDatabaseContainerBad read cause ⊎ IsTextDatabaseRefused read (Bad cause)
 IsFaultOfDatabase command read (ResultTooLarge bytes values) =

@@ -23,7 +23,7 @@ use Rattle.outcome.specs.v2_core.declared.read.V2Fault.TheVariants.{Bad, TooLarg
 -- ---- the database
 
 -- neither file of a database is found, and `--initdb`, by which the command may begin one, is not given
-pub record HasNoDatabase (command : CommandLine) (read : Reads) : Type 0 where
+pub record IsDatabaseAbsentAndInitdbNotGiven (command : CommandLine) (read : Reads) : Type 0 where
   -- no database file is found
   pub container : read database_read_number database_name ≡ None
   -- no text database is found
@@ -90,7 +90,7 @@ pub record IsIndexBad (read : Reads) (number : ℕ) (cause : Cause) : Type 0 whe
 
 -- a refusal of what the command reads of the root is true
 abbrev pub IsFaultOfInput : CommandLine → Reads → Refusal → Type 0
-IsFaultOfInput command read NoDatabase = HasNoDatabase command read
+IsFaultOfInput command read NoDatabase = IsDatabaseAbsentAndInitdbNotGiven command read
 IsFaultOfInput command read (DatabaseBad cause) =
     IsDatabaseContainerBad read cause ⊎ IsTextDatabaseRefused read (Bad cause)
 -- a text database with more data than a container may have

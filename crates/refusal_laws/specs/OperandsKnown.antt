@@ -35,9 +35,9 @@ HasPool command inputs = (pool : SealedPool) × (pool_of_inputs command inputs �
 
 -- the tests before this refusal of a selection were passed. First the candidates are counted, then the operands are
 -- tested in their order, and last a selection is searched for
-abbrev pub HasPassedBeforeSelectionRefusal : CommandLine → Inputs → Refusal → Type 0
-HasPassedBeforeSelectionRefusal command inputs (NotInstalled place) =
+abbrev pub HasPassedTestsBeforeSelectionRefusal : CommandLine → Inputs → Refusal → Type 0
+HasPassedTestsBeforeSelectionRefusal command inputs (NotInstalled place) =
     HasPool command inputs × IsFirstUnknown command inputs place
-HasPassedBeforeSelectionRefusal command inputs Unsatisfied =
+HasPassedTestsBeforeSelectionRefusal command inputs Unsatisfied =
     HasPool command inputs × AreKnownOperands command inputs command.operands
-HasPassedBeforeSelectionRefusal command inputs other = Unit {0}
+HasPassedTestsBeforeSelectionRefusal command inputs other = Unit {0}

@@ -9,7 +9,7 @@ use Rattle.adb_view.specs.Plain.{Plain}
 use Rattle.base_core.specs.declared.cause.Cause.{Cause}
 use Rattle.outcome.specs.change_inputs.Inputs.{Inputs}
 use Rattle.outcome.specs.change_outcome.ChangeOutcome.{ChangeWishes}
-use Rattle.outcome.specs.change_outcome.PackageFiles.{AddedPackage, first_script_of, has_script_of, package_in_file, scripts_of_change}
+use Rattle.outcome.specs.change_outcome.PackageFiles.{AddedPackage, first_script_number_of_package, has_script_with_number, package_in_file, scripts_of_change}
 use Rattle.outcome.specs.db_core.Packages.{is_package_named}
 use Rattle.outcome.specs.file_owners.Replaces.{package_version_text}
 use Rattle.outcome.specs.make_info.Reads.{Reads}
@@ -106,6 +106,6 @@ pub record IsFirstScriptRunAndNotSkipped (inputs : Inputs) (r : Replacement) (wi
   -- the change would run the script with this number
   pub runs : IsIn script (scripts_of_change change)
   -- the package has this script
-  pub has : has_script_of pkg script ≡ true
+  pub has : has_script_with_number pkg script ≡ true
   -- the script is the first one of the package that would run
-  pub first : first_script_of pkg (scripts_of_change change) ≡ Some script
+  pub first : first_script_number_of_package pkg (scripts_of_change change) ≡ Some script

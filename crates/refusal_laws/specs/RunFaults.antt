@@ -4,7 +4,7 @@ use Rattle.std.specs.Prelude.{◌≡◌, ◌⊎◌, ℕ, List, Option, Some, Non
 use Rattle.base_core.specs.Files.{Files}
 use Rattle.base_core.specs.declared.cause.Cause.{Cause}
 use Rattle.command_core.specs.Command.{CommandLine}
-use Rattle.outcome.specs.engine_core.Choice.{IsChoiceFrom}
+use Rattle.outcome.specs.engine_core.Choice.{IsPreferredChoiceUnlessRefused}
 use Rattle.outcome.specs.engine_core.Selecting.{pool_of_command}
 use Rattle.outcome.specs.journal_core.Recovery.{intent_name}
 use Rattle.outcome.specs.journal_core.Staged.{unstaged_files}
@@ -12,7 +12,7 @@ use Rattle.outcome.specs.Commands.{reads_in}
 use Rattle.outcome.specs.Work.{fault_of_intent}
 use Rattle.report_core.specs.declared.refusal.Refusal.{Refusal}
 use Rattle.report_core.specs.declared.refusal.Refusal.TheVariants.{IntentBad}
-use Rattle.refusal_laws.specs.CommandFaults.{IsFaultOfCommand}
+use Rattle.refusal_laws.specs.CommandFaults.{IsFaultOfCommandWithChosenCandidates}
 
 -- a refusal of the command is true over the files on which it works after recovery, with the candidates of the first
 -- preferred selection
@@ -20,9 +20,9 @@ pub record IsFaultOfCommandOverFiles (command : CommandLine) (files : Files)
     (refusal : Refusal) : Type 0 where
   -- the places of the candidates of the first preferred selection, if there is one
   pub chosen : Option (List ℕ)
-  pub choice : IsChoiceFrom (pool_of_command command (reads_in files)) chosen
+  pub choice : IsPreferredChoiceUnlessRefused (pool_of_command command (reads_in files)) chosen
   -- the refusal of the command is true for these candidates
-  pub fault : IsFaultOfCommand command (reads_in files) files chosen refusal
+  pub fault : IsFaultOfCommandWithChosenCandidates command (reads_in files) files chosen refusal
 
 -- the intent (journal entry) among these files fails a test, and the refusal reports the first such test
 pub record IsIntentRefusal (files : Files) (refusal : Refusal) : Type 0 where

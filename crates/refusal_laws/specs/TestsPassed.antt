@@ -7,9 +7,9 @@ use Rattle.base_core.specs.Files.{Files}
 use Rattle.outcome.specs.change_files.FileChange.{FileChange}
 use Rattle.outcome.specs.change_files.NamesAfter.{added_paths, name_change}
 use Rattle.outcome.specs.change_outcome.ChangeOutcome.{ChangeWishes}
-use Rattle.outcome.specs.change_outcome.PackageFiles.{has_script_of}
+use Rattle.outcome.specs.change_outcome.PackageFiles.{has_script_with_number}
 use Rattle.report_core.specs.Numbers.{TRIGGER_SCRIPT}
-use Rattle.outcome.specs.db_core.Members.{Listing, Member, member_listings}
+use Rattle.outcome.specs.db_core.Members.{Listing, Member, listings_of_members}
 use Rattle.outcome.specs.file_owners.Owners.{owner_of_path}
 use Rattle.outcome.specs.path_clashes.Clash.{HasNoClash}
 use Rattle.report_core.specs.declared.refusal.Refusal.{Refusal}
@@ -24,14 +24,14 @@ AreAddedPathsUnreserved members =
 -- each path that one of these members lists has an owner
 abbrev pub EachListedPathHasOwner : List Member → Type 0
 EachListedPathHasOwner members =
-    (l : Listing) → IsIn l (member_listings members)
+    (l : Listing) → IsIn l (listings_of_members members)
     → is_some (owner_of_path members l.path) ≡ true
 
 -- no trigger of a package after the change is due, or `--no-scripts` is given
 abbrev pub HasNoDueTrigger : ChangeWishes → FileChange → Files → Type 0
 HasNoDueTrigger wishes change files =
     wishes.no_scripts ≡ false → (m : Member) → IsIn m change.members
-    → has_script_of m.pkg TRIGGER_SCRIPT ≡ true → HasPatternOfTouchedFolder change files m.pkg → ⊥
+    → has_script_with_number m.pkg TRIGGER_SCRIPT ≡ true → HasPatternOfTouchedFolder change files m.pkg → ⊥
 
 -- the first two tests of paths are passed: no path of an added package is reserved, and no names clash
 abbrev pub HasNoReservedOrClashingPath : FileChange → Files → Type 0
@@ -49,13 +49,13 @@ PassesChangeTestsExceptLimits wishes change files =
     HasNoReservedClashingOrUnownedPath change files × HasNoDueTrigger wishes change files
 
 -- the tests before this refusal of a change's files were passed
-abbrev pub HasPassedTestsBeforeRefusal : ChangeWishes → FileChange → Files → Refusal → Type 0
-HasPassedTestsBeforeRefusal wishes change files (PathClash path other) =
+abbrev pub HasPassedFileTestsBeforeRefusal : ChangeWishes → FileChange → Files → Refusal → Type 0
+HasPassedFileTestsBeforeRefusal wishes change files (PathClash path other) =
     AreAddedPathsUnreserved change.members
-HasPassedTestsBeforeRefusal wishes change files (Owned path first second) =
+HasPassedFileTestsBeforeRefusal wishes change files (Owned path first second) =
     HasNoReservedOrClashingPath change files
-HasPassedTestsBeforeRefusal wishes change files (TriggerNeeded name) =
+HasPassedFileTestsBeforeRefusal wishes change files (TriggerNeeded name) =
     HasNoReservedClashingOrUnownedPath change files
-HasPassedTestsBeforeRefusal wishes change files (ResultTooLarge bytes values) =
+HasPassedFileTestsBeforeRefusal wishes change files (ResultTooLarge bytes values) =
     PassesChangeTestsExceptLimits wishes change files
-HasPassedTestsBeforeRefusal wishes change files other = Unit {0}
+HasPassedFileTestsBeforeRefusal wishes change files other = Unit {0}

@@ -5,11 +5,11 @@
 ghost use Rattle.std.specs.Prelude.{◌≡◌, ℕ, false, true, Err, List, None, Ok, Option, Some};
 ghost use Rattle.base_core.specs.Files.{Files};
 ghost use Rattle.outcome.specs.change_inputs.Inputs.{Inputs, inputs_of};
-ghost use Rattle.outcome.specs.change_outcome.ChangeOutcome.{ChangeDone, ChangeWishes, IsClashOfChange, members_after_change, change_or_refusal, file_change};
+ghost use Rattle.outcome.specs.change_outcome.ChangeOutcome.{ChangeDone, ChangeWishes, IsFirstClashOfChange, members_after_change, change_or_refusal, file_change};
 ghost use Rattle.outcome.specs.change_outcome.MembersAfter.{MemberFound};
 ghost use Rattle.command_core.specs.Command.{CommandLine};
-ghost use Rattle.outcome.specs.engine_core.Changed.{IsClashOfCommand, change_of_command, selected_from_inputs_by_choice};
-ghost use Rattle.outcome.specs.engine_core.Choice.{IsChoiceFrom};
+ghost use Rattle.outcome.specs.engine_core.Changed.{IsFirstClashOfCommand, change_of_command, selected_from_inputs_by_choice};
+ghost use Rattle.outcome.specs.engine_core.Choice.{IsPreferredChoiceUnlessRefused};
 ghost use Rattle.outcome.specs.engine_core.Selecting.{pool_of_command};
 ghost use Rattle.outcome.specs.installed_info.declared.telling.ReportAndRefusal.{ReportAndRefusal};
 ghost use Rattle.outcome.specs.make_info.Reads.{Reads};
@@ -23,18 +23,18 @@ ghost use Rattle.outcome.specs.package_changes.Changes.{Replacement};
 ghost use Rattle.outcome.specs.path_clashes.Clash.{NamePair};
 ghost use Rattle.report_core.specs.declared.refusal.Refusal.{Refusal};
 ghost use Rattle.refusal_laws.specs.ChangeFaults.{IsFaultOfChange, IsFaultOfPackage};
-ghost use Rattle.refusal_laws.specs.CommandFaults.{IsFaultOfCommand};
+ghost use Rattle.refusal_laws.specs.CommandFaults.{IsFaultOfCommandWithChosenCandidates};
 ghost use Rattle.refusal_laws.specs.FirstPackage.{IsRefusalOfFirstFaultyPackage};
 ghost use Rattle.refusal_laws.specs.InfoFaults.{AreOperandsFoundInstalled, IsFaultOfDatabase, IsFaultOfInfo, IsFaultOfOperandNotInstalled};
 ghost use Rattle.refusal_laws.specs.InputFaults.{IsFaultOfInput};
-ghost use Rattle.refusal_laws.specs.MadeTooLarge.{IsPackageTooLarge};
-ghost use Rattle.refusal_laws.specs.OperandsKnown.{HasPassedBeforeSelectionRefusal};
+ghost use Rattle.refusal_laws.specs.MadeTooLarge.{IsPackageToBeMadeTooLarge};
+ghost use Rattle.refusal_laws.specs.OperandsKnown.{HasPassedTestsBeforeSelectionRefusal};
 ghost use Rattle.refusal_laws.specs.PackagesAfter.{AreSelectedMembers};
 ghost use Rattle.refusal_laws.specs.QueryFaults.{IsFaultOfQuery};
 ghost use Rattle.refusal_laws.specs.ReadBefore.{HasPassedInputsBeforeRefusal};
 ghost use Rattle.refusal_laws.specs.RunFaults.{IsFaultOfRun, IsFaultOfCommandOverFiles};
 ghost use Rattle.refusal_laws.specs.RunMade.{HasFaultlessFirstPreferredSelection};
-ghost use Rattle.refusal_laws.specs.TestsPassed.{HasPassedTestsBeforeRefusal, PassesChangeTestsExceptLimits};
+ghost use Rattle.refusal_laws.specs.TestsPassed.{HasPassedFileTestsBeforeRefusal, PassesChangeTestsExceptLimits};
 ghost use Rattle.outcome.specs.tell_core.AuditResult.{audit_result, manifest_result};
 ghost use Rattle.outcome.specs.tell_core.InfoResult.{info_result};
 ghost use Rattle.outcome.specs.tell_core.QueryResult.{query_result};
@@ -98,7 +98,7 @@ pub fn a_refused_change_has_its_fault()
     ensures { (inputs : Inputs) (r : Replacement) (wishes : ChangeWishes) (read : Reads)
         (clash : Option NamePair) (files : Files) (refusal : Refusal)
         → change_or_refusal inputs r wishes read clash files ≡ Err refusal
-        → IsClashOfChange inputs r wishes read files clash
+        → IsFirstClashOfChange inputs r wishes read files clash
         → IsFaultOfChange inputs r wishes read files refusal }
 {}
 
@@ -125,9 +125,9 @@ pub fn a_refused_command_has_its_fault()
     ensures { (command : CommandLine) (read : Reads) (files : Files) (chosen : Option (List ℕ))
         (clash : Option NamePair) (refusal : Refusal)
         → change_of_command command read files chosen clash ≡ Err refusal
-        → IsChoiceFrom (pool_of_command command read) chosen
-        → IsClashOfCommand command read files chosen clash
-        → IsFaultOfCommand command read files chosen refusal }
+        → IsPreferredChoiceUnlessRefused (pool_of_command command read) chosen
+        → IsFirstClashOfCommand command read files chosen clash
+        → IsFaultOfCommandWithChosenCandidates command read files chosen refusal }
 {}
 
 /// A refusal of the selection follows the tests before it. An operand is refused as not installed
@@ -136,7 +136,7 @@ pub fn a_refused_command_has_its_fault()
 pub fn a_refused_selection_has_passed_the_tests_before()
     ensures { (command : CommandLine) (inputs : Inputs) (chosen : Option (List ℕ))
         (refusal : Refusal) → selected_from_inputs_by_choice command chosen inputs ≡ Err refusal
-        → HasPassedBeforeSelectionRefusal command inputs refusal }
+        → HasPassedTestsBeforeSelectionRefusal command inputs refusal }
 {}
 
 /// A refusal for the files of a change follows the tests before it. A clash of names is refused
@@ -147,8 +147,8 @@ pub fn a_refused_change_has_passed_the_tests_before()
         (clash : Option NamePair) (files : Files) (found : List MemberFound) (refusal : Refusal)
         → members_after_change inputs r wishes read ≡ Ok found
         → change_or_refusal inputs r wishes read clash files ≡ Err refusal
-        → IsClashOfChange inputs r wishes read files clash
-        → HasPassedTestsBeforeRefusal wishes (file_change inputs wishes found) files refusal }
+        → IsFirstClashOfChange inputs r wishes read files clash
+        → HasPassedFileTestsBeforeRefusal wishes (file_change inputs wishes found) files refusal }
 {}
 
 /// If the packages after a change are found, no added or removed package has a fault. A change that
@@ -164,7 +164,7 @@ pub fn a_change_that_is_made_has_no_fault()
     ensures files { (inputs : Inputs) (r : Replacement) (wishes : ChangeWishes) (read : Reads)
         (clash : Option NamePair) (files : Files) (done : ChangeDone)
         → change_or_refusal inputs r wishes read clash files ≡ Ok done
-        → IsClashOfChange inputs r wishes read files clash
+        → IsFirstClashOfChange inputs r wishes read files clash
         → (found : List MemberFound) × (members_after_change inputs r wishes read ≡ Ok found)
         × PassesChangeTestsExceptLimits wishes (file_change inputs wishes found) files }
 {}
@@ -203,5 +203,5 @@ pub fn the_packages_after_a_run_are_those_of_the_first_selection()
 pub fn a_package_that_is_too_large_is_refused_with_its_counts()
     ensures { (command : CommandLine) (names : List (List ℕ)) (read : Reads) (bytes values : ℕ)
         → made_package command names read ≡ Err (TooLarge bytes values)
-        → IsPackageTooLarge command names read bytes values }
+        → IsPackageToBeMadeTooLarge command names read bytes values }
 {}

@@ -34,8 +34,8 @@ abbrev pub policy_heading : List ℕ → List ℕ
 policy_heading name = report_line (name ++ codes " policy:")
 
 -- the line of `policy` for a version of the package, below the first line
-abbrev pub version_heading : List ℕ → List ℕ
-version_heading version = report_line (codes "  " ++ version ++ codes ":")
+abbrev pub policy_version_heading : List ℕ → List ℕ
+policy_version_heading version = report_line (codes "  " ++ version ++ codes ":")
 
 -- a line of `policy` below a version: it says where a package with this version is
 abbrev pub indented_policy_line : List ℕ → List ℕ
@@ -46,6 +46,6 @@ abbrev pub policy_database_line : List ℕ
 policy_database_line = indented_policy_line (codes "lib/apk/db/installed")
 
 -- the line of `policy` that says that the package is in a repository: its tag, if it has one, and the path of its index
-abbrev pub repository_line : Option (List ℕ) → List ℕ → List ℕ
-repository_line None path = indented_policy_line path
-repository_line (Some tag) path = indented_policy_line (codes "@" ++ tag ++ codes " " ++ path)
+abbrev pub policy_repository_line : Option (List ℕ) → List ℕ → List ℕ
+policy_repository_line None path = indented_policy_line path
+policy_repository_line (Some tag) path = indented_policy_line (codes "@" ++ tag ++ codes " " ++ path)

@@ -9,7 +9,7 @@ use Rattle.make_index.specs.adb_fields.FirstPair.{IsIn}
 use Rattle.make_index.specs.adb_fields.Repeated.{package_name}
 use Rattle.make_index.specs.adb_schema.Rules.{is_digest_length}
 use Rattle.make_index.specs.adb_schema.SoundContainers.{IsSoundContainer}
-use Rattle.make_index.specs.adb_schema.Soundness.{container_fault_except_contents, payload_in, root_value}
+use Rattle.make_index.specs.adb_schema.Soundness.{container_fault_except_contents, payload_in, root_value_of_payload}
 use Rattle.adb_view.specs.declared.tables.Which.TheVariants.{Package}
 use Rattle.adb_view.specs.Plain.{Plain}
 use Rattle.base_core.specs.declared.cause.Cause.{Cause}
@@ -20,7 +20,7 @@ use Rattle.engine_core.specs.change_inputs.Chains.{and_then}
 use Rattle.engine_core.specs.change_inputs.Inputs.{first_index_read_number}
 use Rattle.engine_core.proofs.change_outcome.Made.{and_then_ok}
 use Rattle.engine_core.specs.change_outcome.MembersAfter.{MemberFound, added_package_by_path, added_member_found, members_after, found_members, member_of_name_after, member_of_name_by_change, member_of_name_by_selected, member_of_added_name, member_of_removed_name, members_of_names_after, kept_member_found}
-use Rattle.engine_core.specs.change_outcome.PackageFiles.{AddedPackage, package_file_path_of_candidate, added_package_or_refusal, package_in_file, scripts_of_change, package_unless_other_than_candidate, unless_script_number, unless_package_bad, unless_script_needed, first_script_of}
+use Rattle.engine_core.specs.change_outcome.PackageFiles.{AddedPackage, package_file_path_of_candidate, added_package_or_refusal, package_in_file, scripts_of_change, package_unless_other_than_candidate, unless_script_number, package_unless_bad_or_different, unless_script_needed, first_script_number_of_package}
 use Rattle.engine_core.specs.db_core.Members.{AreMembersInNameOrder, Member, member_name}
 use Rattle.engine_core.specs.db_core.Packages.{is_package_named}
 use Rattle.engine_core.specs.db_core.SoundMembers.{AreMembersOfSoundContainers, IsPackageOfSoundContainer}
@@ -39,7 +39,7 @@ use Rattle.root_laws.proofs.SoundBefore.{AllSound}
 
 -- what the laws of the crates below say
 abbrev pub FilesMayCome : Type 0
-FilesMayCome = (file id : List ℕ) → IsSoundContainer Package file → All (λ b. b < 256) (payload_in file) → is_digest_length (length id) ≡ true → IsPackageOfSoundContainer (root_value Package (payload_in file)) (Some id)
+FilesMayCome = (file id : List ℕ) → IsSoundContainer Package file → All (λ b. b < 256) (payload_in file) → is_digest_length (length id) ≡ true → IsPackageOfSoundContainer (root_value_of_payload Package (payload_in file)) (Some id)
 
 abbrev pub PackagesAreTested : Type 0
 PackagesAreTested = (file : List ℕ) → package_fault file ≡ option_or (container_fault_except_contents Package file) (fault_of_files_read (files_read_from_package file))
@@ -86,7 +86,7 @@ module _ (come : FilesMayCome) (tested : PackagesAreTested) (read : Reads) (byte
   file_ok : (c : Candidate) (file : List ℕ) (pkg : AddedPackage) → All (λ b. b < 256) file → added_package_or_refusal c (Some file) ≡ Ok pkg → IsFoundAs c.name (added_member_found pkg).member
   file_ok c file pkg small e = by_fault (package_fault file) refl e
     where
-      by_fault : (fault : Option Cause) → package_fault file ≡ fault → unless_package_bad c fault (package_in_file file) ≡ Ok pkg → IsFoundAs c.name (added_member_found pkg).member
+      by_fault : (fault : Option Cause) → package_fault file ≡ fault → package_unless_bad_or_different c fault (package_in_file file) ≡ Ok pkg → IsFoundAs c.name (added_member_found pkg).member
       by_fault None sound e =
           let is = different_ok c (package_in_file file) pkg e in
           subst (λ (p : AddedPackage). IsFoundAs c.name (added_member_found p).member) (sym is.0)
@@ -107,7 +107,7 @@ module _ (come : FilesMayCome) (tested : PackagesAreTested) (read : Reads) (byte
 
   script_ok : {A : Type 0} (no_scripts : Bool) (name : List ℕ) (pkg : Plain) (numbers : List ℕ) (a b : A) → unless_script_needed no_scripts name pkg numbers a ≡ Ok b → a ≡ b
   script_ok true name pkg numbers a b e = (cc (e))
-  script_ok false name pkg numbers a b e = by_number (first_script_of pkg numbers) e
+  script_ok false name pkg numbers a b e = by_number (first_script_number_of_package pkg numbers) e
     where
       by_number : (o : Option ℕ) → unless_script_number name o a ≡ Ok b → a ≡ b
       by_number None e = (cc (e))

@@ -2,7 +2,7 @@
 use Rattle.std.proofs.Common.{◌≡◌, ℕ, List, [], ◌∷◌, Option, Some, None, Result, Ok, Err, refl, ap}
 use Rattle.base_core.specs.Files.{Files}
 use Rattle.engine_core.specs.change_files.FileChange.{FileChange}
-use Rattle.engine_core.specs.change_files.FilesAfter.{DatabaseAndWorldAfter, files_after_change, world_bytes_after, world_name}
+use Rattle.engine_core.specs.change_files.FilesAfter.{DatabaseAndWorldAfter, files_after_change, new_world_bytes_unless_empty_and_absent, world_name}
 use Rattle.engine_core.specs.change_inputs.Chains.{with_error_as_refusal}
 use Rattle.engine_core.specs.change_inputs.World.{new_world, root_world, found_text_or_empty, world_with_operand, world_with_operands, world_without_operands}
 use Rattle.command_core.specs.declared.command.Applet.{Applet}
@@ -57,7 +57,7 @@ WorldsAreReadBack = (world : List Dependency) → IsWorld world → world_of (wo
 pub root_world_left : WorldsAreReadBack → (world : List Dependency) → IsWorld world → root_world (world_text world) ≡ Ok world
 root_world_left back world is = ap (with_error_as_refusal WorldBad) (back world is)
 
-text_of_world : (world : List ℕ) (old : Option (List ℕ)) → found_text_or_empty (world_bytes_after world old) ≡ world
+text_of_world : (world : List ℕ) (old : Option (List ℕ)) → found_text_or_empty (new_world_bytes_unless_empty_and_absent world old) ≡ world
 text_of_world [] None = refl
 text_of_world [] (Some old) = refl
 text_of_world (b ∷ bytes) old = refl

@@ -1,6 +1,6 @@
 -- What a command begins with that reads the root which a change has left.
 use Rattle.std.proofs.Common.{◌≡◌, ℕ, ◌+◌, Bool, true, false, List, [], ◌∷◌, Option, Some, None, Result, Ok, Err, sym, subst}
-use Rattle.make_index.specs.adb_schema.Soundness.{container_fault_except_contents, payload_in, root_value}
+use Rattle.make_index.specs.adb_schema.Soundness.{container_fault_except_contents, payload_in, root_value_of_payload}
 use Rattle.adb_view.specs.declared.tables.Which.TheVariants.{Index}
 use Rattle.adb_view.specs.Plain.{Plain}
 use Rattle.base_core.specs.declared.cause.Cause.{Cause}
@@ -19,7 +19,7 @@ use Rattle.make_index.specs.make_info.Reads.{Reads}
 use Rattle.report_core.specs.declared.refusal.Refusal.{Refusal}
 use Rattle.report_core.specs.declared.refusal.Refusal.TheVariants.{IndexBad, RepositoriesBad}
 use Rattle.root_names.specs.RootNames.{repositories_name, world_name}
-use Rattle.root_laws.specs.NextInputs.{AreInputsOfRootLeft, IsRefusalOfRepositories}
+use Rattle.root_laws.specs.NextInputs.{AreInputsOfRootLeft, IsRefusalOfRepositoriesOrIndex}
 use Rattle.root_laws.specs.RootLeft.{IsRootLeftByChange, ReadsDatabaseAndWorldOfFiles, database_of_members}
 use Rattle.root_laws.proofs.SoundBefore.{inputs_parts}
 
@@ -43,7 +43,7 @@ begins command later read next chosen done left inputs reads e =
 -- where it is refused, it is for the repositories or an index
 abbrev FailsOfRepositories : {A : Type 0} → Result A Refusal → Type 0
 FailsOfRepositories (Ok a) = Unit {0}
-FailsOfRepositories (Err refusal) = IsRefusalOfRepositories refusal
+FailsOfRepositories (Err refusal) = IsRefusalOfRepositoriesOrIndex refusal
 
 then_fails : {A B : Type 0} (r : Result A Refusal) (next : A → Result B Refusal) → FailsOfRepositories r → ((a : A) → FailsOfRepositories (next a)) → FailsOfRepositories (and_then r next)
 then_fails (Ok a) next h f = f a
@@ -81,7 +81,7 @@ index_fails n (Some cause) index = tt
 indexes_fail : (n : ℕ) (files : List (List ℕ)) → FailsOfRepositories (indexes_in_files n files)
 indexes_fail n [] = tt
 indexes_fail n (file ∷ files) =
-    then_fails (index_in_file n file) (λ index. and_then (indexes_in_files (n + 1) files) (λ indexes. Ok (index ∷ indexes))) (index_fails n (container_fault_except_contents Index file) (root_value Index (payload_in file)))
+    then_fails (index_in_file n file) (λ index. and_then (indexes_in_files (n + 1) files) (λ indexes. Ok (index ∷ indexes))) (index_fails n (container_fault_except_contents Index file) (root_value_of_payload Index (payload_in file)))
     (λ index. then_fails (indexes_in_files (n + 1) files) (λ indexes. Ok (index ∷ indexes)) (indexes_fail (n + 1) files) (λ indexes. tt))
 
 found_fail : (found : List (Option (List ℕ))) → FailsOfRepositories (root_indexes found)
@@ -107,7 +107,7 @@ module _ (later : CommandLine) (next : Reads) (database : Database) (world : Lis
       (λ root. then_fails (indexes_of next root.repositories) (λ indexes. Ok (inputs_from_parts root indexes)) (found_fail (index_reads_from next first_index_read_number root.repositories)) (λ indexes. tt))
 
 pub refused : (command later : CommandLine) (read next : Reads) (chosen : Option (List ℕ)) (done : ChangeDone) → IsRootLeftByChange command read chosen done → (refusal : Refusal)
-    → ReadsDatabaseAndWorldOfFiles done.files next → inputs_of later next ≡ Err refusal → IsRefusalOfRepositories refusal
+    → ReadsDatabaseAndWorldOfFiles done.files next → inputs_of later next ≡ Err refusal → IsRefusalOfRepositoriesOrIndex refusal
 refused command later read next chosen done left refusal reads e =
     subst (λ (r : Result Inputs Refusal). FailsOfRepositories r) e
     (inputs_fail later next (database_of_members (found_members left.found) left.bytes) left.selected.inputs.root.new_world (left.database later next reads) (left.world next reads))

@@ -5,12 +5,12 @@ use Rattle.make_index.specs.adb_fields.FirstPair.{IsIn}
 use Rattle.make_index.specs.adb_fields.Repeated.{entries_at}
 use Rattle.make_index.specs.adb_schema.SoundContainers.{IsSoundContainer}
 use Rattle.make_index.proofs.adb_schema.Sound as Values
-use Rattle.make_index.specs.adb_schema.Soundness.{container_fault_except_contents, payload_in, root_value}
+use Rattle.make_index.specs.adb_schema.Soundness.{container_fault_except_contents, payload_in, root_value_of_payload}
 use Rattle.adb_view.specs.declared.tables.Which.TheVariants.{Idb}
 use Rattle.adb_view.specs.Plain.{Plain}
 use Rattle.base_core.specs.declared.cause.Cause.{Cause}
 use Rattle.engine_core.specs.change_inputs.Chains.{and_then, unless_cause}
-use Rattle.engine_core.specs.change_inputs.Database.{Database, container_database, database_from_parts, payload_database, root_database}
+use Rattle.engine_core.specs.change_inputs.Database.{Database, container_database, database_of_packages_file_and_is_text, payload_database, root_database}
 use Rattle.engine_core.specs.change_inputs.Inputs.{Inputs, Root, database_for, database_read_number, indexes_of, inputs_from_parts, inputs_of, repositories_read_number, root_from_parts, root_for, text_database_read_number, world_read_number}
 use Rattle.engine_core.specs.change_inputs.Repositories.{root_repositories}
 use Rattle.engine_core.specs.change_inputs.World.{new_world, root_world, found_text_or_empty}
@@ -38,16 +38,16 @@ AllSound pkgs = (pkg : Plain) → IsIn pkg pkgs → IsOfSoundDatabase pkg
 
 -- what is said of a file and of a text
 abbrev pub FilesMayStay : Type 0
-FilesMayStay = (file : List ℕ) (pkg : Plain) → IsSoundContainer Idb file → All (λ b. b < 256) (payload_in file) → IsIn pkg (entries_at 0 (root_value Idb (payload_in file))) → IsPackageOfSoundContainer pkg None
+FilesMayStay = (file : List ℕ) (pkg : Plain) → IsSoundContainer Idb file → All (λ b. b < 256) (payload_in file) → IsIn pkg (entries_at 0 (root_value_of_payload Idb (payload_in file))) → IsPackageOfSoundContainer pkg None
 
 abbrev pub TextsAreSound : Type 0
-TextsAreSound = (text payload : List ℕ) → payload_of_text text ≡ Ok payload → AllSound (entries_at 0 (root_value Idb payload))
+TextsAreSound = (text payload : List ℕ) → payload_of_text text ≡ Ok payload → AllSound (entries_at 0 (root_value_of_payload Idb payload))
 
 -- what a text says is sound
 pub texts_are_sound : Values.Laws → ReadBack → Exact → TextsAreSound
 texts_are_sound laws back exact text payload is pkg here =
     record {
-      database = root_value Idb payload;
+      database = root_value_of_payload Idb payload;
       sound = Values.sound_value laws Idb payload (text_passes text payload is);
       normal = text_normal back exact text payload is;
       listed = here;
@@ -62,9 +62,9 @@ same_sound d database sound e = let same : d ≡ database = cc in subst (λ (x :
 container_sound : FilesMayStay → (file : List ℕ) (database : Database) → All (λ b. b < 256) file → container_database file ≡ Ok database → AllSound database.packages
 container_sound stay file database bytes e = by_fault (container_fault_except_contents Idb file) refl e
   where
-    by_fault : (fault : Option Cause) → container_fault_except_contents Idb file ≡ fault → unless_cause DatabaseBad fault (database_from_parts (entries_at 0 (root_value Idb (payload_in file))) (Some file) false) ≡ Ok database → AllSound database.packages
+    by_fault : (fault : Option Cause) → container_fault_except_contents Idb file ≡ fault → unless_cause DatabaseBad fault (database_of_packages_file_and_is_text (entries_at 0 (root_value_of_payload Idb (payload_in file))) (Some file) false) ≡ Ok database → AllSound database.packages
     by_fault None sound e =
-        same_sound (database_from_parts (entries_at 0 (root_value Idb (payload_in file))) (Some file) false) database
+        same_sound (database_of_packages_file_and_is_text (entries_at 0 (root_value_of_payload Idb (payload_in file))) (Some file) false) database
         (λ pkg here. stay file pkg sound (payload_all (λ b. b < 256) file bytes) here) e
     by_fault (Some cause) sound e = absurd (cc (e))
 
@@ -72,7 +72,7 @@ text_sound : TextsAreSound → (text : List ℕ) (database : Database) → paylo
 text_sound texts text database e = by_payload (payload_of_text text) refl e
   where
     by_payload : (r : Result (List ℕ) V2Fault) → payload_of_text text ≡ r → payload_database r ≡ Ok database → AllSound database.packages
-    by_payload (Ok payload) is e = same_sound (database_from_parts (entries_at 0 (root_value Idb payload)) None true) database (texts text payload is) e
+    by_payload (Ok payload) is e = same_sound (database_of_packages_file_and_is_text (entries_at 0 (root_value_of_payload Idb payload)) None true) database (texts text payload is) e
     by_payload (Err (Bad cause)) is e = absurd (cc (e))
     by_payload (Err (TooLarge n values)) is e = absurd (cc (e))
     by_payload (Err Memory) is e = absurd (cc (e))
@@ -83,7 +83,7 @@ IfBytes found = (bytes : List ℕ) → found ≡ Some bytes → All (λ b. b < 2
 database_sound : FilesMayStay → TextsAreSound → (may_begin : Bool) (file text : Option (List ℕ)) (database : Database) → IfBytes file → root_database may_begin file text ≡ Ok database → AllSound database.packages
 database_sound stay texts may_begin (Some file) text database h e = container_sound stay file database (h file refl) e
 database_sound stay texts may_begin None (Some text) database h e = text_sound texts text database e
-database_sound stay texts true None None database h e = same_sound (database_from_parts [] None false) database (λ pkg here. absurd here) e
+database_sound stay texts true None None database h e = same_sound (database_of_packages_file_and_is_text [] None false) database (λ pkg here. absurd here) e
 database_sound stay texts false None None database h e = absurd (cc (e))
 
 -- ---- what inputs are of

@@ -22,10 +22,10 @@ use Rattle.command_core.specs.Operands.{is_decimal}
 use Rattle.hex.specs.Hex.{decode_of as hex_bytes}
 use Rattle.hex.specs.declared.error.FromHexError.{FromHexError}
 use Rattle.std.specs.Str.Parse.{digits_value}
-use Rattle.make_index.specs.make_info.Fields.{FieldValue, need, dependency_value_and_others, decimal_number, if_untagged, untagged_dependency_in, dependency_values_in, nonempty_parts, text_value_if}
+use Rattle.make_index.specs.make_info.Fields.{FieldValue, need, dependency_value_and_others, decimal_number, dependency_if_untagged, untagged_dependency_in, dependency_values_in, nonempty_parts_between_spaces, text_value_if}
 use Rattle.make_index.specs.make_info.Information.{plain_value}
-use Rattle.make_index.specs.make_info.Values.{number_value, plains_of_list}
-use Rattle.engine_core.specs.v2_core.Database.{array_of, object_of}
+use Rattle.make_index.specs.make_info.Values.{number_or_null, plains_of_list}
+use Rattle.engine_core.specs.v2_core.Database.{array_or_null_of_list, trimmed_object_or_null_of_list}
 use Rattle.engine_core.specs.v2_core.Records.{InfoLine, info_line_from_parts}
 use Rattle.engine_core.specs.v2_lines.Accesses.{Access, access_from_parts, access_in, before_colon, after_colon, is_uid_or_gid, is_octal, octal_number}
 use Rattle.engine_core.specs.v2_lines.InfoFields.{field_of_letter, grammar_of}
@@ -81,7 +81,7 @@ have_normal no_fields (v ∷ vs) h = absurd h
 have_normal (field name s fs) [] h = tt
 have_normal (field name s fs) (v ∷ vs) h = (h.0.0, have_normal fs vs h.1)
 
-pub object_fit : (n : ℕ) (fs : Fields) (vs : List Plain) → HaveFit fs vs → IsFit (object n fs) (object_of vs)
+pub object_fit : (n : ℕ) (fs : Fields) (vs : List Plain) → HaveFit fs vs → IsFit (object n fs) (trimmed_object_or_null_of_list vs)
 object_fit n fs vs h = (obj_normal (plains_of_list vs) (have_normal fs vs h), obj_value_shape n fs (plains_of_list vs) (have_shapes fs vs h))
 
 each_shape : (s : Shape) (vs : List Plain) → EachIn (IsFit s) vs → Each (HasShape s) (plains_of_list vs)
@@ -93,7 +93,7 @@ unfolding IsNormal
 each_normal s [] h = tt
 each_normal s (v ∷ vs) h = (h.0.0, each_normal s vs h.1)
 
-pub array_fit : (s : Shape) (vs : List Plain) → EachIn (IsFit s) vs → IsFit (array s) (array_of vs)
+pub array_fit : (s : Shape) (vs : List Plain) → EachIn (IsFit s) vs → IsFit (array s) (array_or_null_of_list vs)
 array_fit s vs h = (arr_normal (plains_of_list vs) (each_normal s vs h), arr_value_shape s (plains_of_list vs) (each_shape s vs h))
 
 -- ---- a dependency
@@ -117,7 +117,7 @@ small_matching (Some version) bits false h = by_test (bits == 1)
     by_test true = tt
     by_test false = let small = small_bits bits (and_parts (is_version version) (is_some (operator_text bits)) h).1 in omega (arith, small)
 
-matching_fit : (o : Option ℕ) → IsSmallIfAny o → IsFit number_shape (number_value o)
+matching_fit : (o : Option ℕ) → IsSmallIfAny o → IsFit number_shape (number_or_null o)
 matching_fit None h = null_fit number_shape
 matching_fit (Some n) h = int_fit n h
 
@@ -126,7 +126,7 @@ unfolding shape_of
 need_fit d h =
     let parts = and_parts (is_dep_name d.name && is_constraint_or_none d.version d.bits) (is_tag_or_none d.tag) h in
     let limit = and_parts (is_dep_name d.name) (is_constraint_or_none d.version d.bits) parts.0 in
-    object_fit 1 _ (blob_or_null d.name ∷ blob_or_null (unwrap_or d.version []) ∷ number_value (match_number_of d.version d.bits d.conflict) ∷ [])
+    object_fit 1 _ (blob_or_null d.name ∷ blob_or_null (unwrap_or d.version []) ∷ number_or_null (match_number_of d.version d.bits d.conflict) ∷ [])
     (text_fit d.name, (text_fit (unwrap_or d.version []), (matching_fit (match_number_of d.version d.bits d.conflict) (small_matching d.version d.bits d.conflict limit.1), tt)))
 
 -- ---- what a line says of a field
@@ -174,7 +174,7 @@ commit_good : (r : Result (List ℕ) FromHexError) → EachIn (IsOfGrammar Gramm
 commit_good (Ok bytes) = (hash_fit bytes, tt)
 commit_good (Err e) = tt
 
-untagged_good : (d : Dependency) → IsDependency d → IfSome (if_untagged d) IsDependency
+untagged_good : (d : Dependency) → IsDependency d → IfSome (dependency_if_untagged d) IsDependency
 untagged_good d h = by_tag (is_some d.tag)
   where
     by_tag : (b : Bool) → IfSome (if b then None else Some d) IsDependency
@@ -184,7 +184,7 @@ untagged_good d h = by_tag (is_some d.tag)
 need_good : (part : List ℕ) → IfSome (untagged_dependency_in part) IsDependency
 need_good part = by_read (dependency_of part) refl
   where
-    by_read : (o : Option Dependency) → dependency_of part ≡ o → IfSome (option_and_then if_untagged o) IsDependency
+    by_read : (o : Option Dependency) → dependency_of part ≡ o → IfSome (option_and_then dependency_if_untagged o) IsDependency
     by_read None e = tt
     by_read (Some d) e = untagged_good d (read-out part d e).0
 
@@ -207,7 +207,7 @@ values_good Grammars.AnyText value = text_good true value
 values_good Grammars.Number value =
     map_some (λ n. n < 2 ^ 64) (EachIn (IsOfGrammar Grammars.Number)) single_number_value (decimal_number value) (λ n h. (int_fit n h, tt)) (number_good value)
 values_good Grammars.Commit value = commit_good (hex_bytes value)
-values_good Grammars.Dependencies value = needs_good (nonempty_parts value)
+values_good Grammars.Dependencies value = needs_good (nonempty_parts_between_spaces value)
 
 -- ---- whose a file or a folder is
 

@@ -12,9 +12,9 @@ use Rattle.engine_core.proofs.db_write.RootParts.{EachIn}
 use Rattle.dep_core.specs.World.{lines_of}
 use Rattle.make_index.specs.make_info.Fields.{FieldValue}
 use Rattle.make_index.specs.make_info.Information.{plain_value}
-use Rattle.engine_core.specs.v2_core.Database.{array_of, array_of_field_values, listed_access_value, listed_file_value, listed_folder_value, listed_hash_value, record_info_value, record_value, value_of_single_line_field, value_of_first_or_null, value_of_line, value_of_records, values_if_line_of_field}
-use Rattle.engine_core.specs.v2_core.Reading.{records_from_record_end, records_from, records_of, with_records, record_with_text_line}
-use Rattle.engine_core.specs.v2_core.Records.{InfoLine, ListedFile, ListedFolder, Record, empty_record, listed_file_from_parts, file_with_access, file_with_hash, listed_folder_from_parts, folder_with_access, folder_with_file, folder_with_files, folder_with_last_file_changed, has_line_of, info_line_from_parts, is_line_of, lacks_needed_line, record_if_both_parts, with_info_line, list_with_last_changed, with_path_line, with_record_line}
+use Rattle.engine_core.specs.v2_core.Database.{array_or_null_of_list, array_of_field_values, listed_access_value, listed_file_value, listed_folder_value, listed_hash_value, record_info_value, record_value, value_of_single_line_field, value_of_first_or_null, value_of_line, database_value_of_records, values_if_line_of_field}
+use Rattle.engine_core.specs.v2_core.Reading.{records_from_record_end, records_from_unfinished_record, records_of, records_followed_by, record_with_text_line}
+use Rattle.engine_core.specs.v2_core.Records.{InfoLine, ListedFile, ListedFolder, Record, empty_record, listed_file_from_parts, file_with_access, file_with_hash, listed_folder_from_parts, folder_with_access, folder_with_file, folder_with_files, folder_with_last_file_changed, has_line_of_field, info_line_from_parts, is_line_of_field, lacks_name_or_version_line, record_if_both_parts, with_info_line, list_with_last_changed, with_path_line, with_record_line}
 use Rattle.engine_core.specs.v2_lines.Accesses.{Access}
 use Rattle.engine_core.specs.v2_lines.InfoFields.{is_list_info_field, grammar_of, info_field_among, info_fields, letter_of}
 use Rattle.engine_core.specs.v2_lines.Lines.{RecordLine, info_line, folder_line, folder_access_line, file_line, file_access_line, file_hash_line, other_line, record_line_of}
@@ -74,7 +74,7 @@ paths_good other_line folders h g = g
 
 infos_good : (line : RecordLine) (info : List InfoLine) → IsGoodRecordLine line → EachIn IsGoodLine info → IfSome (with_info_line line info) (EachIn IsGoodLine)
 infos_good (info_line f values) info h g =
-    if_each (λ o. IfSome o (EachIn IsGoodLine)) (not (is_list_info_field f) && has_line_of f info) None (Some (info ++ info_line_from_parts f values ∷ [])) tt (each_behind IsGoodLine info (info_line_from_parts f values) g h)
+    if_each (λ o. IfSome o (EachIn IsGoodLine)) (not (is_list_info_field f) && has_line_of_field f info) None (Some (info ++ info_line_from_parts f values ∷ [])) tt (each_behind IsGoodLine info (info_line_from_parts f values) g h)
 infos_good (folder_line name) info h g = g
 infos_good (folder_access_line a) info h g = g
 infos_good (file_line name) info h g = g
@@ -97,23 +97,23 @@ abbrev pub AreGoodIfRead : Result (List Record) ℕ → Type 0
 AreGoodIfRead (Ok records) = EachIn IsGoodRecord records
 AreGoodIfRead (Err line) = Unit {0}
 
-joined_good : (r : Record) (others : Result (List Record) ℕ) → IsGoodRecord r → AreGoodIfRead others → AreGoodIfRead (with_records (r ∷ []) others)
+joined_good : (r : Record) (others : Result (List Record) ℕ) → IsGoodRecord r → AreGoodIfRead others → AreGoodIfRead (records_followed_by (r ∷ []) others)
 joined_good r (Ok others) h g = (h, g)
 joined_good r (Err line) h g = tt
 
 end_good : (lines : ℕ) (r : Record) (others : Result (List Record) ℕ) → IsGoodRecord r → AreGoodIfRead others → AreGoodIfRead (records_from_record_end lines r others)
 end_good lines r others h g =
-    if_each AreGoodIfRead r.has_line _ others (if_each AreGoodIfRead (lacks_needed_line r.info) (Err lines) (with_records (r ∷ []) others) tt (joined_good r others h g)) g
+    if_each AreGoodIfRead r.has_line _ others (if_each AreGoodIfRead (lacks_name_or_version_line r.info) (Err lines) (records_followed_by (r ∷ []) others) tt (joined_good r others h g)) g
 
-from_good : (lines : List (List ℕ)) (before : ℕ) (r : Record) → IsGoodRecord r → AreGoodIfRead (records_from before r lines)
+from_good : (lines : List (List ℕ)) (before : ℕ) (r : Record) → IsGoodRecord r → AreGoodIfRead (records_from_unfinished_record before r lines)
 from_good [] before r h = end_good before r (Ok []) h tt
 from_good (line ∷ lines) before r h =
-    if_each AreGoodIfRead (length line == 0) (records_from_record_end before r (records_from (before + 1) empty_record lines)) _
-    (end_good before r (records_from (before + 1) empty_record lines) h (from_good lines (before + 1) empty_record (tt, tt)))
+    if_each AreGoodIfRead (length line == 0) (records_from_record_end before r (records_from_unfinished_record (before + 1) empty_record lines)) _
+    (end_good before r (records_from_unfinished_record (before + 1) empty_record lines) h (from_good lines (before + 1) empty_record (tt, tt)))
     (by_next (record_with_text_line r line) (next_good r (record_line_of line) h (line_good line)) (from_good lines (before + 1)))
   where
-    by_next : (o : Option Record) → IfSome o IsGoodRecord → ((next : Record) → IsGoodRecord next → AreGoodIfRead (records_from (before + 1) next lines))
-        → AreGoodIfRead (option_map_or (λ next. records_from (before + 1) next lines) o (Err (before + 1)))
+    by_next : (o : Option Record) → IfSome o IsGoodRecord → ((next : Record) → IsGoodRecord next → AreGoodIfRead (records_from_unfinished_record (before + 1) next lines))
+        → AreGoodIfRead (option_map_or (λ next. records_from_unfinished_record (before + 1) next lines) o (Err (before + 1)))
     by_next None h f = tt
     by_next (Some next) h f = f next h
 
@@ -151,7 +151,7 @@ by_letter InfoFields.InstallIf = refl
 some_same : {X : Type 0} (x y : X) → Some x ≡ Some y → x ≡ y
 some_same x y e = (cc)
 
-same_grammar : (f : InfoField) (line : InfoLine) → is_line_of f line ≡ true → grammar_of line.field ≡ grammar_of f
+same_grammar : (f : InfoField) (line : InfoLine) → is_line_of_field f line ≡ true → grammar_of line.field ≡ grammar_of f
 same_grammar f line e =
     some_same (grammar_of line.field) (grammar_of f)
     (sym (by_letter line.field) ∙ (ap grammar_by_letter (eqb-true (letter_of line.field) (letter_of f) e) ∙ by_letter f))
@@ -160,15 +160,15 @@ first_fit : (g : Grammar) (values : List FieldValue) → EachIn (IsOfGrammar g) 
 first_fit g [] h = null_fit (shape_for g)
 first_fit g (v ∷ vs) h = h.0
 
-line_fit : (f : InfoField) (line : InfoLine) → is_line_of f line ≡ true → IsGoodLine line → EachIn (IsOfGrammar (grammar_of f)) line.values
+line_fit : (f : InfoField) (line : InfoLine) → is_line_of_field f line ≡ true → IsGoodLine line → EachIn (IsOfGrammar (grammar_of f)) line.values
 line_fit f line e h = subst (λ (g : Grammar). EachIn (IsOfGrammar g) line.values) (same_grammar f line e) h
 
 single_fit : (f : InfoField) (info : List InfoLine) → EachIn IsGoodLine info → IsFit (shape_for (grammar_of f)) (value_of_single_line_field f info)
 single_fit f [] h = null_fit (shape_for (grammar_of f))
-single_fit f (line ∷ info) h = by_test (is_line_of f line) refl (single_fit f info h.1)
+single_fit f (line ∷ info) h = by_test (is_line_of_field f line) refl (single_fit f info h.1)
   where
-    by_test : (b : Bool) → is_line_of f line ≡ b → IsFit (shape_for (grammar_of f)) (value_of_line (find (is_line_of f) info))
-        → IsFit (shape_for (grammar_of f)) (value_of_line (if b then Some line else find (is_line_of f) info))
+    by_test : (b : Bool) → is_line_of_field f line ≡ b → IsFit (shape_for (grammar_of f)) (value_of_line (find (is_line_of_field f) info))
+        → IsFit (shape_for (grammar_of f)) (value_of_line (if b then Some line else find (is_line_of_field f) info))
     by_test true e rest = first_fit (grammar_of f) line.values (line_fit f line e h.0)
     by_test false e rest = rest
 
@@ -183,9 +183,9 @@ each_plain g (v ∷ vs) h = (h.0, each_plain g vs h.1)
 all_values : (f : InfoField) (info : List InfoLine) → EachIn IsGoodLine info → EachIn (IsOfGrammar (grammar_of f)) (flat_map (values_if_line_of_field f) info)
 all_values f [] h = tt
 all_values f (line ∷ info) h =
-    each_append (IsOfGrammar (grammar_of f)) (values_if_line_of_field f line) (flat_map (values_if_line_of_field f) info) (by_test (is_line_of f line) refl) (all_values f info h.1)
+    each_append (IsOfGrammar (grammar_of f)) (values_if_line_of_field f line) (flat_map (values_if_line_of_field f) info) (by_test (is_line_of_field f line) refl) (all_values f info h.1)
   where
-    by_test : (b : Bool) → is_line_of f line ≡ b → EachIn (IsOfGrammar (grammar_of f)) (if b then line.values else [])
+    by_test : (b : Bool) → is_line_of_field f line ≡ b → EachIn (IsOfGrammar (grammar_of f)) (if b then line.values else [])
     by_test true e = line_fit f line e h.0
     by_test false e = tt
 
@@ -267,13 +267,13 @@ map_fit P s f g (x ∷ xs) h = (g x h.0, map_fit P s f g xs h.1)
 folder_fit : (folder : ListedFolder) → IsGoodFolder folder → IsFit (shape_of (Obj Tables.Dir)) (listed_folder_value folder)
 unfolding shape_of
 folder_fit folder h =
-    object_fit 5 _ (blob_or_null folder.name ∷ listed_access_value folder.access ∷ array_of (map listed_file_value folder.files) ∷ [])
+    object_fit 5 _ (blob_or_null folder.name ∷ listed_access_value folder.access ∷ array_or_null_of_list (map listed_file_value folder.files) ∷ [])
     (text_fit folder.name, (access_fit folder.access h.0, (array_fit (shape_of (Obj Tables.File)) (map listed_file_value folder.files) (map_fit IsGoodFile (shape_of (Obj Tables.File)) listed_file_value file_fit folder.files h.1), tt)))
 
 record_fit : (r : Record) → IsGoodRecord r → IsFit (shape_of (Obj Tables.Package)) (record_value r)
 unfolding shape_of
 record_fit r h =
-    object_fit 7 _ (record_info_value r.info ∷ array_of (map listed_folder_value r.folders) ∷ null ∷ null ∷ value_of_single_line_field InfoFields.ReplacesPriority r.info ∷ []) (
+    object_fit 7 _ (record_info_value r.info ∷ array_or_null_of_list (map listed_folder_value r.folders) ∷ null ∷ null ∷ value_of_single_line_field InfoFields.ReplacesPriority r.info ∷ []) (
       info_fit r.info h.0,
       (
         array_fit (shape_of (Obj Tables.Dir)) (map listed_folder_value r.folders) (map_fit IsGoodFolder (shape_of (Obj Tables.Dir)) listed_folder_value folder_fit r.folders h.1),
@@ -281,6 +281,6 @@ record_fit r h =
       ),
     )
 
-pub records_fit : (records : List Record) → EachIn IsGoodRecord records → IsFit (shape_of (Obj Tables.Idb)) (value_of_records records)
+pub records_fit : (records : List Record) → EachIn IsGoodRecord records → IsFit (shape_of (Obj Tables.Idb)) (database_value_of_records records)
 unfolding shape_of
-records_fit records h = object_fit 9 _ (array_of (map record_value records) ∷ []) (array_fit (shape_of (Obj Tables.Package)) (map record_value records) (map_fit IsGoodRecord (shape_of (Obj Tables.Package)) record_value record_fit records h), tt)
+records_fit records h = object_fit 9 _ (array_or_null_of_list (map record_value records) ∷ []) (array_fit (shape_of (Obj Tables.Package)) (map record_value records) (map_fit IsGoodRecord (shape_of (Obj Tables.Package)) record_value record_fit records h), tt)

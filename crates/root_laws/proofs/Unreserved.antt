@@ -12,10 +12,10 @@ use Rattle.make_index.specs.adb_fields.Paths.{path_of}
 use Rattle.make_index.specs.adb_fields.Repeated.{files_in, folders_in, list_of, name_of}
 use Rattle.make_index.specs.adb_schema.Reserved.{is_reserved}
 use Rattle.make_index.specs.adb_schema.SoundValues.{IsSoundFileInFolder, IsSoundFolder, IsSoundPackage}
-use Rattle.engine_core.specs.change_files.PlanLists.{first_reserved_path}
-use Rattle.engine_core.specs.db_core.Members.{Listing, Member, is_added, listings_of_member, listings_of_members_from, listings_in_folder, listings_in_folders, member_listings}
-use Rattle.engine_core.specs.db_core.OwnedListings.{HaveAtMostOneOwner, owned_listings}
-use Rattle.engine_core.specs.db_core.SoundMembers.{AreMembersOfSoundContainers, IsPackageOfSoundContainer, IsOfSoundDatabase, HaveOneOwnerAndNoReservedPath, NoneReserved}
+use Rattle.engine_core.specs.change_files.PlanLists.{first_reserved_added_path}
+use Rattle.engine_core.specs.db_core.Members.{Listing, Member, is_added, listings_of_member, listings_of_members_from, listings_in_folder_from_file, listings_in_folders_from, listings_of_members}
+use Rattle.engine_core.specs.db_core.OwnedListings.{HaveAtMostOneOwnerForEachPath, owned_listings}
+use Rattle.engine_core.specs.db_core.SoundMembers.{AreMembersOfSoundContainers, IsPackageOfSoundContainer, IsOfSoundDatabase, HaveOneOwnerPerPathAndNoneReserved, NoneReserved}
 use Rattle.base_core.specs.ByteOrder.{precedes, smaller_text, smallest_text}
 
 -- ---- a property of each listing
@@ -47,14 +47,14 @@ IsFree l = is_reserved l.path ≡ false
 file_free : (folder : List ℕ) (v : Plain) → IsSoundFileInFolder Idb folder v → is_reserved (path_of folder (name_of v)) ≡ false
 file_free folder v is = not-true (is_reserved (path_of folder (name_of v))) is.listed
 
-folder_free : (m : Member) (place folder i : ℕ) (above : List ℕ) (vs : Plains) → Each (IsSoundFileInFolder Idb above) vs → EachListing IsFree (listings_in_folder m place folder i above (list_of vs))
+folder_free : (m : Member) (place folder i : ℕ) (above : List ℕ) (vs : Plains) → Each (IsSoundFileInFolder Idb above) vs → EachListing IsFree (listings_in_folder_from_file m place folder i above (list_of vs))
 folder_free m place folder i above none h = tt
 folder_free m place folder i above (more v vs) h = (file_free above v h.0, folder_free m place folder (i + 1) above vs h.1)
 
-folders_free : (m : Member) (place i : ℕ) (vs : Plains) → Each (IsSoundFolder Idb) vs → EachListing IsFree (listings_in_folders m place i (list_of vs))
+folders_free : (m : Member) (place i : ℕ) (vs : Plains) → Each (IsSoundFolder Idb) vs → EachListing IsFree (listings_in_folders_from m place i (list_of vs))
 folders_free m place i none h = tt
 folders_free m place i (more v vs) h =
-    each_appended IsFree (listings_in_folder m place i 1 (name_of v) (files_in v)) (listings_in_folders m place (i + 1) (list_of vs))
+    each_appended IsFree (listings_in_folder_from_file m place i 1 (name_of v) (files_in v)) (listings_in_folders_from m place (i + 1) (list_of vs))
     (folder_free m place i 1 (name_of v) (entries_in (entry_in v 2)) h.0.files) (folders_free m place (i + 1) vs h.1)
 
 -- it is of a member that comes, or its path is free
@@ -73,14 +73,14 @@ listed_free m place h =
 -- ---- of a member that comes nothing is asked
 
 module _ (m : Member) (place : ℕ) (comes : is_added m ≡ true) where
-  folder_comes : (folder i : ℕ) (above : List ℕ) (es : List Plain) → EachListing IsFreeIfStays (listings_in_folder m place folder i above es)
+  folder_comes : (folder i : ℕ) (above : List ℕ) (es : List Plain) → EachListing IsFreeIfStays (listings_in_folder_from_file m place folder i above es)
   folder_comes folder i above [] = tt
   folder_comes folder i above (e ∷ es) = (λ stays. absurd (true≢false (sym comes ∙ stays)), folder_comes folder (i + 1) above es)
 
-  folders_come : (i : ℕ) (fs : List Plain) → EachListing IsFreeIfStays (listings_in_folders m place i fs)
+  folders_come : (i : ℕ) (fs : List Plain) → EachListing IsFreeIfStays (listings_in_folders_from m place i fs)
   folders_come i [] = tt
   folders_come i (f ∷ fs) =
-      each_appended IsFreeIfStays (listings_in_folder m place i 1 (name_of f) (files_in f)) (listings_in_folders m place (i + 1) fs)
+      each_appended IsFreeIfStays (listings_in_folder_from_file m place i 1 (name_of f) (files_in f)) (listings_in_folders_from m place (i + 1) fs)
       (folder_comes i 1 (name_of f) (files_in f)) (folders_come (i + 1) fs)
 
 member_free : (m : Member) (place : ℕ) → IsPackageOfSoundContainer m.pkg m.id → EachListing IsFreeIfStays (listings_of_member place m)
@@ -127,9 +127,9 @@ none_reserved [] h = tt
 none_reserved (l ∷ ls) h = (h.0, none_reserved ls h.1)
 
 -- so what they own may be listed
-pub may_be_listed : (members : List Member) (flags : List Bool) → HaveAtMostOneOwner (owned_listings (member_listings members) flags) → AreMembersOfSoundContainers members → first_reserved_path members ≡ None
-    → HaveOneOwnerAndNoReservedPath (owned_listings (member_listings members) flags)
-unfolding member_listings first_reserved_path
+pub may_be_listed : (members : List Member) (flags : List Bool) → HaveAtMostOneOwnerForEachPath (owned_listings (listings_of_members members) flags) → AreMembersOfSoundContainers members → first_reserved_added_path members ≡ None
+    → HaveOneOwnerPerPathAndNoneReserved (owned_listings (listings_of_members members) flags)
+unfolding listings_of_members first_reserved_added_path
 may_be_listed members flags one sound free =
     record {
       one_owner = one;

@@ -21,9 +21,9 @@ pub record AreInputsOfRootLeft {command : CommandLine} {read : Reads} {chosen : 
   pub world : inputs.root.world ≡ left.selected.inputs.root.new_world
 
 -- the refusal is for the list of repositories, because it is not trusted, or for the index of a repository
-abbrev pub IsRefusalOfRepositories : Refusal → Type 0
-IsRefusalOfRepositories (RepositoriesBad line) = Unit {0}
-IsRefusalOfRepositories Untrusted = Unit {0}
-IsRefusalOfRepositories (IndexMissing n) = Unit {0}
-IsRefusalOfRepositories (IndexBad n cause) = Unit {0}
-IsRefusalOfRepositories other = ⊥
+abbrev pub IsRefusalOfRepositoriesOrIndex : Refusal → Type 0
+IsRefusalOfRepositoriesOrIndex (RepositoriesBad line) = Unit {0}
+IsRefusalOfRepositoriesOrIndex Untrusted = Unit {0}
+IsRefusalOfRepositoriesOrIndex (IndexMissing n) = Unit {0}
+IsRefusalOfRepositoriesOrIndex (IndexBad n cause) = Unit {0}
+IsRefusalOfRepositoriesOrIndex other = ⊥

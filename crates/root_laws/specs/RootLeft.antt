@@ -3,7 +3,7 @@
 use Rattle.std.specs.Prelude.{◌≡◌, ℕ, ◌<◌, false, List, All, Option, Some, Ok}
 use Rattle.make_index.specs.adb_fields.Repeated.{list_of}
 use Rattle.base_core.specs.Files.{Files}
-use Rattle.engine_core.specs.change_inputs.Database.{Database, database_from_parts}
+use Rattle.engine_core.specs.change_inputs.Database.{Database, database_of_packages_file_and_is_text}
 use Rattle.engine_core.specs.change_inputs.Inputs.{database_for, database_read_number, world_read_number}
 use Rattle.engine_core.specs.change_inputs.World.{root_world, found_text_or_empty}
 use Rattle.engine_core.specs.change_outcome.ChangeOutcome.{ChangeDone, members_after_change}
@@ -34,7 +34,8 @@ pub record ReadsDatabaseAndWorldOfFiles (files : Files) (read : Reads) : Type 0 
 -- of its container
 abbrev pub database_of_members : List Member → List ℕ → Database
 database_of_members members bytes =
-    database_from_parts (list_of (packages_in_new_database members (owned_flags_of members)))
+    database_of_packages_file_and_is_text
+    (list_of (packages_in_new_database members (owned_flags_of members)))
     (Some bytes) false
 
 -- A change of this command, which is done with the result `done`, leaves a root in which each later command finds a

@@ -10,7 +10,7 @@ ghost use Rattle.engine_core.specs.Changed.{change_of_command};
 ghost use Rattle.make_index.specs.make_info.Reads.{Reads};
 ghost use Rattle.engine_core.specs.path_clashes.Clash.{NamePair};
 ghost use Rattle.report_core.specs.declared.refusal.Refusal.{Refusal};
-ghost use Rattle.root_laws.specs.NextInputs.{AreInputsOfRootLeft, IsRefusalOfRepositories};
+ghost use Rattle.root_laws.specs.NextInputs.{AreInputsOfRootLeft, IsRefusalOfRepositoriesOrIndex};
 ghost use Rattle.root_laws.specs.RootLeft.{AreAllReadFilesBytes, IsRootLeftByChange, ReadsDatabaseAndWorldOfFiles};
 
 use adb_view::{values_have_their_shape, values_of_few_visits_have_no_fault};
@@ -63,7 +63,7 @@ pub fn a_command_begins_with_what_the_last_change_left()
     ensures refused { (command later : CommandLine) (read next : Reads) (chosen : Option (List ℕ))
         (done : ChangeDone) (refusal : Refusal) → IsRootLeftByChange command read chosen done
         → ReadsDatabaseAndWorldOfFiles done.files next → inputs_of later next ≡ Err refusal
-        → IsRefusalOfRepositories refusal }
+        → IsRefusalOfRepositoriesOrIndex refusal }
 {}
 
 /// A law: if the files have valid names and bytes, and reads find these files, then all files that

@@ -1,8 +1,8 @@
 -- A call of `apk` is a run.
 use Rattle.std.proofs.Common.{◌≡◌, [], ◌∷◌, refl}
 use Rattle.std.specs.Prelude.{IsSome, IsTrue, is_some}
-use Rattle.apk_front.specs.Answers.{IsAnswerOfSomeOutcome, LeavesFiles}
-use Rattle.apk_front.specs.Moments.{IsOkRefusedOrOutputFault, AreStatesOfRecoveryOrCommittingRun, AreStatesOldOrLeadToOutcome, IsRefusedOrCommitsNothing, HasNothingToRecover, IgnoresScratchNameOfOutput, LeavesDurableStateIfCommitted, LeavesDurableFilesOnceAnswered, NamesAreDurableWithoutIntentExcept}
+use Rattle.apk_front.specs.Answers.{IsAnswerOfSomeOutcomeOrFailure, LeavesFiles}
+use Rattle.apk_front.specs.Moments.{IsOkRefusedOrOutputFault, AreStatesOfRecoveryOrCommittingRun, AreStatesOldOrLeadToOutcome, IsRefusedOutOfMemoryOrCommitsNothing, HasNothingToRecover, IgnoresScratchNameOfOutput, LeavesDurableStateIfCommitted, LeavesDurableFilesOnceAnswered, NamesAreDurableWithoutIntentExcept}
 use Rattle.base_core.specs.Calls.{HoldsNow, IfObservable}
 use Rattle.base_core.specs.Crash.{Since}
 use Rattle.base_core.specs.Undone.{IsDurable}
@@ -33,12 +33,12 @@ AllAtomic = (v : TreeState) (run : Run) → IsRunFrom v run → IsAtomicAfterAny
 
 pub called : AllSafe → AllAtomic → (run : Run)
     → (IsTrue (reads_only (command_of run.words)) → run.now ≡ run.old)
-    → IfObservable run.old (λ v. IsAnswerOfSomeOutcome (IsOutcome (command_of run.words) (files_of v)) (LeavesFiles run.now) (IsFaultCountedWithCause run.before run.after) run.answer run.out run.err)
-    → IfObservable run.old (λ v. IsRefusedOrCommitsNothing (IsOutcomeFrom v run) run.answer → HasNothingToRecover (effect_of_arguments (command_of run.words)) v → run.now ≡ run.old)
+    → IfObservable run.old (λ v. IsAnswerOfSomeOutcomeOrFailure (IsOutcome (command_of run.words) (files_of v)) (LeavesFiles run.now) (IsFaultCountedWithCause run.before run.after) run.answer run.out run.err)
+    → IfObservable run.old (λ v. IsRefusedOutOfMemoryOrCommitsNothing (IsOutcomeFrom v run) run.answer → HasNothingToRecover (effect_of_arguments (command_of run.words)) v → run.now ≡ run.old)
     → IfObservable run.old (λ v. IsSome (recovery_fault (effect_of_arguments (command_of run.words)) (files_of v)) → run.now ≡ run.old)
     → IfObservable run.old (λ v. AreStatesOfRecoveryOrCommittingRun (IsOutcomeFrom v run) (effect_of_arguments (command_of run.words)) (output run.words) v run.old run.now)
     → IfObservable run.old (λ v. IsSome (v.names intent_name) → Since (NamesAreDurableWithoutIntentExcept (output run.words)) run.old run.now)
-    → IfObservable run.old (λ v. IsRefusedOrCommitsNothing (IsOutcomeFrom v run) run.answer → (ignored : Ignored) → IsDurable (StateDependsOn ignored) v → Since (StateIsUnchanged ignored v) run.old run.now)
+    → IfObservable run.old (λ v. IsRefusedOutOfMemoryOrCommitsNothing (IsOutcomeFrom v run) run.answer → (ignored : Ignored) → IsDurable (StateDependsOn ignored) v → Since (StateIsUnchanged ignored v) run.old run.now)
     → IfObservable run.old (λ v. (ignored : Ignored) → IsDurable (StateDependsOn ignored) v → IgnoresScratchNameOfOutput (output run.words) ignored → AreStatesOldOrLeadToOutcome (IsOutcomeFrom v run) (is_some (output run.words)) ignored v run.old run.now)
     → IfObservable run.old (λ v. (ignored : Ignored) → IsDurable (StateDependsOn ignored) v → IgnoresScratchNameOfOutput (output run.words) ignored → HoldsNow run.now (IsDurable (StateDependsOn ignored)))
     → IfObservable run.old (λ v. (ignored : Ignored) → IsDurable (StateDependsOn ignored) v → IgnoresScratchNameOfOutput (output run.words) ignored → LeavesDurableFilesOnceAnswered (IsOutcomeFrom v run) (effect_of_arguments (command_of run.words)) ignored v run.now run.answer)
@@ -46,12 +46,12 @@ pub called : AllSafe → AllAtomic → (run : Run)
     → IfObservable run.old (λ v. IsRunFrom v run × IsSafeAfterAnyEvents v run × IsAtomicAfterAnyEvents v run)
 called all_safe all_atomic run same =
     observed run.old
-    (λ v. IsAnswerOfSomeOutcome (IsOutcome (command_of run.words) (files_of v)) (LeavesFiles run.now) (IsFaultCountedWithCause run.before run.after) run.answer run.out run.err)
-    (λ v. IsRefusedOrCommitsNothing (IsOutcomeFrom v run) run.answer → HasNothingToRecover (effect_of_arguments (command_of run.words)) v → run.now ≡ run.old)
+    (λ v. IsAnswerOfSomeOutcomeOrFailure (IsOutcome (command_of run.words) (files_of v)) (LeavesFiles run.now) (IsFaultCountedWithCause run.before run.after) run.answer run.out run.err)
+    (λ v. IsRefusedOutOfMemoryOrCommitsNothing (IsOutcomeFrom v run) run.answer → HasNothingToRecover (effect_of_arguments (command_of run.words)) v → run.now ≡ run.old)
     (λ v. IsSome (recovery_fault (effect_of_arguments (command_of run.words)) (files_of v)) → run.now ≡ run.old)
     (λ v. AreStatesOfRecoveryOrCommittingRun (IsOutcomeFrom v run) (effect_of_arguments (command_of run.words)) (output run.words) v run.old run.now)
     (λ v. IsSome (v.names intent_name) → Since (NamesAreDurableWithoutIntentExcept (output run.words)) run.old run.now)
-    (λ v. IsRefusedOrCommitsNothing (IsOutcomeFrom v run) run.answer → (ignored : Ignored) → IsDurable (StateDependsOn ignored) v → Since (StateIsUnchanged ignored v) run.old run.now)
+    (λ v. IsRefusedOutOfMemoryOrCommitsNothing (IsOutcomeFrom v run) run.answer → (ignored : Ignored) → IsDurable (StateDependsOn ignored) v → Since (StateIsUnchanged ignored v) run.old run.now)
     (λ v. (ignored : Ignored) → IsDurable (StateDependsOn ignored) v → IgnoresScratchNameOfOutput (output run.words) ignored → AreStatesOldOrLeadToOutcome (IsOutcomeFrom v run) (is_some (output run.words)) ignored v run.old run.now)
     (λ v. (ignored : Ignored) → IsDurable (StateDependsOn ignored) v → IgnoresScratchNameOfOutput (output run.words) ignored → HoldsNow run.now (IsDurable (StateDependsOn ignored)))
     (λ v. (ignored : Ignored) → IsDurable (StateDependsOn ignored) v → IgnoresScratchNameOfOutput (output run.words) ignored → LeavesDurableFilesOnceAnswered (IsOutcomeFrom v run) (effect_of_arguments (command_of run.words)) ignored v run.now run.answer)

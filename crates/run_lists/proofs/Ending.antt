@@ -2,7 +2,7 @@
 use Rattle.std.proofs.Common.{◌≡◌, inl, inr, ℕ, Bool, true, false, List, Option, None, Some, refl, sym, ap, subst, ◌∙◌}
 use Rattle.std.specs.Prelude.{is_some, not}
 use Rattle.std.proofs.lemmas.Bool.{false≢true}
-use Rattle.apk_front.specs.Moments.{IsOkRefusedOrOutputFault, IsRefusedOrCommitsNothing, IsDurableAndLeavesFiles, ignored_except_output}
+use Rattle.apk_front.specs.Moments.{IsOkRefusedOrOutputFault, IsRefusedOutOfMemoryOrCommitsNothing, IsDurableAndLeavesFiles, ignored_except_output}
 use Rattle.apk_front.specs.declared.answer.Answer.{Answer}
 use Rattle.apk_front.specs.declared.answer.Answer.TheVariants.{Ok as Done, Refused, TreeFault, OutFault, Memory}
 use Rattle.apk_front.proofs.Carried.{no_refusal}
@@ -76,10 +76,10 @@ module _ (facts : Facts) (ignored : Ignored) (v : TreeState) (run : Run) (is_run
 
     ends_by : (answer : Answer) → run.answer ≡ answer → (run.answer ≡ TreeFault → Q (ignored_during_run run ignored) w) → Q (ignored_after_answer answer run ignored) w
     ends_by Done is fault = let l = leaves (subst IsOkRefusedOrOutputFault (sym is) tt) in done_by is l l.outcome.commits refl
-    ends_by (Refused r) is fault = left_idle (inl (subst (IsRefusedOrCommitsNothing (IsOutcomeFrom v run)) (sym is) (inl tt)))
+    ends_by (Refused r) is fault = left_idle (inl (subst (IsRefusedOutOfMemoryOrCommitsNothing (IsOutcomeFrom v run)) (sym is) (inl tt)))
     ends_by TreeFault is fault = fault is
     ends_by OutFault is fault = let l = leaves (subst IsOkRefusedOrOutputFault (sym is) tt) in out_by l l.outcome.commits refl
-    ends_by Memory is fault = left_idle (inl (subst (IsRefusedOrCommitsNothing (IsOutcomeFrom v run)) (sym is) (inl tt)))
+    ends_by Memory is fault = left_idle (inl (subst (IsRefusedOutOfMemoryOrCommitsNothing (IsOutcomeFrom v run)) (sym is) (inl tt)))
 
     pub ends_so : (run.answer ≡ TreeFault → Q (ignored_during_run run ignored) w) → Q (ignored_after_answer run.answer run ignored) w
     ends_so = ends_by run.answer refl

@@ -21,7 +21,7 @@ use Rattle.apk_front.specs.outcome.Outcome.{Outcome}
 use Rattle.apk_front.specs.outcome.Work.{files_recovered_if_needed}
 use Rattle.apk_front.specs.words_core.Grammar.{command_of}
 use Rattle.run_lists.specs.Events.{Crashes, Edits, Ends, RootEvent, Reaches, IsMomentOf, IsOutcomeFrom, IsRunFrom, IsTransition, Run, Stops, Touches, ignored_after, ignored_during_run, ignored_with_scratch}
-use Rattle.run_lists.specs.Reading.{HasOldRecoveredOrOutcomeBytes, HasOutcomeBytes, ReachesByRuns, HasDurableRecoveredOrOutcomeBytes, IsNoJournalOutputOrIgnoredName, IsNoJournalOrDraftName, IsRunWith, HoldsAsReadAndAsRecovered, EachCommitPassesTestAtName}
+use Rattle.run_lists.specs.Reading.{HasOldRecoveredOrOutcomeBytes, HasOutcomeBytes, ReachesByRuns, HasDurableRecoveredOrOutcomeBytes, IsNoJournalOutputOrIgnoredName, IsNoJournalOrTemporaryName, IsRunWith, HoldsAsReadAndAsRecovered, EachCommitPassesTestAtName}
 use Rattle.run_lists.proofs.Along.{seen_durable}
 use Rattle.run_lists.proofs.AtMoments.{History, now_map, start_or_made}
 use Rattle.run_lists.proofs.Committed.{CommitsNoIntent}
@@ -82,7 +82,7 @@ module _ (v : TreeState) (run : Run) (m : TreeState) where
   old_or_work : (q : List ℕ) → does_recover Act ≡ true → (files_of m q ≡ files_of v q) ⊎ (files_of m q ≡ unstaged_files (files_of v) q) → HasOldRecoveredOrOutcomeBytes v run m q
   old_or_work q recovers = ⊎_elim inl (λ is. inr (inl (recovers, is)))
 
-  pub bytes : (q : List ℕ) → IsNoJournalOrDraftName run q → Stands → HasOldRecoveredOrOutcomeBytes v run m q
+  pub bytes : (q : List ℕ) → IsNoJournalOrTemporaryName run q → Stands → HasOldRecoveredOrOutcomeBytes v run m q
   bytes q no_draft (inl is) = inl (ap (λ (u : TreeState). files_of u q) is)
   bytes q no_draft (inr (inl (inl (recovers, r)))) = old_or_work q recovers (r.bytes q no_draft.waits)
   bytes q no_draft (inr (inl (inr is))) = at_work q (ap (λ (f : Files). f q) is)

@@ -12,7 +12,7 @@ use Rattle.command_core.specs.Command.{CommandLine}
 use Rattle.apk_front.specs.journal_core.Recovery.{intent_name}
 use Rattle.apk_front.specs.journal_core.Replacing.{scratch_name_of}
 use Rattle.apk_front.specs.outcome.Effect.{Effect, Computes, OnlyReadsFiles, AsksRoot, Makes, Changes, does_only_read, effect_of_arguments, effect_of, output, output_name_of_arguments, output_name_for_effect, reads_only}
-use Rattle.run_lists.specs.Events.{Crashes, Edits, Ends, RootEvent, HasNoUnfinishedOutputSinceSync, Run, Stops, Touches, ignored_after, ignored_after_answer, names_of_others_outside_journal, nothing_ignored, ignored_with_all_touched, ignored_with_scratch, ignored_with_touched}
+use Rattle.run_lists.specs.Events.{Crashes, Edits, Ends, RootEvent, HasNoUnfinishedOutputOrTouchSinceSync, Run, Stops, Touches, ignored_after, ignored_after_answer, names_of_others_outside_journal, nothing_ignored, ignored_with_all_touched, ignored_with_scratch, ignored_with_touched}
 use Rattle.run_lists.proofs.Facts.{AreMore, Ignored}
 use Rattle.run_lists.proofs.Touched.{intent_off}
 
@@ -118,7 +118,7 @@ by_off TreeFault run ignored q fault off = scratch_off (output run.words) ignore
 by_off OutFault run ignored q fault off = off
 by_off Memory run ignored q fault off = off
 
-pub none_ignored : (events : List RootEvent) (q : List ℕ) → HasNoUnfinishedOutputSinceSync events → ignored_after nothing_ignored events q ≡ false
+pub none_ignored : (events : List RootEvent) (q : List ℕ) → HasNoUnfinishedOutputOrTouchSinceSync events → ignored_after nothing_ignored events q ≡ false
 none_ignored [] q written = refl
 none_ignored (Ends run ∷ earlier) q (fault, before) = by_off run.answer run (ignored_after nothing_ignored earlier) q fault (none_ignored earlier q before)
 none_ignored (Stops run ∷ earlier) q (none, before) = scratch_off (output run.words) (ignored_after nothing_ignored earlier) q none (none_ignored earlier q before)

@@ -1,7 +1,7 @@
 -- A run from a durable tree is safe, and from one state it is all or nothing.
 use Rattle.std.proofs.Common.{◌≡◌, ◌⊎◌, inl, inr, ⊎_elim, ℕ, true, false, List, Option, refl, sym, subst, ◌∙◌, arith}
 use Rattle.std.specs.Prelude.{is_some}
-use Rattle.apk_front.specs.Answers.{IsAnswerOfSomeOutcome, answer_of}
+use Rattle.apk_front.specs.Answers.{IsAnswerOfSomeOutcomeOrFailure, answer_of}
 use Rattle.apk_front.specs.Moments.{IsOkRefusedOrOutputFault, AreStatesOldOrLeadToOutcome, IgnoresScratchNameOfOutput, IsDurableAndLeavesFiles, LeavesDurableStateIfCommitted, LeavesDurableFilesOnceAnswered, MustOutcomeBeDurable, ignored_except_output}
 use Rattle.apk_front.specs.declared.answer.Answer.{Answer}
 use Rattle.apk_front.specs.declared.answer.Answer.TheVariants.{Ok as Done, Refused, TreeFault, OutFault, Memory}
@@ -66,7 +66,7 @@ abbrev pub Told : Answer → Outcome → Type 0
 Told answer outcome = (answer ≡ answer_of outcome) ⊎ (answer ≡ OutFault)
 
 module _ (IsOne : Outcome → Type 0) (unique : (a b : Outcome) → IsOne a → IsOne b → a ≡ b) where
-  pub told : (Leaves : Outcome → Type 0) (failed : Type 0) (answer : Answer) (out err : SinkBeforeAndAfter) → IsAnswerOfSomeOutcome IsOne Leaves failed answer out err → IsOkRefusedOrOutputFault answer
+  pub told : (Leaves : Outcome → Type 0) (failed : Type 0) (answer : Answer) (out err : SinkBeforeAndAfter) → IsAnswerOfSomeOutcomeOrFailure IsOne Leaves failed answer out err → IsOkRefusedOrOutputFault answer
       → (o : Outcome) × IsOne o × Told answer o × Leaves o
   told Leaves failed Done out err is answers = (is.0, is.1, inl is.2.same, is.3)
   told Leaves failed (Refused r) out err is answers = (is.0, is.1, inl is.2.same, is.3)

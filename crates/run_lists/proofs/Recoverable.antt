@@ -25,7 +25,7 @@ use Rattle.report_core.specs.declared.refusal.Refusal.TheVariants.{IntentBad}
 use Rattle.apk_front.specs.words_core.Grammar.{command_of}
 use Rattle.run_lists.specs.Events.{Crashes, Edits, Ends, RootEvent, Reaches, ReachesWithoutCommit, IsEventWithoutCommit, IsMomentOf, IsOutcomeFrom, IsRunFrom, IsPossibleStop, IsTransition, Run, Stops, Touches, ignored_after, ignored_during_run, nothing_ignored, ignored_with_all_touched, ignored_with_touched}
 use Rattle.run_lists.specs.Reading.{HasBadIntent}
-use Rattle.run_lists.specs.Recovered.{ReachesWithoutBadIntent, HasStateOfSomeCrashBefore, HasStateOfCrashBeforeOrOutcome, HasSameState, IsRecoveredBy, IsNotRefusedForIntent, LeavesNoBadIntent, PutsNoBadIntent}
+use Rattle.run_lists.specs.Recovered.{ReachesWithNoBadIntentPutByOthers, HasStateOfSomeCrashBefore, HasStateOfCrashBeforeOrOutcome, HasSameState, IsRecoveredBy, IsNotRefusedForIntent, EachCrashLeavesNoBadIntent, PutsNoBadIntentIfEditByOthers}
 use Rattle.run_lists.specs.Safety.{HasStateAsReadOrOutcome, LeavesOldOrOutcome}
 use Rattle.run_lists.proofs.Along.{as_crash, seen_durable}
 use Rattle.apk_front.proofs.outcome.NextRoom.{intent_gone}
@@ -72,7 +72,7 @@ no_fault AsksRoot files good = good_fault files good
 no_fault Makes files good = good_fault files good
 no_fault Changes files good = good_fault files good
 
-pub seen_plainly : (first v : TreeState) (events : List RootEvent) → ReachesWithoutBadIntent first events v → Reaches first events v
+pub seen_plainly : (first v : TreeState) (events : List RootEvent) → ReachesWithNoBadIntentPutByOthers first events v → Reaches first events v
 seen_plainly first v [] is = is
 seen_plainly first v (event ∷ earlier) (u, seen, leads, puts) = (u, seen_plainly first u earlier seen, leads)
 
@@ -80,13 +80,13 @@ module _ (same : HasSameBadIntent) where
   bad_both : (ignored : Ignored) (a b : Files) → ignored intent_name ≡ false → state_of ignored a ≡ state_of ignored b → HasBadIntent a → HasBadIntent b
   bad_both ignored a b shown is (cause, fault) = (cause, same ignored a b cause shown is fault)
 
-  quiet_good : (ignored : Ignored) (v m : TreeState) → ignored intent_name ≡ false → EachCrashLeavesOld ignored v m → LeavesNoBadIntent v → LeavesNoBadIntent m
+  quiet_good : (ignored : Ignored) (v m : TreeState) → ignored intent_name ≡ false → EachCrashLeavesOld ignored v m → EachCrashLeavesNoBadIntent v → EachCrashLeavesNoBadIntent m
   quiet_good ignored v m shown quiet good = λ image is bad.
       let was = quiet image is in
       good was.0 was.1 (bad_both ignored image was.0 shown was.2 bad)
 
   module _ (committed : CommitsNoIntent) where
-    moment_good : (ignored : Ignored) (v : TreeState) (run : Run) (m : TreeState) → ignored intent_name ≡ false → LeavesNoBadIntent v → LeavesOldOrOutcome ignored v run m → LeavesNoBadIntent m
+    moment_good : (ignored : Ignored) (v : TreeState) (run : Run) (m : TreeState) → ignored intent_name ≡ false → EachCrashLeavesNoBadIntent v → LeavesOldOrOutcome ignored v run m → EachCrashLeavesNoBadIntent m
     moment_good ignored v run m shown good (inl quiet) = quiet_good ignored v m shown quiet good
     moment_good ignored v run m shown good (inr (o, one, commits, old_or_new)) = λ image is bad. ⊎_elim
         (λ was. good was.0 was.1 (bad_both ignored image was.0 shown was.2 bad))
@@ -94,12 +94,12 @@ module _ (same : HasSameBadIntent) where
         (old_or_new image is)
 
     module _ (facts : Facts) where
-      run_good : (names : Ignored) (v : TreeState) (run : Run) → IsRunFrom v run → names intent_name ≡ false → IsDurable (StateDependsOn names) v → LeavesNoBadIntent v → (m : TreeState) → IsMomentOf run m → LeavesNoBadIntent m
+      run_good : (names : Ignored) (v : TreeState) (run : Run) → IsRunFrom v run → names intent_name ≡ false → IsDurable (StateDependsOn names) v → EachCrashLeavesNoBadIntent v → (m : TreeState) → IsMomentOf run m → EachCrashLeavesNoBadIntent m
       run_good names v run is_run shown is_durable good m moment =
           let all = safe facts names v run is_run shown is_durable in
           moment_good (ignored_during_run run names) v run m (scratch_hides (output run.words) names shown) good (all.moments m moment)
 
-      led_good : (names : Ignored) (event : RootEvent) (v w : TreeState) → names intent_name ≡ false → IsDurable (StateDependsOn names) v → LeavesNoBadIntent v → IsTransition v event w → PutsNoBadIntent event w → LeavesNoBadIntent w
+      led_good : (names : Ignored) (event : RootEvent) (v w : TreeState) → names intent_name ≡ false → IsDurable (StateDependsOn names) v → EachCrashLeavesNoBadIntent v → IsTransition v event w → PutsNoBadIntentIfEditByOthers event w → EachCrashLeavesNoBadIntent w
       led_good names (Ends run) v w shown is_durable good (is_run, ends) puts = run_good names v run is_run shown is_durable good w (last_moment run v w is_run ends)
       led_good names (Stops run) v w shown is_durable good (is_run, (m, moment, torn)) puts = torn_good m w torn (run_good names v run is_run shown is_durable good m moment)
       led_good names Crashes v w shown is_durable good crash puts = λ image is bad.
@@ -108,9 +108,9 @@ module _ (same : HasSameBadIntent) where
           puts (bad_both nothing_ignored image (files_of w) refl (facts.crash_settled nothing_ignored w w (as_crash facts w synced) image is) bad)
       led_good names (Touches theirs) v w shown is_durable good touch puts = quiet_good (ignored_with_touched theirs names) v w (touched_hides theirs names shown) (touch_quiet theirs v w touch names) good
 
-      module _ (start : Ignored) (off : start intent_name ≡ false) (first : TreeState) (is_durable : IsDurable (StateDependsOn start) first) (good : LeavesNoBadIntent first) where
-        pub seen_good : (v : TreeState) (events : List RootEvent) → ReachesWithoutBadIntent first events v → LeavesNoBadIntent v
-        seen_good v [] is = subst LeavesNoBadIntent (sym is) good
+      module _ (start : Ignored) (off : start intent_name ≡ false) (first : TreeState) (is_durable : IsDurable (StateDependsOn start) first) (good : EachCrashLeavesNoBadIntent first) where
+        pub seen_good : (v : TreeState) (events : List RootEvent) → ReachesWithNoBadIntentPutByOthers first events v → EachCrashLeavesNoBadIntent v
+        seen_good v [] is = subst EachCrashLeavesNoBadIntent (sym is) good
         seen_good v (event ∷ earlier) (u, seen, leads, puts) =
             led_good (ignored_after start earlier) event u v (after_hides start off earlier) (seen_durable facts start off first u earlier is_durable (seen_plainly first u earlier seen)) (seen_good u earlier seen) leads puts
 
@@ -128,14 +128,14 @@ module _ (facts : Facts) (only : OnlyBadRefused) where
   told_bad answer o cause is (inl by) = refused_by o.refusal cause (sym is ∙ by)
   told_bad answer o cause is (inr by) = absurd (cc (is, by))
 
-  pub good_unrefused : (v : TreeState) (run : Run) → IsRunFrom v run → does_recover (effect_of_arguments (command_of run.words)) ≡ true → LeavesNoBadIntent v → IsNotRefusedForIntent run
+  pub good_unrefused : (v : TreeState) (run : Run) → IsRunFrom v run → does_recover (effect_of_arguments (command_of run.words)) ≡ true → EachCrashLeavesNoBadIntent v → IsNotRefusedForIntent run
   good_unrefused v run is_run recovers good = λ cause is.
       let t = told (IsOutcomeFrom v run) (facts.unique run.words (files_of v)) _ _ run.answer run.out run.err is_run.stated (subst IsOkRefusedOrOutputFault (sym is) tt) in
       none_some (recovery_fault (effect_of_arguments (command_of run.words)) (files_of v)) cause
       (no_fault (effect_of_arguments (command_of run.words)) (files_of v) (good (files_of v) (facts.read_left v)))
       (only run.words (files_of v) t.0 cause recovers t.1 (told_bad run.answer t.0 cause is t.2))
 
-pub good_recovers : Facts → (v : TreeState) (words : List (List ℕ)) → LeavesNoBadIntent v → recovery_fault (effect_of_arguments (command_of words)) (files_of v) ≡ None
+pub good_recovers : Facts → (v : TreeState) (words : List (List ℕ)) → EachCrashLeavesNoBadIntent v → recovery_fault (effect_of_arguments (command_of words)) (files_of v) ≡ None
 good_recovers facts v words good = no_fault (effect_of_arguments (command_of words)) (files_of v) (good (files_of v) (facts.read_left v))
 
 -- ---- behind a run that was stopped
@@ -224,12 +224,12 @@ module _ (facts : Facts) (crash_quiet : (ignored : Ignored) (v w : TreeState) �
       (recovered : (v : TreeState) (run : Run) → IsRunFrom v run → does_recover (effect_of_arguments (command_of run.words)) ≡ true → recovery_fault (effect_of_arguments (command_of run.words)) (files_of v) ≡ None
       → IsOkRefusedOrOutputFault run.answer → HasOutcomeWithoutCommit (IsOutcomeFrom v run) → HoldsNow run.now (λ w. files_of w ≡ unstaged_files (files_of v))) where
     -- from a moment of a run on, over what crashes and idle runs leave
-    pub next_recovers : (m w : TreeState) (later : List RootEvent) (next : Run) → IsDurable (StateDependsOn start) m → LeavesNoBadIntent m
+    pub next_recovers : (m w : TreeState) (later : List RootEvent) (next : Run) → IsDurable (StateDependsOn start) m → EachCrashLeavesNoBadIntent m
         → ReachesWithoutCommit m later w → IsRunFrom w next → does_recover (effect_of_arguments (command_of next.words)) ≡ true → (image : Files) × IsCrashImage m image × IsRecoveredBy (HasSameState (ignored_with_all_touched later start) image) w next
     next_recovers m w later next is_durable good seen is_next recovers =
         let names = ignored_with_all_touched later start in
         let on = seen_quiet m w later is_durable seen in
-        let here : LeavesNoBadIntent w = quiet_good same names m w (all_touched_hides later start shown) on.quiet good in
+        let here : EachCrashLeavesNoBadIntent w = quiet_good same names m w (all_touched_hides later start shown) on.quiet good in
         let fault = good_recovers facts w next.words here in
         let was = on.quiet (files_of w) (facts.read_left w) in (
           was.0,
@@ -258,8 +258,8 @@ recovered_as A B leads w next is = record {
 module _ (facts : Facts) (same : HasSameBadIntent) (committed : CommitsNoIntent) (only : OnlyBadRefused) (sound : ReadSound) (crash_quiet : (ignored : Ignored) (v w : TreeState) → IsAfterCrash v w → EachCrashLeavesOld ignored v w)
     (recovered : (v : TreeState) (run : Run) → IsRunFrom v run → does_recover (effect_of_arguments (command_of run.words)) ≡ true → recovery_fault (effect_of_arguments (command_of run.words)) (files_of v) ≡ None
     → IsOkRefusedOrOutputFault run.answer → HasOutcomeWithoutCommit (IsOutcomeFrom v run) → HoldsNow run.now (λ w. files_of w ≡ unstaged_files (files_of v)))
-    (start : Ignored) (off : start intent_name ≡ false) (first : TreeState) (is_durable : IsDurable (StateDependsOn start) first) (good : LeavesNoBadIntent first) where
-  pub stopped_left : (v m w : TreeState) (events later : List RootEvent) (run next : Run) → ReachesWithoutBadIntent first events v → IsRunFrom v run → IsPossibleStop run m → ReachesWithoutCommit m later w
+    (start : Ignored) (off : start intent_name ≡ false) (first : TreeState) (is_durable : IsDurable (StateDependsOn start) first) (good : EachCrashLeavesNoBadIntent first) where
+  pub stopped_left : (v m w : TreeState) (events later : List RootEvent) (run next : Run) → ReachesWithNoBadIntentPutByOthers first events v → IsRunFrom v run → IsPossibleStop run m → ReachesWithoutCommit m later w
       → IsRunFrom w next → does_recover (effect_of_arguments (command_of next.words)) ≡ true → (image : Files) × IsCrashImage m image × IsRecoveredBy (HasSameState (ignored_with_all_touched later (ignored_during_run run (ignored_after start events))) image) w next
   stopped_left v m w events later run next seen is_run (at, moment, torn) idly is_next recovers =
       let names = ignored_after start events in
@@ -270,7 +270,7 @@ module _ (facts : Facts) (same : HasSameBadIntent) (committed : CommitsNoIntent)
       next_recovers facts crash_quiet (ignored_during_run run names) same (scratch_hides (output run.words) names shown) only sound recovered m w later next
       (torn_durable at m torn (ignored_during_run run names) order) (torn_good at m torn is_good) idly is_next recovers
 
-  pub stopped_recovers : (v m w : TreeState) (events later : List RootEvent) (run next : Run) → ReachesWithoutBadIntent first events v → IsRunFrom v run → IsPossibleStop run m → ReachesWithoutCommit m later w
+  pub stopped_recovers : (v m w : TreeState) (events later : List RootEvent) (run next : Run) → ReachesWithNoBadIntentPutByOthers first events v → IsRunFrom v run → IsPossibleStop run m → ReachesWithoutCommit m later w
       → IsRunFrom w next → does_recover (effect_of_arguments (command_of next.words)) ≡ true → IsRecoveredBy (HasStateOfCrashBeforeOrOutcome (ignored_with_all_touched later (ignored_during_run run (ignored_after start events))) v run) w next
   stopped_recovers v m w events later run next seen is_run (at, moment, torn) idly is_next recovers =
       let few = ignored_during_run run (ignored_after start events) in

@@ -1,26 +1,26 @@
 -- A state inside a call leaves what the moment leaves that it is torn from.
 use Rattle.std.proofs.Common.{◌≡◌, inl, inr, ℕ, true, List, Option, Some, None, refl, ap, subst, ◌∙◌}
-use Rattle.base_core.specs.Crash.{CrashMayLeave}
+use Rattle.base_core.specs.Crash.{CrashMayLeaveBytesOfFileNumber}
 use Rattle.base_core.specs.Files.{Files, NameMap}
 use Rattle.base_core.specs.Tree.{File, TreeState, bytes_of_file_number, files_under_map}
-use Rattle.base_core.specs.Undone.{IsDurable, MayBeLeftByCrash, IsCrashImage, IsCrashMap}
+use Rattle.base_core.specs.Undone.{IsDurable, CrashOfMapsMayLeaveMap, IsCrashImage, IsCrashMap}
 use Rattle.apk_front.specs.journal_core.Quiet.{EachCrashLeavesOld}
 use Rattle.apk_front.specs.journal_core.Recovery.{Intent, IsStagedNameOf, StateDependsOn, intent_in_file, intent_name, intent_of}
 use Rattle.run_lists.specs.Events.{DiffersOnlyInUnsyncedBytes}
-use Rattle.run_lists.specs.Recovered.{LeavesNoBadIntent}
+use Rattle.run_lists.specs.Recovered.{EachCrashLeavesNoBadIntent}
 use Rattle.run_lists.proofs.Facts.{Ignored}
 
 pub torn_self : (m : TreeState) → DiffersOnlyInUnsyncedBytes m m
 torn_self m = record { names = refl; older = refl; made = refl; synced = λ n. refl; bytes = λ n is. refl }
 
-torn_leaves : (f g : ℕ → File) → ((n : ℕ) → (g n).synced ≡ (f n).synced) → ((n : ℕ) → (f n).synced ≡ true → (g n).bytes ≡ (f n).bytes) → (at : Option ℕ) (bytes : Option (List ℕ)) → CrashMayLeave g at bytes → CrashMayLeave f at bytes
+torn_leaves : (f g : ℕ → File) → ((n : ℕ) → (g n).synced ≡ (f n).synced) → ((n : ℕ) → (f n).synced ≡ true → (g n).bytes ≡ (f n).bytes) → (at : Option ℕ) (bytes : Option (List ℕ)) → CrashMayLeaveBytesOfFileNumber g at bytes → CrashMayLeaveBytesOfFileNumber f at bytes
 torn_leaves f g synced same None bytes is = is
 torn_leaves f g synced same (Some n) None is = is
 torn_leaves f g synced same (Some n) (Some bytes) is = λ durable. is (synced n ∙ durable) ∙ same n durable
 
 module _ (m w : TreeState) (torn : DiffersOnlyInUnsyncedBytes m w) where
   torn_map : (map : NameMap) → IsCrashMap w map → IsCrashMap m map
-  torn_map map left = subst (λ (older : List NameMap). MayBeLeftByCrash m.names older map) torn.older (subst (λ (names : NameMap). MayBeLeftByCrash names w.older map) torn.names left)
+  torn_map map left = subst (λ (older : List NameMap). CrashOfMapsMayLeaveMap m.names older map) torn.older (subst (λ (names : NameMap). CrashOfMapsMayLeaveMap names w.older map) torn.names left)
 
   pub torn_image : (image : Files) → IsCrashImage w image → IsCrashImage m image
   torn_image image (map, among, by) = (map, torn_map map among, λ q. torn_leaves m.files w.files torn.synced torn.bytes (map q) (image q) (by q))
@@ -45,5 +45,5 @@ module _ (m w : TreeState) (torn : DiffersOnlyInUnsyncedBytes m w) where
       pub torn_durable : IsDurable (StateDependsOn ignored) w
       torn_durable = record { each = λ map among q n on is. torn.synced n ∙ is_durable.each map (torn_map map among) q n (rests map (torn_map map among) q on) is }
 
-  pub torn_good : LeavesNoBadIntent m → LeavesNoBadIntent w
+  pub torn_good : EachCrashLeavesNoBadIntent m → EachCrashLeavesNoBadIntent w
   torn_good good image is bad = good image (torn_image image is) bad

@@ -4,7 +4,7 @@ use Rattle.std.specs.Prelude.{if◌then◌else◌}
 use Rattle.std.specs.Str.{bytes_eq}
 use Rattle.std.proofs.lemmas.Bool.{false≢true}
 use Rattle.std.proofs.lemmas.Slice.Eq.{bytes_eq-Decides}
-use Rattle.base_core.specs.Crash.{CrashMayLeave}
+use Rattle.base_core.specs.Crash.{CrashMayLeaveBytesOfFileNumber}
 use Rattle.base_core.specs.Undone.{IsDurable}
 use Rattle.base_core.specs.Files.{Files, NameMap}
 use Rattle.base_core.specs.Tree.{File, TreeState, bytes_of_file_number, files_under_map}
@@ -44,7 +44,7 @@ place_staged (Some intent) q (k, low, high, is) = ap is_staged is ∙ stage_name
 
 -- ---- the files
 
-same_left : (f g : ℕ → File) (o : Option ℕ) (bytes : Option (List ℕ)) → ((n : ℕ) → o ≡ Some n → g n ≡ f n) → CrashMayLeave g o bytes → CrashMayLeave f o bytes
+same_left : (f g : ℕ → File) (o : Option ℕ) (bytes : Option (List ℕ)) → ((n : ℕ) → o ≡ Some n → g n ≡ f n) → CrashMayLeaveBytesOfFileNumber g o bytes → CrashMayLeaveBytesOfFileNumber f o bytes
 same_left f g None bytes same is = is
 same_left f g (Some n) None same is = is
 same_left f g (Some n) (Some bytes) same is = subst (λ (file : File). (file.synced ≡ true → bytes ≡ file.bytes)) (same n refl) is
@@ -66,14 +66,14 @@ module _ (theirs : Ignored) (v w : TreeState) (touch : IsChangeByOthers theirs v
   abbrev old_files : NameMap → Files → Files
   old_files was image q = if names_of_others_outside_journal theirs q then bytes_of_file_number v.files (was q) else image q
 
-  old_left : (was map : NameMap) (image : Files) → HaveSameFilesExceptTheirs theirs v was w map → ((q : List ℕ) → CrashMayLeave w.files (map q) (image q)) → (q : List ℕ) → CrashMayLeave v.files (was q) (old_files was image q)
+  old_left : (was map : NameMap) (image : Files) → HaveSameFilesExceptTheirs theirs v was w map → ((q : List ℕ) → CrashMayLeaveBytesOfFileNumber w.files (map q) (image q)) → (q : List ℕ) → CrashMayLeaveBytesOfFileNumber v.files (was q) (old_files was image q)
   old_left was map image same by q = at (names_of_others_outside_journal theirs q) refl
     where
-      at : (b : Bool) → names_of_others_outside_journal theirs q ≡ b → CrashMayLeave v.files (was q) (if b then bytes_of_file_number v.files (was q) else image q)
+      at : (b : Bool) → names_of_others_outside_journal theirs q ≡ b → CrashMayLeaveBytesOfFileNumber v.files (was q) (if b then bytes_of_file_number v.files (was q) else image q)
       at true is = may_leave_as_read v.files (was q)
       at false is =
           let both = same q is in
-          same_left v.files w.files (was q) (image q) both.1 (subst (λ (o : Option ℕ). CrashMayLeave w.files o (image q)) both.0 (by q))
+          same_left v.files w.files (was q) (image q) both.1 (subst (λ (o : Option ℕ). CrashMayLeaveBytesOfFileNumber w.files o (image q)) both.0 (by q))
 
   pub touch_quiet : EachCrashLeavesOld Names v w
   touch_quiet image (map, among, by) =

@@ -3,8 +3,8 @@
 -- *event*.
 use Rattle.std.specs.Prelude.{◌≡◌, ◌≢◌, ◌⊎◌, ◌++◌, ◌||◌, ℕ, Bool, true, false, if◌then◌else◌, List, [], ◌∷◌, Option, Some, None, Contains, IsSome, IsTrue, is_some}
 use Rattle.std.specs.Str.{bytes_eq}
-use Rattle.apk_front.specs.Answers.{IsAnswerOfSomeOutcome, LeavesFiles}
-use Rattle.apk_front.specs.Moments.{IsOkRefusedOrOutputFault, AreStatesOfRecoveryOrCommittingRun, AreStatesOldOrLeadToOutcome, CanRecover, IsRefusedOrCommitsNothing, HasNothingToRecover, IgnoresScratchNameOfOutput, LeavesDurableStateIfCommitted, LeavesDurableFilesOnceAnswered, NamesAreDurableWithoutIntentExcept, ignored_except_output}
+use Rattle.apk_front.specs.Answers.{IsAnswerOfSomeOutcomeOrFailure, LeavesFiles}
+use Rattle.apk_front.specs.Moments.{IsOkRefusedOrOutputFault, AreStatesOfRecoveryOrCommittingRun, AreStatesOldOrLeadToOutcome, FindsValidIntentToRecover, IsRefusedOutOfMemoryOrCommitsNothing, HasNothingToRecover, IgnoresScratchNameOfOutput, LeavesDurableStateIfCommitted, LeavesDurableFilesOnceAnswered, NamesAreDurableWithoutIntentExcept, ignored_except_output}
 use Rattle.apk_front.specs.declared.answer.Answer.{Answer}
 use Rattle.apk_front.specs.declared.answer.Answer.TheVariants.{Ok, TreeFault}
 use Rattle.base_core.specs.Calls.{HoldsNow}
@@ -58,12 +58,12 @@ pub record IsRunFrom (v : TreeState) (run : Run) : Type 0 where
   -- the run begins in the state v
   pub begins : HoldsNow run.old (λ u. u ≡ v)
   -- the answer, the bytes printed and the files left are an outcome's; or a call failed, and this is answered
-  pub stated : IsAnswerOfSomeOutcome (IsOutcomeFrom v run) (LeavesFiles run.now)
+  pub stated : IsAnswerOfSomeOutcomeOrFailure (IsOutcomeFrom v run) (LeavesFiles run.now)
       (IsFaultCountedWithCause run.before run.after) run.answer run.out run.err
   -- a command that only reads leaves the tree unchanged
   pub same : IsTrue (reads_only (command_of run.words)) → run.now ≡ run.old
   -- with nothing to recover, a run that is refused, runs out of memory or commits nothing writes nothing
-  pub idle : IsRefusedOrCommitsNothing (IsOutcomeFrom v run) run.answer
+  pub idle : IsRefusedOutOfMemoryOrCommitsNothing (IsOutcomeFrom v run) run.answer
       → HasNothingToRecover (effect_of_arguments (command_of run.words)) v → run.now ≡ run.old
   -- if the intent (journal entry) is bad, nothing is written
   pub bad_intent : IsSome (recovery_fault (effect_of_arguments (command_of run.words)) (files_of v))
@@ -77,7 +77,8 @@ pub record IsRunFrom (v : TreeState) (run : Run) : Type 0 where
   pub last : IsSome (v.names intent_name)
       → Since (NamesAreDurableWithoutIntentExcept (output run.words)) run.old run.now
   -- a run that is refused, runs out of memory or commits nothing leaves the state of a durable tree unchanged
-  pub left : IsRefusedOrCommitsNothing (IsOutcomeFrom v run) run.answer → (ignored : List ℕ → Bool)
+  pub left : IsRefusedOutOfMemoryOrCommitsNothing (IsOutcomeFrom v run) run.answer
+      → (ignored : List ℕ → Bool)
       → IsDurable (StateDependsOn ignored) v → Since (StateIsUnchanged ignored v) run.old run.now
   -- a crash of a durable tree during the run leaves an old state, or that of an outcome that commits
   pub crash : (ignored : List ℕ → Bool)
@@ -188,7 +189,7 @@ Reaches first (event ∷ earlier) w =
 -- nothing; or the run has no output, and no outcome that commits.
 abbrev pub IsRunWithoutCommit : TreeState → Run → Type 0
 IsRunWithoutCommit v run =
-    IsRefusedOrCommitsNothing (IsOutcomeFrom v run) run.answer
+    IsRefusedOutOfMemoryOrCommitsNothing (IsOutcomeFrom v run) run.answer
     ⊎ ((output run.words ≡ None) × (HasOutcomeThatCommits v run → ⊥))
 
 -- the event, which finds the state v, is a crash, a run that commits nothing, or a touch by others
@@ -215,7 +216,8 @@ abbrev pub EnsuresOneCrashState : TreeState → RootEvent → Type 0
 EnsuresOneCrashState v (Ends run) =
     IsOkRefusedOrOutputFault run.answer
     × (HasOutcomeThatCommits v run
-    ⊎ ((output run.words ≡ None) × CanRecover (effect_of_arguments (command_of run.words)) v))
+    ⊎ ((output run.words ≡ None)
+    × FindsValidIntentToRecover (effect_of_arguments (command_of run.words)) v))
 EnsuresOneCrashState v (Stops run) = ⊥
 EnsuresOneCrashState v Crashes = Unit {0}
 EnsuresOneCrashState v Edits = Unit {0}
@@ -306,12 +308,12 @@ ignored_after ignored (Touches theirs ∷ earlier) =
 
 -- In a list of events, the newest first: since the last crash or edit, no run with an output was stopped or ended by an
 -- I/O error of the tree. Since then, others touched nothing. (After a crash or an edit all files are synced.)
-abbrev pub HasNoUnfinishedOutputSinceSync : List RootEvent → Type 0
-HasNoUnfinishedOutputSinceSync [] = Unit {0}
-HasNoUnfinishedOutputSinceSync (Ends run ∷ earlier) =
-    (run.answer ≡ TreeFault → output run.words ≡ None) × HasNoUnfinishedOutputSinceSync earlier
-HasNoUnfinishedOutputSinceSync (Stops run ∷ earlier) =
-    (output run.words ≡ None) × HasNoUnfinishedOutputSinceSync earlier
-HasNoUnfinishedOutputSinceSync (Crashes ∷ earlier) = Unit {0}
-HasNoUnfinishedOutputSinceSync (Edits ∷ earlier) = Unit {0}
-HasNoUnfinishedOutputSinceSync (Touches theirs ∷ earlier) = ⊥
+abbrev pub HasNoUnfinishedOutputOrTouchSinceSync : List RootEvent → Type 0
+HasNoUnfinishedOutputOrTouchSinceSync [] = Unit {0}
+HasNoUnfinishedOutputOrTouchSinceSync (Ends run ∷ earlier) =
+    (run.answer ≡ TreeFault → output run.words ≡ None) × HasNoUnfinishedOutputOrTouchSinceSync earlier
+HasNoUnfinishedOutputOrTouchSinceSync (Stops run ∷ earlier) =
+    (output run.words ≡ None) × HasNoUnfinishedOutputOrTouchSinceSync earlier
+HasNoUnfinishedOutputOrTouchSinceSync (Crashes ∷ earlier) = Unit {0}
+HasNoUnfinishedOutputOrTouchSinceSync (Edits ∷ earlier) = Unit {0}
+HasNoUnfinishedOutputOrTouchSinceSync (Touches theirs ∷ earlier) = ⊥

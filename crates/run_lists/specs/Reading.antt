@@ -17,7 +17,7 @@ use Rattle.run_lists.specs.Events.{Crashes, Edits, Ends, RootEvent, IsMomentOf, 
 -- ---- at each moment of a run
 
 -- the name q is neither that of the intent, nor of a staged file, nor a temporary name of the run
-pub record IsNoJournalOrDraftName (run : Run) (q : List ℕ) : Type 0 where
+pub record IsNoJournalOrTemporaryName (run : Run) (q : List ℕ) : Type 0 where
   -- the name is not that of the intent or of a staged file
   pub waits : IsJournalName q → ⊥
   -- the name is no temporary name, under which the run makes a new file
@@ -79,7 +79,7 @@ pub record HoldsAsReadAndAsRecovered (test : Option (List ℕ) → Bool) (q : Li
 pub record EachCommitPassesTestAtName (test : Option (List ℕ) → Bool) (q : List ℕ) (v : TreeState)
     (run : Run) : Type 0 where
   -- q is no name of the journal, and no temporary name of the run
-  pub no_draft : IsNoJournalOrDraftName run q
+  pub no_draft : IsNoJournalOrTemporaryName run q
   -- the test holds of the file in each outcome of the run that commits
   pub outcomes : (outcome : Outcome) → IsOutcomeFrom v run outcome → outcome.commits ≡ true
       → test (outcome.files q) ≡ true

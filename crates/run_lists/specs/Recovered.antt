@@ -21,26 +21,26 @@ use Rattle.run_lists.specs.Reading.{HasBadIntent}
 -- ---- no bad intent
 
 -- no crash leaves a bad intent, so none is read either
-abbrev pub LeavesNoBadIntent : TreeState → Type 0
-LeavesNoBadIntent v = (image : Files) → IsCrashImage v image → HasBadIntent image → ⊥
+abbrev pub EachCrashLeavesNoBadIntent : TreeState → Type 0
+EachCrashLeavesNoBadIntent v = (image : Files) → IsCrashImage v image → HasBadIntent image → ⊥
 
 -- if the event is an edit of files by others, there is no bad intent in the files of w, the state after it
-abbrev pub PutsNoBadIntent : RootEvent → TreeState → Type 0
-PutsNoBadIntent (Ends run) w = Unit {0}
-PutsNoBadIntent (Stops run) w = Unit {0}
-PutsNoBadIntent Crashes w = Unit {0}
-PutsNoBadIntent Edits w = HasBadIntent (files_of w) → ⊥
-PutsNoBadIntent (Touches theirs) w = Unit {0}
+abbrev pub PutsNoBadIntentIfEditByOthers : RootEvent → TreeState → Type 0
+PutsNoBadIntentIfEditByOthers (Ends run) w = Unit {0}
+PutsNoBadIntentIfEditByOthers (Stops run) w = Unit {0}
+PutsNoBadIntentIfEditByOthers Crashes w = Unit {0}
+PutsNoBadIntentIfEditByOthers Edits w = HasBadIntent (files_of w) → ⊥
+PutsNoBadIntentIfEditByOthers (Touches theirs) w = Unit {0}
 
 -- a root that was in the state `first` has seen these events, the newest first, and is in state w; after no edit by
 -- others was there a bad intent
-abbrev pub ReachesWithoutBadIntent : TreeState → List RootEvent → TreeState → Type 0
-ReachesWithoutBadIntent first [] w = w ≡ first
-ReachesWithoutBadIntent first (event ∷ earlier) w =
+abbrev pub ReachesWithNoBadIntentPutByOthers : TreeState → List RootEvent → TreeState → Type 0
+ReachesWithNoBadIntentPutByOthers first [] w = w ≡ first
+ReachesWithNoBadIntentPutByOthers first (event ∷ earlier) w =
     (v : TreeState)
-    × ReachesWithoutBadIntent first earlier v
+    × ReachesWithNoBadIntentPutByOthers first earlier v
     × IsTransition v event w
-    × PutsNoBadIntent event w
+    × PutsNoBadIntentIfEditByOthers event w
 
 -- the run does not answer that the intent is bad
 abbrev pub IsNotRefusedForIntent : Run → Type 0

@@ -14,9 +14,9 @@ ghost use Rattle.apk_front.specs.outcome.Effect.{does_recover, effect_of_argumen
 ghost use Rattle.apk_front.specs.outcome.Outcome.{Outcome};
 ghost use Rattle.apk_front.specs.outcome.Words.{IsOutcome};
 ghost use Rattle.apk_front.specs.outcome.Work.{recovery_fault};
-ghost use Rattle.run_lists.specs.Events.{AreNamesAmong, RootEvent, HasNoUnfinishedOutputSinceSync, HasNoUnfinishedRunSinceCrash, Reaches, ReachesWithoutCommit, ReachesOneCrashState, IsRunWithoutCommit, IsMomentOf, IsOutcomeFrom, IsRunFrom, IsPossibleStop, Run, ignored_after, ignored_during_run, nothing_ignored, ignored_with_all_touched, ignored_with_scratch};
-ghost use Rattle.run_lists.specs.Reading.{HasBadIntent, HasOldRecoveredOrOutcomeBytes, ReachesByRuns, IsUnrestrictedRun, HasDurableRecoveredOrOutcomeBytes, IsNoJournalOutputOrIgnoredName, IsNoJournalOrDraftName, HoldsAsReadAndAsRecovered, EachCommitPassesTestAtName};
-ghost use Rattle.run_lists.specs.Recovered.{ReachesWithoutBadIntent, HasStateOfCrashBeforeOrOutcome, HasSameState, IsRecoveredBy, IsNotRefusedForIntent, LeavesNoBadIntent};
+ghost use Rattle.run_lists.specs.Events.{AreNamesAmong, RootEvent, HasNoUnfinishedOutputOrTouchSinceSync, HasNoUnfinishedRunSinceCrash, Reaches, ReachesWithoutCommit, ReachesOneCrashState, IsRunWithoutCommit, IsMomentOf, IsOutcomeFrom, IsRunFrom, IsPossibleStop, Run, ignored_after, ignored_during_run, nothing_ignored, ignored_with_all_touched, ignored_with_scratch};
+ghost use Rattle.run_lists.specs.Reading.{HasBadIntent, HasOldRecoveredOrOutcomeBytes, ReachesByRuns, IsUnrestrictedRun, HasDurableRecoveredOrOutcomeBytes, IsNoJournalOutputOrIgnoredName, IsNoJournalOrTemporaryName, HoldsAsReadAndAsRecovered, EachCommitPassesTestAtName};
+ghost use Rattle.run_lists.specs.Recovered.{ReachesWithNoBadIntentPutByOthers, HasStateOfCrashBeforeOrOutcome, HasSameState, IsRecoveredBy, IsNotRefusedForIntent, EachCrashLeavesNoBadIntent};
 ghost use Rattle.run_lists.specs.Safety.{HasStateAsReadOrOutcome, IsAtomicAfterAnyEvents, IsSafeAfterAnyEvents};
 ghost use Rattle.apk_front.specs.words_core.Grammar.{command_of};
 
@@ -55,7 +55,7 @@ pub fn a_run_is_safe_after_any_events()
     // On an ordinary root no name is ignored at first. None becomes ignored until a run with an
     // output is stopped, or ends by an I/O error of the tree.
     ensures ordinary { (events : List RootEvent) (q : List ℕ)
-        → HasNoUnfinishedOutputSinceSync events
+        → HasNoUnfinishedOutputOrTouchSinceSync events
         → ignored_after nothing_ignored events q ≡ false }
 
     // The next run is safe after any such list (*IsSafeRun*).
@@ -138,7 +138,7 @@ pub fn each_name_keeps_old_recovered_or_new_bytes()
     // At each moment of a run each name has its old bytes, its recovered ones, or those of an
     // outcome that commits. Names of the journal and temporary names are left out.
     ensures moments { (v m : TreeState) (run : Run) (q : List ℕ) → IsRunFrom v run
-        → IsMomentOf run m → IsNoJournalOrDraftName run q
+        → IsMomentOf run m → IsNoJournalOrTemporaryName run q
         → HasOldRecoveredOrOutcomeBytes v run m q }
 
     // An outcome that commits leaves no file under the intent's name.
@@ -201,14 +201,16 @@ pub fn no_events_leave_a_bad_intent()
     // If no crash could leave a bad intent at first, none can after the events.
     ensures along { (ignored : List ℕ → Bool) (first v : TreeState) (events : List RootEvent)
         → ignored intent_name ≡ false → IsDurable (StateDependsOn ignored) first
-        → LeavesNoBadIntent first → ReachesWithoutBadIntent first events v → LeavesNoBadIntent v }
+        → EachCrashLeavesNoBadIntent first → ReachesWithNoBadIntentPutByOthers first events v
+        → EachCrashLeavesNoBadIntent v }
 
     // So recovery finds no fault in the intent, whatever the command line is.
-    ensures recovers { (v : TreeState) (words : List (List ℕ)) → LeavesNoBadIntent v
+    ensures recovers { (v : TreeState) (words : List (List ℕ)) → EachCrashLeavesNoBadIntent v
         → recovery_fault (effect_of_arguments (command_of words)) (files_of v) ≡ None }
     // A run that recovers does not answer that an intent is bad.
     ensures unrefused { (v : TreeState) (run : Run) → IsRunFrom v run
-        → does_recover (effect_of_arguments (command_of run.words)) ≡ true → LeavesNoBadIntent v
+        → does_recover (effect_of_arguments (command_of run.words)) ≡ true
+        → EachCrashLeavesNoBadIntent v
         → IsNotRefusedForIntent run }
 {
     // Laws that the proof needs; they have no effect at run time.
@@ -231,7 +233,7 @@ pub fn a_stopped_run_is_recovered()
     ensures recovered { (ignored : List ℕ → Bool) (first v m w : TreeState)
         (events later : List RootEvent) (run next : Run) → ignored intent_name ≡ false
         → IsDurable (StateDependsOn ignored) first
-        → LeavesNoBadIntent first → ReachesWithoutBadIntent first events v
+        → EachCrashLeavesNoBadIntent first → ReachesWithNoBadIntentPutByOthers first events v
         → IsRunFrom v run → IsPossibleStop run m → ReachesWithoutCommit m later w
         → IsRunFrom w next → does_recover (effect_of_arguments (command_of next.words)) ≡ true
         → let names = ignored_during_run run (ignored_after ignored events) in
@@ -243,7 +245,7 @@ pub fn a_stopped_run_is_recovered()
     ensures left { (ignored : List ℕ → Bool) (first v m w : TreeState)
         (events later : List RootEvent) (run next : Run) → ignored intent_name ≡ false
         → IsDurable (StateDependsOn ignored) first
-        → LeavesNoBadIntent first → ReachesWithoutBadIntent first events v
+        → EachCrashLeavesNoBadIntent first → ReachesWithNoBadIntentPutByOthers first events v
         → IsRunFrom v run → IsPossibleStop run m → ReachesWithoutCommit m later w
         → IsRunFrom w next → does_recover (effect_of_arguments (command_of next.words)) ≡ true
         → let names = ignored_during_run run (ignored_after ignored events) in

@@ -13,13 +13,13 @@ use Rattle.std.proofs.lemmas.Bool.{cases_lt, and_parts, or_cases, cases_Bool}
 use Rattle.std.proofs.lemmas.Map.Text.{is_eq-slice_cmp}
 use Rattle.search_tables.proofs.pool_core.Filtered.{meeting_offers}
 use Rattle.dep_core.specs.Dependency.{Dependency}
-use Rattle.search_tables.specs.candidate_core.Candidates.{Candidate, Need, entry, has_usable_install_if, named, offers_name, meets_dependency}
+use Rattle.search_tables.specs.candidate_core.Candidates.{Candidate, Need, entry, is_eligible_with_positive_install_if, named, offers_name, meets_dependency}
 use Rattle.search_tables.specs.candidate_core.Rank.{SealedPool, bytes_cmp, candidate_at, meets_at}
 use Rattle.search_tables.specs.candidate_core.Options.{IsIn, options_for}
 use Rattle.search_tables.proofs.candidate_core.Places.{place_of}
-use Rattle.search_tables.specs.Selection.{AreAllMembersOf, is_met, is_unmet, names_by_install_if, install_if_applies, least_name, lesser_name, needs, next_need, needs_of_world_and_chosen}
+use Rattle.search_tables.specs.Selection.{AreAllMembersOf, is_met, is_unmet, names_whose_install_if_applies, install_if_applies, least_name, lesser_name, needs, next_need, needs_of_world_and_chosen}
 use Rattle.search_tables.specs.Reasons.{FrameValue, IsFrameOf}
-use Rattle.search_tables.specs.InstallIf.{AreUsableInstallIfsByName, AreNoneTriggeredBelow, IsLeastTriggeredInstallIf, IsNoInstallIfTriggered, all_met, is_install_if_triggered_at, is_triggered_by_install_if, has_lesser_name, install_if_at, has_usable_install_if_at, name_at, is_install_if_triggered_at_rank}
+use Rattle.search_tables.specs.InstallIf.{AreUsableInstallIfsByName, AreNoneTriggeredBelow, IsLeastTriggeredInstallIf, IsNoInstallIfTriggered, all_met, is_install_if_triggered_at, is_triggered_by_install_if, has_lesser_name, install_if_at, is_eligible_with_positive_install_if_at, name_at, is_install_if_triggered_at_rank}
 use Rattle.search_tables.specs.NameTable.{items_under_name}
 use Rattle.search_tables.specs.Queue.{is_unmet_dep, queue_of}
 use Rattle.search_tables.proofs.Theory.{in_append, in_right, none_or_some}
@@ -162,30 +162,30 @@ offered_names name c h = elim (or_cases (bytes_eq name c.name) (list_any (λ (p 
 -- ---- the least name
 
 abbrev asked_names : SealedPool → List ℕ → List (List ℕ)
-asked_names pool t = filter (λ (name : List ℕ). is_unmet pool t (named name)) (names_by_install_if pool t)
+asked_names pool t = filter (λ (name : List ℕ). is_unmet pool t (named name)) (names_whose_install_if_applies pool t)
 
-asked_by : (pool : SealedPool) (t : List ℕ) (name : List ℕ) → IsIn name (asked_names pool t) → (o : ℕ) × (name ≡ name_at pool o) × (has_usable_install_if_at pool o ≡ true) × (is_install_if_triggered_at pool t o ≡ true)
+asked_by : (pool : SealedPool) (t : List ℕ) (name : List ℕ) → IsIn name (asked_names pool t) → (o : ℕ) × (name ≡ name_at pool o) × (is_eligible_with_positive_install_if_at pool o ≡ true) × (is_install_if_triggered_at pool t o ≡ true)
 asked_by pool t name h =
-    let f = filter_in (λ (n : List ℕ). is_unmet pool t (named n)) name (names_by_install_if pool t) h in
+    let f = filter_in (λ (n : List ℕ). is_unmet pool t (named n)) name (names_whose_install_if_applies pool t) h in
     let m = map_in (λ (c : Candidate). c.name) name (filter (install_if_applies pool t) pool.candidates) f.0 in
     let g = filter_in (install_if_applies pool t) m.0 pool.candidates m.1 in
-    let both = and_parts (has_usable_install_if pool.world m.0) (all_met pool t m.0.install_if) g.1 in
+    let both = and_parts (is_eligible_with_positive_install_if pool.world m.0) (all_met pool t m.0.install_if) g.1 in
     let k = place_of pool.candidates m.0 g.0 in
     let unmet : is_unmet pool t (named m.0.name) ≡ true = subst (λ (n : List ℕ). is_unmet pool t (named n) ≡ true) m.2 f.1 in (
       k.0,
       m.2 ∙ sym (ap (λ (o : Option Candidate). option_map_or (λ (c : Candidate). c.name) o []) k.1),
-      some_at (has_usable_install_if pool.world) (candidate_at pool k.0) m.0 k.1 ∙ both.0,
+      some_at (is_eligible_with_positive_install_if pool.world) (candidate_at pool k.0) m.0 k.1 ∙ both.0,
       some_at (is_triggered_by_install_if pool t) (candidate_at pool k.0) m.0 k.1 ∙ rw both.1 unmet,
     )
 
-asked_there : (pool : SealedPool) (t : List ℕ) (o : ℕ) → has_usable_install_if_at pool o ≡ true → is_install_if_triggered_at pool t o ≡ true → IsIn (name_at pool o) (asked_names pool t)
+asked_there : (pool : SealedPool) (t : List ℕ) (o : ℕ) → is_eligible_with_positive_install_if_at pool o ≡ true → is_install_if_triggered_at pool t o ≡ true → IsIn (name_at pool o) (asked_names pool t)
 asked_there pool t o usable asks =
-    let one = at_some (has_usable_install_if pool.world) (candidate_at pool o) usable in
+    let one = at_some (is_eligible_with_positive_install_if pool.world) (candidate_at pool o) usable in
     let both = and_parts (all_met pool t one.0.install_if) (is_unmet pool t (named one.0.name)) (sym (some_at (is_triggered_by_install_if pool t) (candidate_at pool o) one.0 one.1) ∙ asks) in
     let applies : install_if_applies pool t one.0 ≡ true = rw one.2 both.0 in
     let name : name_at pool o ≡ one.0.name = ap (λ (z : Option Candidate). option_map_or (λ (c : Candidate). c.name) z []) one.1 in
     subst (λ (n : List ℕ). IsIn n (asked_names pool t)) (sym name)
-    (in_filter (λ (n : List ℕ). is_unmet pool t (named n)) one.0.name (names_by_install_if pool t)
+    (in_filter (λ (n : List ℕ). is_unmet pool t (named n)) one.0.name (names_whose_install_if_applies pool t)
     (in_map (λ (c : Candidate). c.name) one.0 (filter (install_if_applies pool t) pool.candidates) (in_filter (install_if_applies pool t) one.0 pool.candidates (there_is pool.candidates o one.0 one.1).1 applies)) both.1)
 
 same_name : (x y : List ℕ) → is_lt (bytes_cmp x y) ≡ false → is_lt (bytes_cmp y x) ≡ false → x ≡ y
@@ -233,7 +233,7 @@ unfolding next_need
 none_asked pool t met none = rw (none_raised pool t met) (ap (option_map named) (none_named pool t none))
 
 pub least_within : (pool : SealedPool) (t : List ℕ) (k : ℕ) → IsLeastTriggeredInstallIf pool t k → k < length pool.candidates
-least_within pool t k is = passing_is_within pool (has_usable_install_if pool.world) k is.usable
+least_within pool t k is = passing_is_within pool (is_eligible_with_positive_install_if pool.world) k is.usable
 
 -- the entries of the asking candidate's install-if are met
 pub asks_all : (pool : SealedPool) (t : List ℕ) (k : ℕ) (c : Candidate) → IsLeastTriggeredInstallIf pool t k → candidate_at pool k ≡ Some c → all_met pool t c.install_if ≡ true
@@ -246,10 +246,10 @@ unfolding next_need
 open_asked pool t k c by frame met least here within all is =
     let name : name_at pool k ≡ c.name = ap (λ (o : Option Candidate). option_map_or (λ (x : Candidate). x.name) o []) here in
     let names : least_name (asked_names pool t) ≡ Some c.name = least_named pool t k least ∙ ap Some name in
-    let usable : has_usable_install_if pool.world c ≡ true = sym (some_at (has_usable_install_if pool.world) (candidate_at pool k) c here) ∙ least.usable in
+    let usable : is_eligible_with_positive_install_if pool.world c ≡ true = sym (some_at (is_eligible_with_positive_install_if pool.world) (candidate_at pool k) c here) ∙ least.usable in
     let applies : install_if_applies pool by c ≡ true = rw usable all in
-    let there : IsIn c.name (names_by_install_if pool by) = in_map (λ (x : Candidate). x.name) c (filter (install_if_applies pool by) pool.candidates) (in_filter (install_if_applies pool by) c pool.candidates (there_is pool.candidates k c here).1 applies) in
-    let need : IsIn (named c.name) (needs pool by) = in_right (named c.name) (needs_of_world_and_chosen pool by) (map named (names_by_install_if pool by)) (in_map named c.name (names_by_install_if pool by) there) in
+    let there : IsIn c.name (names_whose_install_if_applies pool by) = in_map (λ (x : Candidate). x.name) c (filter (install_if_applies pool by) pool.candidates) (in_filter (install_if_applies pool by) c pool.candidates (there_is pool.candidates k c here).1 applies) in
+    let need : IsIn (named c.name) (needs pool by) = in_right (named c.name) (needs_of_world_and_chosen pool by) (map named (names_whose_install_if_applies pool by)) (in_map named c.name (names_whose_install_if_applies pool by) there) in
     let open_now : IsFrameOf pool t ([], options_for pool (named c.name), by) =
     (named c.name, rw (none_raised pool t met) (ap (option_map named) names), refl, within, need, tt) in
     subst (λ (f : FrameValue). IsFrameOf pool t f) (sym is) open_now

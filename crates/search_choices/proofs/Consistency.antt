@@ -11,7 +11,7 @@ use Rattle.search_tables.specs.candidate_core.Candidates.{is_eligible}
 use Rattle.search_tables.specs.Reasons.{IsFrameTaking, ruled_out_options}
 use Rattle.std.proofs.lemmas.Bool.{cases_Bool}
 use Rattle.search_tables.specs.candidate_core.Options.{IsIn, options_for}
-use Rattle.search_tables.specs.Selection.{AreAllMembersOf, names_by_install_if, depends_at, is_met, is_unmet, needs, positive_needs, next_need, needs_of_world_and_chosen}
+use Rattle.search_tables.specs.Selection.{AreAllMembersOf, names_whose_install_if_applies, depends_at, is_met, is_unmet, needs, positive_needs, next_need, needs_of_world_and_chosen}
 use Rattle.search_tables.specs.Reasons.{FrameValue, IsFrameOf}
 use Rattle.search_tables.specs.InstallIf.{AreUsableInstallIfsByName, AreNoneTriggeredBelow}
 use Rattle.search_tables.specs.Queue.{AreFirstDepsMet, RaisedDepValue, is_unmet_dep, queue_of, raised_deps_at, raised_deps, raised_deps_from}
@@ -292,13 +292,13 @@ in_needs pool t r h = elim (in_append r (raised_deps None pool.world) (flat_map 
   | inl a ↦
       let k = raised_in None 0 pool.world r a in
       subst (λ (o : Option ℕ). AreAllMembersOf (option_to_list o) t × IsIn (entry r.0) (needs pool (option_to_list o))) (sym k.0)
-      ((λ c g. absurd g), in_left (entry r.0) (needs_of_world_and_chosen pool []) (map named (names_by_install_if pool [])) (in_left (entry r.0) (positive_needs pool.world) [] k.1))
+      ((λ c g. absurd g), in_left (entry r.0) (needs_of_world_and_chosen pool []) (map named (names_whose_install_if_applies pool [])) (in_left (entry r.0) (positive_needs pool.world) [] k.1))
   | inr b ↦
       let f = flat_in (raised_deps_at pool) r t b in
       let k = raised_in (Some f.0) 0 (depends_at pool f.0) r f.2 in
       subst (λ (o : Option ℕ). AreAllMembersOf (option_to_list o) t × IsIn (entry r.0) (needs pool (option_to_list o))) (sym k.0) (
         (λ c g. elim g [ inl e ↦ subst (λ (z : ℕ). IsIn z t) (sym e) f.1 | inr bad ↦ absurd bad ]),
-        in_left (entry r.0) (needs_of_world_and_chosen pool (f.0 ∷ [])) (map named (names_by_install_if pool (f.0 ∷ []))) (in_right (entry r.0) (positive_needs pool.world) (positive_needs (depends_at pool f.0) ++ []) (in_left (entry r.0) (positive_needs (depends_at pool f.0)) [] k.1)),
+        in_left (entry r.0) (needs_of_world_and_chosen pool (f.0 ∷ [])) (map named (names_whose_install_if_applies pool (f.0 ∷ []))) (in_right (entry r.0) (positive_needs pool.world) (positive_needs (depends_at pool f.0) ++ []) (in_left (entry r.0) (positive_needs (depends_at pool f.0)) [] k.1)),
       )
 ]
 

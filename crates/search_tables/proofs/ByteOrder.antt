@@ -8,10 +8,10 @@ use Rattle.std.specs.Cmp.Lexicographic.{nat_list_cmp_total}
 use Rattle.std.proofs.lemmas.Bool.{cases_lt, eq-eqb, eqb-true}
 use Rattle.std.proofs.lemmas.List.Sorted.{list_any-IsPermutation, ranks_by, sorted_far}
 use Rattle.dep_core.specs.Dependency.{Dependency}
-use Rattle.pool_core.specs.candidate_core.Candidates.{has_usable_install_if}
+use Rattle.pool_core.specs.candidate_core.Candidates.{is_eligible_with_positive_install_if}
 use Rattle.pool_core.specs.candidate_core.Rank.{SealedPool}
-use Rattle.pool_core.specs.candidate_core.Options.{AreAllMembersOf, IsIn, places_passing_from}
-use Rattle.search_tables.specs.InstallIf.{has_lesser_name, install_if_at, has_usable_install_if_at, name_at}
+use Rattle.pool_core.specs.candidate_core.Options.{AreAllMembersOf, IsIn, places_passing_counted_from}
+use Rattle.search_tables.specs.InstallIf.{has_lesser_name, install_if_at, is_eligible_with_positive_install_if_at, name_at}
 use Rattle.search_tables.specs.NameTable.{items_under_name}
 use Rattle.pool_core.proofs.candidate_core.OptionLists.{in_places, places_in}
 use Rattle.search_tables.proofs.Satisfying.{any_one, one_any}
@@ -29,16 +29,16 @@ pub sorted_in : (xs ys : List ℕ) → IsPermutation xs ys → AreAllMembersOf y
 sorted_in xs ys same k h = moved ys xs k (sym (list_any-IsPermutation (λ x. k == x) xs ys same)) h
 
 module _ (pool : SealedPool) where
-  pub usable_there : (k : ℕ) → IsIn k (places_passing_from 0 (has_usable_install_if pool.world) pool.candidates) → has_usable_install_if_at pool k ≡ true
+  pub usable_there : (k : ℕ) → IsIn k (places_passing_counted_from 0 (is_eligible_with_positive_install_if pool.world) pool.candidates) → is_eligible_with_positive_install_if_at pool k ≡ true
   usable_there k h =
-      let r = places_in 0 (has_usable_install_if pool.world) pool.candidates k h in
+      let r = places_in 0 (is_eligible_with_positive_install_if pool.world) pool.candidates k h in
       let z : r.0 ≡ k = omega (arith, r.1) in
-      subst (λ (j : ℕ). has_usable_install_if_at pool j ≡ true) z r.2
+      subst (λ (j : ℕ). is_eligible_with_positive_install_if_at pool j ≡ true) z r.2
 
-  pub there_usable : (k : ℕ) → has_usable_install_if_at pool k ≡ true → IsIn k (places_passing_from 0 (has_usable_install_if pool.world) pool.candidates)
+  pub there_usable : (k : ℕ) → is_eligible_with_positive_install_if_at pool k ≡ true → IsIn k (places_passing_counted_from 0 (is_eligible_with_positive_install_if pool.world) pool.candidates)
   there_usable k h =
       let z : 0 + k ≡ k = omega arith in
-      subst (λ (j : ℕ). IsIn j (places_passing_from 0 (has_usable_install_if pool.world) pool.candidates)) z (in_places 0 (has_usable_install_if pool.world) pool.candidates k h)
+      subst (λ (j : ℕ). IsIn j (places_passing_counted_from 0 (is_eligible_with_positive_install_if pool.world) pool.candidates)) z (in_places 0 (is_eligible_with_positive_install_if pool.world) pool.candidates k h)
 
   pub names_weak : IsStrictWeakOrder (has_lesser_name pool)
   names_weak = ranks_by nat_list_cmp_total (name_at pool)

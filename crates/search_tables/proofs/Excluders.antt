@@ -13,7 +13,7 @@ use Rattle.dep_core.specs.Dependency.{Dependency}
 use Rattle.pool_core.specs.candidate_core.Candidates.{Candidate, entry, meets_dependency, occupies_name, offers_name}
 use Rattle.pool_core.specs.candidate_core.Rank.{SealedPool, candidate_at, candidate_at_passes, meets_at}
 use Rattle.pool_core.specs.candidate_core.Options.{IsIn}
-use Rattle.search_tables.specs.Selection.{exclude_each_other, depends_at, conflicts_with, is_met, occupied_names_at, occupied_names, does_exclude, share_a_name}
+use Rattle.search_tables.specs.Selection.{exclude_each_other, depends_at, is_conflict_of_first_met_by_second, is_met, occupied_names_at, occupied_names, does_exclude, share_a_name}
 use Rattle.search_tables.specs.Conflicts.{conflicts_in, conflicts_of_name_in}
 use Rattle.search_tables.specs.Excluders.{IsConflictTable, IsExcluderAmongChoices, IsNotExcludedAt}
 use Rattle.search_tables.specs.declared.conflicts.Conflicts.{Conflicts}
@@ -94,8 +94,8 @@ module _ (pool : SealedPool) (t : List ℕ) (id : ℕ) (details : Candidate) whe
       let who : g.0 ≡ k = sym (ap (λ (c : Listed). c.0) m.2) ∙ one.2 in
       let meets : meets_dependency m.0 details ≡ true = subst (λ (c : Listed). meets_dependency c.1 details ≡ true) m.2 f.1 in
       let meets_there : candidate_at_passes pool (meets_dependency m.0) id ≡ true = at_id here (meets_dependency m.0) ∙ meets in
-      let out : conflicts_with pool g.0 id ≡ true = one_any (λ (d : Dependency). d.conflict && candidate_at_passes pool (meets_dependency d) id) (depends_at pool g.0) m.0 h.0 (rw conflict meets_there) in
-      subst (λ (z : ℕ). IsExcluderAmongChoices pool t id z) who (excludes_by once g.0 g.1 (true_or (conflicts_with pool g.0 id) (share_a_name pool g.0 id) (inl out)))
+      let out : is_conflict_of_first_met_by_second pool g.0 id ≡ true = one_any (λ (d : Dependency). d.conflict && candidate_at_passes pool (meets_dependency d) id) (depends_at pool g.0) m.0 h.0 (rw conflict meets_there) in
+      subst (λ (z : ℕ). IsExcluderAmongChoices pool t id z) who (excludes_by once g.0 g.1 (true_or (is_conflict_of_first_met_by_second pool g.0 id) (share_a_name pool g.0 id) (inl out)))
     where
       some_of : (o : Option Listed) → Some k ≡ option_map (λ (c : Listed). c.0) o → (c : Listed) × (o ≡ Some c) × (c.0 ≡ k)
       some_of None e = absurd (cc)
@@ -120,14 +120,14 @@ module _ (pool : SealedPool) (t : List ℕ) (id : ℕ) (details : Candidate) whe
   found_occupant name k here once mine there occupies =
       let listed : IsIn name (occupied_names_at pool id) = subst (λ (z : List (List ℕ)). IsIn name z) (sym (names_of_id here)) mine in
       let share : share_a_name pool id k ≡ true = one_any (λ n. candidate_at_passes pool (occupies_name n) k) (occupied_names_at pool id) name listed occupies in
-      excludes_back once k there (true_or (conflicts_with pool id k) (share_a_name pool id k) (inr share))
+      excludes_back once k there (true_or (is_conflict_of_first_met_by_second pool id k) (share_a_name pool id k) (inr share))
 
   -- a choice that meets one of its conflicts excludes it
   pub found_meeting : (d : Dependency) (k : ℕ) → candidate_at pool id ≡ Some details → (IsIn id t → ⊥) → IsIn d details.depends → d.conflict ≡ true → IsIn k t → meets_at pool k (entry d) ≡ true → IsExcluderAmongChoices pool t id k
   found_meeting d k here once has conflict there meets =
       let mine : IsIn d (depends_at pool id) = subst (λ (z : List Dependency). IsIn d z) (sym (deps_of_id here)) has in
-      let out : conflicts_with pool id k ≡ true = one_any (λ (e : Dependency). e.conflict && candidate_at_passes pool (meets_dependency e) k) (depends_at pool id) d mine (rw conflict meets) in
-      excludes_back once k there (true_or (conflicts_with pool id k) (share_a_name pool id k) (inl out))
+      let out : is_conflict_of_first_met_by_second pool id k ≡ true = one_any (λ (e : Dependency). e.conflict && candidate_at_passes pool (meets_dependency e) k) (depends_at pool id) d mine (rw conflict meets) in
+      excludes_back once k there (true_or (is_conflict_of_first_met_by_second pool id k) (share_a_name pool id k) (inl out))
 
   -- no choice excludes it if all its names are free, and no choice meets a conflict of it
   pub no_excluder : candidate_at pool id ≡ Some details
@@ -149,7 +149,7 @@ module _ (pool : SealedPool) (t : List ℕ) (id : ℕ) (details : Candidate) whe
               both_ways (candidate_at_passes pool (occupies_name name) k) (subst (λ (n : List ℕ). candidate_at_passes pool (occupies_name n) k ≡ false) (sym m.2) ((provides m.0 f.0 (not_true m.0.conflict two.0)).1 two.1 k there)) occupies
         ] in
         absurd (elim (or_cases (does_exclude pool k id) (does_exclude pool id k) both.1) [
-          | inl a ↦ elim (or_cases (conflicts_with pool k id) (share_a_name pool k id) a) [
+          | inl a ↦ elim (or_cases (is_conflict_of_first_met_by_second pool k id) (share_a_name pool k id) a) [
             | inl x ↦
                 let one = any_one (λ (d : Dependency). d.conflict && candidate_at_passes pool (meets_dependency d) id) (depends_at pool k) x in
                 let two = and_parts one.0.conflict (candidate_at_passes pool (meets_dependency one.0) id) one.2 in
@@ -162,7 +162,7 @@ module _ (pool : SealedPool) (t : List ℕ) (id : ℕ) (details : Candidate) whe
                 let one = any_one (λ name. candidate_at_passes pool (occupies_name name) id) (occupied_names_at pool k) x in
                 shared one.0 (occupied_is_listed_at pool id one.0 one.2) (listed_is_occupied_at pool k one.0 one.1)
           ]
-          | inr b ↦ elim (or_cases (conflicts_with pool id k) (share_a_name pool id k) b) [
+          | inr b ↦ elim (or_cases (is_conflict_of_first_met_by_second pool id k) (share_a_name pool id k) b) [
             | inl x ↦
                 let one = any_one (λ (d : Dependency). d.conflict && candidate_at_passes pool (meets_dependency d) k) (depends_at pool id) x in
                 let two = and_parts one.0.conflict (candidate_at_passes pool (meets_dependency one.0) k) one.2 in

@@ -7,10 +7,10 @@ use Rattle.std.specs.Cmp.{nat_eq_equiv}
 use Rattle.std.specs.List.{filter, find, flat_map, list_all, list_any}
 use Rattle.std.proofs.lemmas.Bool.{cases_Bool}
 use Rattle.dep_core.specs.Dependency.{Dependency}
-use Rattle.pool_core.specs.candidate_core.Candidates.{Candidate, Need, entry, has_usable_install_if, named}
+use Rattle.pool_core.specs.candidate_core.Candidates.{Candidate, Need, entry, is_eligible_with_positive_install_if, named}
 use Rattle.pool_core.specs.candidate_core.Rank.{SealedPool, bytes_cmp, is_eligible_at, is_better, meets_at}
 use Rattle.pool_core.specs.candidate_core.Options.{IsIn, IsSortedBestFirst, options_for}
-use Rattle.search_tables.specs.Selection.{AreAllMembersOf, AreDistinct, exclude_each_other, names_by_install_if, install_if_applies, depends_at, is_met, is_unmet, does_exclude, least_name, lesser_name, needs, positive_needs, next_need, needs_of_world_and_chosen}
+use Rattle.search_tables.specs.Selection.{AreAllMembersOf, AreDistinct, exclude_each_other, names_whose_install_if_applies, install_if_applies, depends_at, is_met, is_unmet, does_exclude, least_name, lesser_name, needs, positive_needs, next_need, needs_of_world_and_chosen}
 use Rattle.search_tables.specs.Reasons.{AreCompatible}
 use Rattle.search_tables.specs.Reasons.{HasOptions}
 use Rattle.search_tables.proofs.Theory.{Sorted, sorted_split, in_left, in_right, in_append}
@@ -134,24 +134,24 @@ module _ (pool : SealedPool) where
       ]
 
   asks_mono : (t u : List ℕ) (c : Candidate) → AreAllMembersOf t u → install_if_applies pool t c ≡ true → install_if_applies pool u c ≡ true
-  asks_mono t u c sub h = elim (cases_Bool (has_usable_install_if pool.world c)) [
+  asks_mono t u c sub h = elim (cases_Bool (is_eligible_with_positive_install_if pool.world c)) [
     | inl e ↦ rw e (all_mono (λ (d : Dependency). is_met pool t (entry d)) (λ (d : Dependency). is_met pool u (entry d)) c.install_if (λ d. met_mono (entry d) t u sub) (rw e at h))
     | inr e ↦ let bad : false ≡ true = rw e at h in absurd (none_true bad)
   ]
 
-  asked_mono : (t u : List ℕ) (x : List ℕ) → AreAllMembersOf t u → IsIn x (names_by_install_if pool t) → IsIn x (names_by_install_if pool u)
+  asked_mono : (t u : List ℕ) (x : List ℕ) → AreAllMembersOf t u → IsIn x (names_whose_install_if_applies pool t) → IsIn x (names_whose_install_if_applies pool u)
   asked_mono t u x sub h =
       let name : Candidate → List ℕ = λ (c : Candidate). c.name in
       let m = map_in name x (filter (install_if_applies pool t) pool.candidates) h in
       let f = filter_in (install_if_applies pool t) m.0 pool.candidates m.1 in
-      subst (λ (z : List ℕ). IsIn z (names_by_install_if pool u)) (sym m.2) (in_map name m.0 (filter (install_if_applies pool u) pool.candidates) (in_filter (install_if_applies pool u) m.0 pool.candidates f.0 (asks_mono t u m.0 sub f.1)))
+      subst (λ (z : List ℕ). IsIn z (names_whose_install_if_applies pool u)) (sym m.2) (in_map name m.0 (filter (install_if_applies pool u) pool.candidates) (in_filter (install_if_applies pool u) m.0 pool.candidates f.0 (asks_mono t u m.0 sub f.1)))
 
   needs_mono : (t u : List ℕ) (q : Need) → AreAllMembersOf t u → IsIn q (needs pool t) → IsIn q (needs pool u)
-  needs_mono t u q sub h = elim (in_append q (needs_of_world_and_chosen pool t) (map named (names_by_install_if pool t)) h) [
-    | inl a ↦ in_left q (needs_of_world_and_chosen pool u) (map named (names_by_install_if pool u)) (raised_mono t u q sub a)
+  needs_mono t u q sub h = elim (in_append q (needs_of_world_and_chosen pool t) (map named (names_whose_install_if_applies pool t)) h) [
+    | inl a ↦ in_left q (needs_of_world_and_chosen pool u) (map named (names_whose_install_if_applies pool u)) (raised_mono t u q sub a)
     | inr b ↦
-        let m = map_in named q (names_by_install_if pool t) b in
-        in_right q (needs_of_world_and_chosen pool u) (map named (names_by_install_if pool u)) (subst (λ (z : Need). IsIn z (map named (names_by_install_if pool u))) (sym m.2) (in_map named m.0 (names_by_install_if pool u) (asked_mono t u m.0 sub m.1)))
+        let m = map_in named q (names_whose_install_if_applies pool t) b in
+        in_right q (needs_of_world_and_chosen pool u) (map named (names_whose_install_if_applies pool u)) (subst (λ (z : Need). IsIn z (map named (names_whose_install_if_applies pool u))) (sym m.2) (in_map named m.0 (names_whose_install_if_applies pool u) (asked_mono t u m.0 sub m.1)))
   ]
 
   some_or_none : {X : Type 0} (o : Option X) → (o ≡ None) ⊎ ((x : X) × (o ≡ Some x))
@@ -167,7 +167,7 @@ module _ (pool : SealedPool) where
   not_true false h = absurd (none_true (sym h))
 
   unmet_names : List ℕ → List (List ℕ)
-  unmet_names t = filter (λ (x : List ℕ). is_unmet pool t (named x)) (names_by_install_if pool t)
+  unmet_names t = filter (λ (x : List ℕ). is_unmet pool t (named x)) (names_whose_install_if_applies pool t)
 
   next_some : (t : List ℕ) (q : Need) → next_need pool t ≡ Some q → IsIn q (needs pool t) × (is_met pool t q ≡ false)
   unfolding next_need
@@ -176,19 +176,19 @@ module _ (pool : SealedPool) where
         let g : Some some.0 ≡ Some q = rw some.1 at h in
         let s : q ≡ some.0 = cc in
         let r = find_in (is_unmet pool t) (needs_of_world_and_chosen pool t) some.0 some.1 in (
-          in_left q (needs_of_world_and_chosen pool t) (map named (names_by_install_if pool t)) (subst (λ (z : Need). IsIn z (needs_of_world_and_chosen pool t)) (sym s) r.0),
+          in_left q (needs_of_world_and_chosen pool t) (map named (names_whose_install_if_applies pool t)) (subst (λ (z : Need). IsIn z (needs_of_world_and_chosen pool t)) (sym s) r.0),
           subst (λ (z : Need). is_met pool t z ≡ false) (sym s) (not_false (is_met pool t some.0) r.1),
         )
     | inl none ↦
         let g = rw none at h in
-        let names = filter (λ (x : List ℕ). is_unmet pool t (named x)) (names_by_install_if pool t) in
+        let names = filter (λ (x : List ℕ). is_unmet pool t (named x)) (names_whose_install_if_applies pool t) in
         elim (some_or_none (least_name names)) [
           | inl e ↦ let k : None ≡ Some q = subst (λ (o : Option (List ℕ)). option_map named o ≡ Some q) e g in absurd (cc)
           | inr some ↦
               let k : Some (named some.0) ≡ Some q = subst (λ (o : Option (List ℕ)). option_map named o ≡ Some q) some.1 g in
               let s : q ≡ named some.0 = cc in
-              let f = filter_in (λ (x : List ℕ). is_unmet pool t (named x)) some.0 (names_by_install_if pool t) (least_in names some.0 some.1) in (
-                in_right q (needs_of_world_and_chosen pool t) (map named (names_by_install_if pool t)) (subst (λ (z : Need). IsIn z (map named (names_by_install_if pool t))) (sym s) (in_map named some.0 (names_by_install_if pool t) f.0)),
+              let f = filter_in (λ (x : List ℕ). is_unmet pool t (named x)) some.0 (names_whose_install_if_applies pool t) (least_in names some.0 some.1) in (
+                in_right q (needs_of_world_and_chosen pool t) (map named (names_whose_install_if_applies pool t)) (subst (λ (z : Need). IsIn z (map named (names_whose_install_if_applies pool t))) (sym s) (in_map named some.0 (names_whose_install_if_applies pool t) f.0)),
                 subst (λ (z : Need). is_met pool t z ≡ false) (sym s) (not_false (is_met pool t (named some.0)) f.1),
               )
         ]
@@ -200,18 +200,18 @@ module _ (pool : SealedPool) where
     | inr some ↦ let g : Some some.0 ≡ None = rw some.1 at h in absurd (cc)
     | inl none ↦
         let g = rw none at h in
-        let names = filter (λ (x : List ℕ). is_unmet pool t (named x)) (names_by_install_if pool t) in
-        elim (in_append q (needs_of_world_and_chosen pool t) (map named (names_by_install_if pool t)) inside) [
+        let names = filter (λ (x : List ℕ). is_unmet pool t (named x)) (names_whose_install_if_applies pool t) in
+        elim (in_append q (needs_of_world_and_chosen pool t) (map named (names_whose_install_if_applies pool t)) inside) [
           | inl a ↦ not_true (is_met pool t q) (find_none (is_unmet pool t) (needs_of_world_and_chosen pool t) q none a)
           | inr b ↦
-              let m = map_in named q (names_by_install_if pool t) b in
+              let m = map_in named q (names_whose_install_if_applies pool t) b in
               let no_names : names ≡ [] = elim (some_or_none (least_name names)) [
                 | inl e ↦ least_none names e
                 | inr some ↦ let k : Some (named some.0) ≡ None = subst (λ (o : Option (List ℕ)). option_map named o ≡ None) some.1 g in absurd (cc)
               ] in
               elim (cases_Bool (is_met pool t (named m.0))) [
                 | inl e ↦ subst (λ (z : Need). is_met pool t z ≡ true) (sym m.2) e
-                | inr e ↦ absurd (subst (λ (z : List (List ℕ)). IsIn m.0 z) no_names (in_filter (λ (x : List ℕ). is_unmet pool t (named x)) m.0 (names_by_install_if pool t) m.1 (ap not e)))
+                | inr e ↦ absurd (subst (λ (z : List (List ℕ)). IsIn m.0 z) no_names (in_filter (λ (x : List ℕ). is_unmet pool t (named x)) m.0 (names_whose_install_if_applies pool t) m.1 (ap not e)))
               ]
         ]
   ]

@@ -11,7 +11,7 @@ use Rattle.dep_core.specs.Dependency.{Dependency}
 use Rattle.pool_core.specs.candidate_core.Candidates.{Candidate, Need, named, occupies_name}
 use Rattle.pool_core.specs.candidate_core.Rank.{SealedPool, candidate_at, candidate_at_passes}
 use Rattle.pool_core.specs.candidate_core.Options.{IsIn}
-use Rattle.search_tables.specs.Selection.{IsSatisfying, exclude_each_other, names_by_install_if, depends_at, conflicts_with, occupied_names_at, occupied_names, is_unmet, does_exclude, least_name, needs, positive_needs, next_need, needs_of_world_and_chosen, share_a_name}
+use Rattle.search_tables.specs.Selection.{IsSatisfying, exclude_each_other, names_whose_install_if_applies, depends_at, is_conflict_of_first_met_by_second, occupied_names_at, occupied_names, is_unmet, does_exclude, least_name, needs, positive_needs, next_need, needs_of_world_and_chosen, share_a_name}
 use Rattle.search_tables.specs.Reasons.{IsSolution}
 use Rattle.search_tables.proofs.Theory.{in_left, in_right, in_append}
 use Rattle.search_tables.proofs.PoolFacts.{filter_in, in_filter, in_map, map_in, flat_in, in_flat, next_none}
@@ -83,7 +83,7 @@ module _ (pool : SealedPool) where
 
   module _ (S : List ℕ) where
     kept_out : IsSatisfying pool S → (a b : ℕ) → IsIn a S → IsIn b S → a ≢ b → does_exclude pool a b ≡ true → ⊥
-    kept_out s a b ha hb n h = elim (or_cases (conflicts_with pool a b) (share_a_name pool a b) h) [
+    kept_out s a b ha hb n h = elim (or_cases (is_conflict_of_first_met_by_second pool a b) (share_a_name pool a b) h) [
       | inl e ↦ let no_way : true ≡ false = sym e ∙ s.no_conflict a b ha hb n in absurd (cc)
       | inr e ↦
           let one = any_one (λ name. candidate_at_passes pool (occupies_name name) b) (occupied_names_at pool a) e in
@@ -106,7 +106,7 @@ module _ (pool : SealedPool) where
           | inl a ↦ ap not (s.world_met q a)
           | inr b ↦ let r = flat_in of q S b in ap not (s.depends_met r.0 q r.1 r.2)
         ]) in
-        let second : filter (λ name. is_unmet pool S (named name)) (names_by_install_if pool S) ≡ [] = filter_nothing (λ name. is_unmet pool S (named name)) (names_by_install_if pool S) (λ name h. ap not (s.asked_met name h)) in
+        let second : filter (λ name. is_unmet pool S (named name)) (names_whose_install_if_applies pool S) ≡ [] = filter_nothing (λ name. is_unmet pool S (named name)) (names_whose_install_if_applies pool S) (λ name h. ap not (s.asked_met name h)) in
         rw first (ap (λ (names : List (List ℕ)). option_map named (least_name names)) second)
 
     pub closed_of_satisfying : IsSatisfying pool S → IsSolution pool S
@@ -141,15 +141,15 @@ module _ (pool : SealedPool) where
         record {
           once = clean.0;
           eligible = clean.1;
-          world_met = λ q h. all q (in_left q (needs_of_world_and_chosen pool S) (map named (names_by_install_if pool S)) (in_left q (positive_needs pool.world) (flat_map of S) h));
-          depends_met = λ k q hk h. all q (in_left q (needs_of_world_and_chosen pool S) (map named (names_by_install_if pool S)) (in_right q (positive_needs pool.world) (flat_map of S) (in_flat of q k S hk h)));
-          no_conflict = λ a b ha hb n. elim (cases_Bool (conflicts_with pool a b)) [
-            | inl e ↦ absurd (clean.2 a b ha hb (apart_of a b n (true_or (conflicts_with pool a b) (share_a_name pool a b) (inl e))))
+          world_met = λ q h. all q (in_left q (needs_of_world_and_chosen pool S) (map named (names_whose_install_if_applies pool S)) (in_left q (positive_needs pool.world) (flat_map of S) h));
+          depends_met = λ k q hk h. all q (in_left q (needs_of_world_and_chosen pool S) (map named (names_whose_install_if_applies pool S)) (in_right q (positive_needs pool.world) (flat_map of S) (in_flat of q k S hk h)));
+          no_conflict = λ a b ha hb n. elim (cases_Bool (is_conflict_of_first_met_by_second pool a b)) [
+            | inl e ↦ absurd (clean.2 a b ha hb (apart_of a b n (true_or (is_conflict_of_first_met_by_second pool a b) (share_a_name pool a b) (inl e))))
             | inr e ↦ e
           ];
           names_alone = λ a b name ha hb holds_a holds_b. elim (eqb_tells a b) [
             | inl e ↦ e.1
-            | inr n ↦ absurd (clean.2 a b ha hb (apart_of a b n.1 (true_or (conflicts_with pool a b) (share_a_name pool a b) (inr (one_any (λ x. candidate_at_passes pool (occupies_name x) b) (occupied_names_at pool a) name (occupied_is_listed_at a name holds_a) holds_b)))))
+            | inr n ↦ absurd (clean.2 a b ha hb (apart_of a b n.1 (true_or (is_conflict_of_first_met_by_second pool a b) (share_a_name pool a b) (inr (one_any (λ x. candidate_at_passes pool (occupies_name x) b) (occupied_names_at pool a) name (occupied_is_listed_at a name holds_a) holds_b)))))
           ];
-          asked_met = λ name h. all (named name) (in_right (named name) (needs_of_world_and_chosen pool S) (map named (names_by_install_if pool S)) (in_map named name (names_by_install_if pool S) h));
+          asked_met = λ name h. all (named name) (in_right (named name) (needs_of_world_and_chosen pool S) (map named (names_whose_install_if_applies pool S)) (in_map named name (names_whose_install_if_applies pool S) h));
         }

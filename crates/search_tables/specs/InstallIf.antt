@@ -7,7 +7,7 @@ use Rattle.std.specs.Option.{option_map_or}
 use Rattle.std.specs.List.{list_all}
 use Rattle.std.specs.Ordering.{is_lt}
 use Rattle.dep_core.specs.Dependency.{Dependency}
-use Rattle.pool_core.specs.candidate_core.Candidates.{Candidate, entry, has_usable_install_if, named}
+use Rattle.pool_core.specs.candidate_core.Candidates.{Candidate, entry, is_eligible_with_positive_install_if, named}
 use Rattle.pool_core.specs.candidate_core.Options.{IsIn}
 use Rattle.pool_core.specs.candidate_core.Rank.{SealedPool, bytes_cmp, candidate_at, candidate_at_passes}
 use Rattle.search_tables.specs.NameTable.{items_under_name}
@@ -29,8 +29,9 @@ is_install_if_triggered_at pool chosen k =
     candidate_at_passes pool (is_triggered_by_install_if pool chosen) k
 
 -- whether the candidate at a place has an install-if that can apply
-abbrev pub has_usable_install_if_at : SealedPool → ℕ → Bool
-has_usable_install_if_at pool k = candidate_at_passes pool (has_usable_install_if pool.world) k
+abbrev pub is_eligible_with_positive_install_if_at : SealedPool → ℕ → Bool
+is_eligible_with_positive_install_if_at pool k =
+    candidate_at_passes pool (is_eligible_with_positive_install_if pool.world) k
 
 -- the name of the candidate at a place; empty if there is none
 abbrev pub name_at : SealedPool → ℕ → List ℕ
@@ -51,9 +52,9 @@ pub record AreUsableInstallIfsByName (pool : SealedPool) (by_name : List ℕ)
     (waiting : List (List ℕ × List ℕ)) :
     Type 0 where
   -- each candidate of the list has an install-if that can apply
-  pub those : (k : ℕ) → IsIn k by_name → has_usable_install_if_at pool k ≡ true
+  pub those : (k : ℕ) → IsIn k by_name → is_eligible_with_positive_install_if_at pool k ≡ true
   -- the list has each candidate whose install-if can apply
-  pub each : (k : ℕ) → has_usable_install_if_at pool k ≡ true → IsIn k by_name
+  pub each : (k : ℕ) → is_eligible_with_positive_install_if_at pool k ≡ true → IsIn k by_name
   -- no candidate of the list has a lesser name than one before it
   pub rising :
       (i j d : ℕ) → i ≤ j → j < length by_name →
@@ -77,15 +78,17 @@ AreNoneTriggeredBelow pool chosen by_name count =
 -- the candidate `k` is triggered by its install-if, which can apply, and no other such candidate has a lesser name
 pub record IsLeastTriggeredInstallIf (pool : SealedPool) (chosen : List ℕ) (k : ℕ) : Type 0 where
   -- the install-if of the candidate can apply
-  pub usable : has_usable_install_if_at pool k ≡ true
+  pub usable : is_eligible_with_positive_install_if_at pool k ≡ true
   -- the candidate is triggered: each entry of its install-if is met, and no choice has its name
   pub asks : is_install_if_triggered_at pool chosen k ≡ true
   -- no other triggered candidate has a name that is less in byte order
   pub least :
-      (o : ℕ) → has_usable_install_if_at pool o ≡ true → is_install_if_triggered_at pool chosen o ≡ true →
+      (o : ℕ) → is_eligible_with_positive_install_if_at pool o ≡ true
+      → is_install_if_triggered_at pool chosen o ≡ true →
       has_lesser_name pool o k ≡ false
 
 -- no candidate is triggered by an install-if that can apply
 abbrev pub IsNoInstallIfTriggered : SealedPool → List ℕ → Type 0
 IsNoInstallIfTriggered pool chosen =
-    (o : ℕ) → has_usable_install_if_at pool o ≡ true → is_install_if_triggered_at pool chosen o ≡ false
+    (o : ℕ) → is_eligible_with_positive_install_if_at pool o ≡ true
+    → is_install_if_triggered_at pool chosen o ≡ false

@@ -5,7 +5,7 @@ use Rattle.std.specs.Option.{option_map, option_map_or, option_or}
 use Rattle.std.specs.List.{filter, find, flat_map, list_all, list_any}
 use Rattle.std.specs.Ordering.{is_lt}
 use Rattle.dep_core.specs.Dependency.{Dependency}
-use Rattle.pool_core.specs.candidate_core.Candidates.{Candidate, Need, entry, named, occupies_name, has_usable_install_if, meets_dependency}
+use Rattle.pool_core.specs.candidate_core.Candidates.{Candidate, Need, entry, named, occupies_name, is_eligible_with_positive_install_if, meets_dependency}
 use Rattle.pool_core.specs.candidate_core.Rank.{SealedPool, bytes_cmp, candidate_at, candidate_at_passes, is_eligible_at, is_better, meets_at}
 use Rattle.pool_core.specs.candidate_core.Options.{IsIn}
 pub use Rattle.pool_core.specs.candidate_core.Options.{AreAllMembersOf, AreDistinct}
@@ -38,17 +38,18 @@ needs_of_world_and_chosen pool chosen =
 -- conflict, and the choices meet each entry
 abbrev pub install_if_applies : SealedPool → List ℕ → Candidate → Bool
 install_if_applies pool chosen c =
-    has_usable_install_if pool.world c
+    is_eligible_with_positive_install_if pool.world c
     && list_all (λ (d : Dependency). is_met pool chosen (entry d)) c.install_if
 
 -- the names of all candidates of the pool whose install-if applies, also of those that are chosen
-abbrev pub names_by_install_if : SealedPool → List ℕ → List (List ℕ)
-names_by_install_if pool chosen =
+abbrev pub names_whose_install_if_applies : SealedPool → List ℕ → List (List ℕ)
+names_whose_install_if_applies pool chosen =
     map (λ (c : Candidate). c.name) (filter (install_if_applies pool chosen) pool.candidates)
 
 -- all needs that world and the choices raise, met or not: those by dependencies, then the names by install-if
 abbrev pub needs : SealedPool → List ℕ → List Need
-needs pool chosen = needs_of_world_and_chosen pool chosen ++ map named (names_by_install_if pool chosen)
+needs pool chosen =
+    needs_of_world_and_chosen pool chosen ++ map named (names_whose_install_if_applies pool chosen)
 
 -- of a name and an optional second one, the one that is less in byte order; the first name if there is no second one
 abbrev pub lesser_name : List ℕ → Option (List ℕ) → List ℕ
@@ -67,13 +68,13 @@ next_need pool chosen =
     option_or (find (is_unmet pool chosen) (needs_of_world_and_chosen pool chosen))
     (option_map named
     (least_name (filter (λ name. is_unmet pool chosen (named name))
-    (names_by_install_if pool chosen))))
+    (names_whose_install_if_applies pool chosen))))
 
 -- ---- candidates that exclude each other
 
 -- whether the second candidate `b` meets a conflict of the first candidate `a`
-abbrev pub conflicts_with : SealedPool → ℕ → ℕ → Bool
-conflicts_with pool a b =
+abbrev pub is_conflict_of_first_met_by_second : SealedPool → ℕ → ℕ → Bool
+is_conflict_of_first_met_by_second pool a b =
     list_any (λ (d : Dependency). d.conflict && candidate_at_passes pool (meets_dependency d) b)
     (depends_at pool a)
 
@@ -95,7 +96,7 @@ share_a_name pool a b =
 -- whether the first candidate excludes the second: by a conflict that the first one has, or by a name that both
 -- occupy
 abbrev pub does_exclude : SealedPool → ℕ → ℕ → Bool
-does_exclude pool a b = conflicts_with pool a b || share_a_name pool a b
+does_exclude pool a b = is_conflict_of_first_met_by_second pool a b || share_a_name pool a b
 
 -- whether two candidates exclude each other: no satisfying selection has both
 abbrev pub exclude_each_other : SealedPool → ℕ → ℕ → Bool
@@ -121,7 +122,7 @@ pub record IsSatisfying (pool : SealedPool) (selection : List ℕ) : Type 0 wher
   -- no member meets a conflict of another member
   pub no_conflict :
       (a b : ℕ) → IsIn a selection → IsIn b selection → a ≢ b →
-      conflicts_with pool a b ≡ false
+      is_conflict_of_first_met_by_second pool a b ≡ false
   -- each name is occupied by at most one member
   pub names_alone :
       (a b : ℕ) (name : List ℕ) → IsIn a selection → IsIn b selection →
@@ -129,7 +130,7 @@ pub record IsSatisfying (pool : SealedPool) (selection : List ℕ) : Type 0 wher
       → candidate_at_passes pool (occupies_name name) b ≡ true → a ≡ b
   -- each name whose install-if applies is the name of a member
   pub asked_met :
-      (name : List ℕ) → IsIn name (names_by_install_if pool selection) →
+      (name : List ℕ) → IsIn name (names_whose_install_if_applies pool selection) →
       is_met pool selection (named name) ≡ true
 
 -- ---- the walk of a selection
@@ -144,29 +145,29 @@ IsBestMember pool selection need c =
 
 -- the last list is the rest of the walk of the selection after the choices `chosen`. For each next need, this rest
 -- has the best member in rank that meets the need, until no need is left
-abbrev pub IsRestOfWalk : SealedPool → List ℕ → List ℕ → List ℕ → Type 0
-IsRestOfWalk pool selection chosen [] = next_need pool chosen ≡ None
-IsRestOfWalk pool selection chosen (c ∷ rest) =
+abbrev pub IsSelectionWithChosenAndRestOfWalk : SealedPool → List ℕ → List ℕ → List ℕ → Type 0
+IsSelectionWithChosenAndRestOfWalk pool selection chosen [] = next_need pool chosen ≡ None
+IsSelectionWithChosenAndRestOfWalk pool selection chosen (c ∷ rest) =
     (need : Need) × (next_need pool chosen ≡ Some need) × IsBestMember pool selection need c
-    × IsRestOfWalk pool selection (chosen ++ c ∷ []) rest
+    × IsSelectionWithChosenAndRestOfWalk pool selection (chosen ++ c ∷ []) rest
 
 -- the walk of a selection, from no choices on: for each next need, the walk has the best member that meets the need,
 -- until no need is left
 abbrev pub IsSelectionWithWalk : SealedPool → List ℕ → List ℕ → Type 0
-IsSelectionWithWalk pool selection walk = IsRestOfWalk pool selection [] walk
+IsSelectionWithWalk pool selection walk = IsSelectionWithChosenAndRestOfWalk pool selection [] walk
 
 -- two walks begin with the choices `chosen`. The rest of one walk is preferred to the rest `other` of the other walk
 -- if, at the first place where they differ, the first rest has the candidate that is better in rank for the next need
-abbrev pub IsRestOfWalkPreferred : SealedPool → List ℕ → List ℕ → List ℕ → Type 0
-IsRestOfWalkPreferred pool chosen [] other = ⊥
-IsRestOfWalkPreferred pool chosen (c ∷ rest) [] = ⊥
-IsRestOfWalkPreferred pool chosen (c ∷ rest) (d ∷ other) =
+abbrev pub IsAfterChosenRestOfWalkPreferredToOther : SealedPool → List ℕ → List ℕ → List ℕ → Type 0
+IsAfterChosenRestOfWalkPreferredToOther pool chosen [] other = ⊥
+IsAfterChosenRestOfWalkPreferredToOther pool chosen (c ∷ rest) [] = ⊥
+IsAfterChosenRestOfWalkPreferredToOther pool chosen (c ∷ rest) (d ∷ other) =
     ((need : Need) × (next_need pool chosen ≡ Some need) × (is_better pool need c d ≡ true))
-    ⊎ ((c ≡ d) × IsRestOfWalkPreferred pool (chosen ++ c ∷ []) rest other)
+    ⊎ ((c ≡ d) × IsAfterChosenRestOfWalkPreferredToOther pool (chosen ++ c ∷ []) rest other)
 
 -- one walk is preferred to the walk `other`, from the first need on
 abbrev pub IsWalkPreferredTo : SealedPool → List ℕ → List ℕ → Type 0
-IsWalkPreferredTo pool walk other = IsRestOfWalkPreferred pool [] walk other
+IsWalkPreferredTo pool walk other = IsAfterChosenRestOfWalkPreferredToOther pool [] walk other
 
 -- `trace` is the preferred solution: it satisfies the world, is its own walk, and is preferred to the walk of each
 -- other satisfying selection

@@ -5,7 +5,7 @@ ghost use Rattle.std.specs.Prelude.{◌≡◌, ◌≤◌, ◌<◌, ℕ, List, le
 ghost use Rattle.dep_core.specs.Dependency.{Dependency};
 ghost use Rattle.pool_core.specs.candidate_core.Options.{AreAllMembersOf, IsIn};
 ghost use Rattle.pool_core.specs.candidate_core.Rank.{bytes_cmp};
-ghost use Rattle.search_tables.specs.InstallIf.{AreUsableInstallIfsByName, has_lesser_name, install_if_at, has_usable_install_if_at, name_at};
+ghost use Rattle.search_tables.specs.InstallIf.{AreUsableInstallIfsByName, has_lesser_name, install_if_at, is_eligible_with_positive_install_if_at, name_at};
 ghost use Rattle.search_tables.specs.NameTable.{items_under_name};
 
 use crate::name_table::NameTable;
@@ -58,8 +58,9 @@ impl<'p> InstallIfs<'p> {
 fn in_byte_order(alloc: Global, pool: &Sealed<'_>) -> Result<Vec<CandId>, AllocError>
     // The list has exactly the candidates whose install-if can apply.
     ensures those { IfOk result (λ ids. (k : ℕ) → IsIn k ids.items →
-        has_usable_install_if_at pool.now k ≡ true) }
-    ensures each { IfOk result (λ ids. (k : ℕ) → has_usable_install_if_at pool.now k ≡ true →
+        is_eligible_with_positive_install_if_at pool.now k ≡ true) }
+    ensures each { IfOk result (λ ids. (k : ℕ)
+        → is_eligible_with_positive_install_if_at pool.now k ≡ true →
         IsIn k ids.items) }
     // No name in the list is less, in byte order, than one before it.
     ensures rising { IfOk result (λ ids. (i j d : ℕ) → i ≤ j → j < length ids.items →

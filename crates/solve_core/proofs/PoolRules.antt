@@ -8,7 +8,7 @@ use Rattle.dep_core.specs.Dependency.{Dependency}
 use Rattle.search_choices.specs.candidate_core.Candidates.{Candidate, Need, entry, meets_dependency, occupies_name}
 use Rattle.search_choices.specs.candidate_core.Options.{IsIn}
 use Rattle.search_choices.specs.candidate_core.Rank.{SealedPool, candidate_at, candidate_at_passes}
-use Rattle.search_choices.specs.search_tables.Selection.{conflicts_with, depends_at, does_exclude, exclude_each_other, needs, occupied_names, occupied_names_at, positive_needs, needs_of_world_and_chosen, share_a_name}
+use Rattle.search_choices.specs.search_tables.Selection.{is_conflict_of_first_met_by_second, depends_at, does_exclude, exclude_each_other, needs, occupied_names, occupied_names_at, positive_needs, needs_of_world_and_chosen, share_a_name}
 use Rattle.search_choices.proofs.search_tables.Theory.{in_left, in_right}
 use Rattle.search_choices.proofs.search_tables.Places.{there_is}
 use Rattle.search_choices.proofs.search_tables.PoolFacts.{in_filter, in_flat, in_map}
@@ -53,8 +53,8 @@ module _ (pool : SealedPool) where
       let inside : IsIn one.0 (depends_at pool a) = subst (λ (z : List Dependency). IsIn one.0 z) (sym same) one.1 in
       let conflict = parts.0 in
       let meets : candidate_at_passes pool (meets_dependency one.0) b ≡ true = at_place b other (meets_dependency one.0) there parts.1 in
-      let out : conflicts_with pool a b ≡ true = one_any (λ (d : Dependency). d.conflict && candidate_at_passes pool (meets_dependency d) b) (depends_at pool a) one.0 inside (rw conflict meets) in
-      excludes a b differ (true_or (conflicts_with pool a b) (share_a_name pool a b) (inl out))
+      let out : is_conflict_of_first_met_by_second pool a b ≡ true = one_any (λ (d : Dependency). d.conflict && candidate_at_passes pool (meets_dependency d) b) (depends_at pool a) one.0 inside (rw conflict meets) in
+      excludes a b differ (true_or (is_conflict_of_first_met_by_second pool a b) (share_a_name pool a b) (inl out))
 
   -- a name that both occupy
   pub shared_name_excludes : (a b : ℕ) (details other : Candidate) → candidate_at pool a ≡ Some details → candidate_at pool b ≡ Some other → (a == b) ≡ false → list_any (λ (name : List ℕ). occupies_name name other) (occupied_names details) ≡ true → exclude_each_other pool a b ≡ true
@@ -63,4 +63,4 @@ module _ (pool : SealedPool) where
       let same : occupied_names_at pool a ≡ occupied_names details = ap (λ (o : Option Candidate). option_map_or occupied_names o []) here in
       let inside : IsIn one.0 (occupied_names_at pool a) = subst (λ (z : List (List ℕ)). IsIn one.0 z) (sym same) one.1 in
       let out : share_a_name pool a b ≡ true = one_any (λ (name : List ℕ). candidate_at_passes pool (occupies_name name) b) (occupied_names_at pool a) one.0 inside (at_place b other (occupies_name one.0) there one.2) in
-      excludes a b differ (true_or (conflicts_with pool a b) (share_a_name pool a b) (inr out))
+      excludes a b differ (true_or (is_conflict_of_first_met_by_second pool a b) (share_a_name pool a b) (inr out))

@@ -9,9 +9,9 @@ use Rattle.std.proofs.lemmas.Bool.{true_from_ne_false}
 use Rattle.std.proofs.lemmas.List.Sorted.{ranks_by}
 use Rattle.search_choices.specs.candidate_core.Candidates.{Need, is_eligible}
 use Rattle.search_choices.specs.candidate_core.Rank.{SealedPool, is_better, meets_at, rank_cmp}
-use Rattle.search_choices.specs.candidate_core.Options.{IsSortedBestFirst, IsIn, options_for, places_passing_from}
+use Rattle.search_choices.specs.candidate_core.Options.{IsSortedBestFirst, IsIn, options_for, places_passing_counted_from}
 use Rattle.search_choices.specs.search_tables.Reasons.{HasOptions}
-use Rattle.search_choices.specs.search_tables.Selection.{AreAllMembersOf, IsWalkPreferredTo, IsRestOfWalkPreferred, IsFirstPreferredSelection, IsSatisfying, IsSelectionWithWalk, IsRestOfWalk, next_need}
+use Rattle.search_choices.specs.search_tables.Selection.{AreAllMembersOf, IsWalkPreferredTo, IsAfterChosenRestOfWalkPreferredToOther, IsFirstPreferredSelection, IsSatisfying, IsSelectionWithWalk, IsSelectionWithChosenAndRestOfWalk, next_need}
 use Rattle.search_choices.proofs.search_tables.Theory as law
 use Rattle.search_choices.proofs.search_tables.Turns.{PoolFacts}
 use Rattle.search_choices.proofs.search_tables.PoolFacts.{pool_facts}
@@ -46,7 +46,7 @@ module _ (pool : SealedPool) (total : (need : Need) → IsTotalOrder (rank_cmp p
   same_need : (q r : Need) (t : List ℕ) → next_need pool t ≡ Some q → next_need pool t ≡ Some r → q ≡ r
   same_need q r t a b = cc
 
-  before_chain : (u v w x : List ℕ) → IsRestOfWalkPreferred pool u v w → IsRestOfWalkPreferred pool u w x → IsRestOfWalkPreferred pool u v x
+  before_chain : (u v w x : List ℕ) → IsAfterChosenRestOfWalkPreferredToOther pool u v w → IsAfterChosenRestOfWalkPreferredToOther pool u w x → IsAfterChosenRestOfWalkPreferredToOther pool u v x
   before_chain u [] w x a b = absurd a
   before_chain u (c ∷ v) [] x a b = absurd a
   before_chain u (c ∷ v) (d ∷ w) [] a b = absurd b
@@ -55,7 +55,7 @@ module _ (pool : SealedPool) (total : (need : Need) → IsTotalOrder (rank_cmp p
   before_chain u (c ∷ v) (d ∷ w) (e ∷ x) (inl a) (inr b) = inl (a.0, a.1, subst (λ (z : ℕ). is_better pool a.0 c z ≡ true) b.0 a.2)
   before_chain u (c ∷ v) (d ∷ w) (e ∷ x) (inr a) (inl b) = inl (b.0, b.1, subst (λ (z : ℕ). is_better pool b.0 z e ≡ true) (sym a.0) b.2)
   before_chain u (c ∷ v) (d ∷ w) (e ∷ x) (inr a) (inr b) =
-      inr (a.0 ∙ b.0, before_chain (u ++ c ∷ []) v w x a.1 (subst (λ (z : ℕ). IsRestOfWalkPreferred pool (u ++ z ∷ []) w x) (sym a.0) b.1))
+      inr (a.0 ∙ b.0, before_chain (u ++ c ∷ []) v w x a.1 (subst (λ (z : ℕ). IsAfterChosenRestOfWalkPreferredToOther pool (u ++ z ∷ []) w x) (sym a.0) b.1))
 
   module _ (has : (need : Need) → HasOptions pool need) where
     facts : PoolFacts pool
@@ -86,7 +86,7 @@ module _ (pool : SealedPool) (total : (need : Need) → IsTotalOrder (rank_cmp p
 
     -- of a selection that has the choices in front and another option, the walk takes these choices
     -- too, and then none that is better than the option
-    as_good : (trace selection u front rest w : List ℕ) (c o : ℕ) (need : Need) → IsRestOfWalk pool trace u (front ++ c ∷ rest) → IsRestOfWalk pool selection u w → (w ≡ front ++ c ∷ rest) ⊎ IsRestOfWalkPreferred pool u (front ++ c ∷ rest) w → next_need pool (u ++ front) ≡ Some need → AreAllMembersOf (front ++ o ∷ []) selection → meets_at pool o need ≡ true → (o ≡ c) ⊎ (is_better pool need c o ≡ true)
+    as_good : (trace selection u front rest w : List ℕ) (c o : ℕ) (need : Need) → IsSelectionWithChosenAndRestOfWalk pool trace u (front ++ c ∷ rest) → IsSelectionWithChosenAndRestOfWalk pool selection u w → (w ≡ front ++ c ∷ rest) ⊎ IsAfterChosenRestOfWalkPreferredToOther pool u (front ++ c ∷ rest) w → next_need pool (u ++ front) ≡ Some need → AreAllMembersOf (front ++ o ∷ []) selection → meets_at pool o need ≡ true → (o ≡ c) ⊎ (is_better pool need c o ≡ true)
     as_good trace selection u [] rest [] c o need tw sw first next in_it meets = elim first [
       | inl e ↦ absurd (cc)
       | inr b ↦ absurd b
@@ -114,8 +114,8 @@ module _ (pool : SealedPool) (total : (need : Need) → IsTotalOrder (rank_cmp p
     ]
     as_good trace selection u (f ∷ front) rest (d ∷ w) c o need tw sw first next in_it meets =
         let further : next_need pool ((u ++ f ∷ []) ++ front) ≡ Some need = subst (λ (z : List ℕ). next_need pool z ≡ Some need) (sym (append_assoc u (f ∷ []) front)) next in
-        let on : f ≡ d → (w ≡ front ++ c ∷ rest) ⊎ IsRestOfWalkPreferred pool (u ++ f ∷ []) (front ++ c ∷ rest) w → (o ≡ c) ⊎ (is_better pool need c o ≡ true) = λ e after.
-        as_good trace selection (u ++ f ∷ []) front rest w c o need tw.3 (subst (λ (z : ℕ). IsRestOfWalk pool selection (u ++ z ∷ []) w) (sym e) sw.3) after further (λ k h. in_it k (inr h)) meets in
+        let on : f ≡ d → (w ≡ front ++ c ∷ rest) ⊎ IsAfterChosenRestOfWalkPreferredToOther pool (u ++ f ∷ []) (front ++ c ∷ rest) w → (o ≡ c) ⊎ (is_better pool need c o ≡ true) = λ e after.
+        as_good trace selection (u ++ f ∷ []) front rest w c o need tw.3 (subst (λ (z : ℕ). IsSelectionWithChosenAndRestOfWalk pool selection (u ++ z ∷ []) w) (sym e) sw.3) after further (λ k h. in_it k (inr h)) meets in
         elim first [
           | inl e ↦ let is : f ≡ d = cc in let rest_is : w ≡ front ++ c ∷ rest = cc in on is (inl rest_is)
           | inr b ↦ elim b [
@@ -147,7 +147,7 @@ module _ (pool : SealedPool) (total : (need : Need) → IsTotalOrder (rank_cmp p
 
     pub first_exists : (selection : List ℕ) → IsSatisfying pool selection → (trace : List ℕ) × IsFirstPreferredSelection pool trace
     first_exists selection s =
-        let all = places_passing_from 0 (is_eligible pool.world) pool.candidates in
+        let all = places_passing_counted_from 0 (is_eligible pool.world) pool.candidates in
         elim (first_or_none pool facts all (λ c h. let z : 0 + c ≡ c = omega arith in subst (λ (k : ℕ). IsIn k all) z (in_places 0 (is_eligible pool.world) pool.candidates c h))) [
           | inl found ↦ (
             found.0,

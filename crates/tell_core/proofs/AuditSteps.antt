@@ -16,7 +16,7 @@ use Rattle.installed_info.specs.Info.{report_and_refusal}
 use Rattle.installed_info.specs.declared.telling.ReportAndRefusal.{ReportAndRefusal}
 use Rattle.change_inputs.specs.make_info.Reads.{Reads}
 use Rattle.change_inputs.proofs.package_files.ReadLemmas.{explained, explained_as}
-use Rattle.change_inputs.specs.package_files.Runs.{AreReadsOfTree, IsExplainedBySomeReads}
+use Rattle.change_inputs.specs.package_files.Runs.{AreReadsOfTreeIfObservable, HoldsOfSomeReadsOfTree}
 use Rattle.report_core.specs.declared.refusal.Refusal.{Refusal}
 use Rattle.tell_core.proofs.ReportSteps.{IsPartRead, IsReported}
 use Rattle.tell_core.specs.AuditResult.{audit_of, first_audit_read_number}
@@ -27,13 +27,13 @@ reads_then first others zero name = first 0 name
 reads_then first others (suc zero) name = first 1 name
 reads_then first others (suc (suc n)) name = others (suc (suc n)) name
 
-observed_each : (v : TreeState) (rest : List TreeState) (first others : Reads) → AreReadsOfTree (v ∷ rest) first → AreReadsOfTree (v ∷ rest) others → (n : ℕ) (name : List ℕ) → reads_then first others n name ≡ files_of v name
+observed_each : (v : TreeState) (rest : List TreeState) (first others : Reads) → AreReadsOfTreeIfObservable (v ∷ rest) first → AreReadsOfTreeIfObservable (v ∷ rest) others → (n : ℕ) (name : List ℕ) → reads_then first others n name ≡ files_of v name
 unfolding reads_then
 observed_each v rest first others a b zero name = a 0 name
 observed_each v rest first others a b (suc zero) name = a 1 name
 observed_each v rest first others a b (suc (suc n)) name = b (suc (suc n)) name
 
-are_observed : (history : List TreeState) (first others : Reads) → AreReadsOfTree history first → AreReadsOfTree history others → AreReadsOfTree history (reads_then first others)
+are_observed : (history : List TreeState) (first others : Reads) → AreReadsOfTreeIfObservable history first → AreReadsOfTreeIfObservable history others → AreReadsOfTreeIfObservable history (reads_then first others)
 are_observed [] first others a b = tt
 are_observed (v ∷ rest) first others a b = observed_each v rest first others a b
 
@@ -52,7 +52,7 @@ abbrev RestsOnItsReads : Type 0
 RestsOnItsReads = (read other : Reads) (first : ℕ) (packages : List Plain) → ((n : ℕ) (name : List ℕ) → first ≤ n → read n name ≡ other n name) → audit_report read first packages ≡ audit_report other first packages
 
 pub audit_read : RestsOnItsReads → (history : List TreeState) (command : CommandLine) (result : Result ReportAndRefusal Refused) (installed : Installed) → IsPartRead installed_seen (database_for command) history (Ok installed)
-    → IsExplainedBySomeReads history (λ read. AgreesUnlessDiskOrMemory (λ done. done) result (audit_of read (installed_seen installed))) → IsReported installed_seen (database_for command) history audit_of result
+    → HoldsOfSomeReadsOfTree history (λ read. AgreesUnlessDiskOrMemory (λ done. done) result (audit_of read (installed_seen installed))) → IsReported installed_seen (database_for command) history audit_of result
 audit_read rests history command result installed seen audited =
     let read = reads_then seen.read audited.read in
     let packages = (installed_seen installed).packages in
@@ -69,9 +69,9 @@ audit_read rests history command result installed seen audited =
 
 module _ (history : List TreeState) (database : Database) where
   abbrev IsAuditOf : Result ReportAndRefusal Refused → Type 0
-  IsAuditOf result = IsExplainedBySomeReads history (λ read. AgreesUnlessDiskOrMemory (λ (done : ReportAndRefusal). done) result (audit_of read database))
+  IsAuditOf result = HoldsOfSomeReadsOfTree history (λ read. AgreesUnlessDiskOrMemory (λ (done : ReportAndRefusal). done) result (audit_of read database))
 
-  pub audit_made : (packages : List Plain) (report : List ℕ) → packages ≡ database.packages → IsExplainedBySomeReads history (λ read. report ≡ audit_report read first_audit_read_number packages) → IsAuditOf (Ok (report_and_refusal report None))
+  pub audit_made : (packages : List Plain) (report : List ℕ) → packages ≡ database.packages → HoldsOfSomeReadsOfTree history (λ read. report ≡ audit_report read first_audit_read_number packages) → IsAuditOf (Ok (report_and_refusal report None))
   audit_made packages report same made = explained_as history (λ read. report ≡ audit_report read first_audit_read_number packages) (λ read. AgreesUnlessDiskOrMemory (λ (done : ReportAndRefusal). done) (Ok (report_and_refusal report None)) (audit_of read database)) made
       (λ read is. ap (λ (ps : List Plain). Ok (report_and_refusal (audit_report read first_audit_read_number ps) None)) (sym same) ∙ ap (λ (r : List ℕ). Ok (report_and_refusal r None)) (sym is))
 

@@ -10,11 +10,11 @@ use Rattle.installed_info.specs.Info.{report_and_refusal}
 use Rattle.installed_info.specs.declared.telling.ReportAndRefusal.{ReportAndRefusal}
 use Rattle.change_inputs.specs.make_info.Reads.{Reads}
 use Rattle.change_inputs.proofs.package_files.ReadLemmas.{explained}
-use Rattle.change_inputs.specs.package_files.Runs.{IsExplainedBySomeReads}
+use Rattle.change_inputs.specs.package_files.Runs.{HoldsOfSomeReadsOfTree}
 use Rattle.tell_core.specs.ReportForCommand.{report_for_command, report_for_applet}
 
 abbrev pub IsTold : List TreeState → CommandLine → Applet → Result ReportAndRefusal Refused → Type 0
-IsTold history command applet result = IsExplainedBySomeReads history (λ read. AgreesUnlessDiskOrMemory (λ (done : ReportAndRefusal). done) result (report_for_applet applet command read))
+IsTold history command applet result = HoldsOfSomeReadsOfTree history (λ read. AgreesUnlessDiskOrMemory (λ (done : ReportAndRefusal). done) result (report_for_applet applet command read))
 
 module _ (history : List TreeState) (command : CommandLine) (result : Result ReportAndRefusal Refused) where
   pub told_as : (applet read_applet : Applet) → read_applet ≡ command.applet → read_applet ≡ applet → IsTold history command applet result → IsTold history command command.applet result
@@ -40,7 +40,7 @@ nothing_for Policy command read (info, audit, manifest, list, search, policy) = 
 nothing_for other command read (info, audit, manifest, list, search, policy) = refl
 
 pub nothing_told : (history : List TreeState) (command : CommandLine) (applet : Applet) (done : ReportAndRefusal) → applet ≡ command.applet → IsOther applet → done ≡ report_and_refusal [] None
-    → IsExplainedBySomeReads history (λ read. AgreesUnlessDiskOrMemory (λ (d : ReportAndRefusal). d) (Ok done) (report_for_command command read))
+    → HoldsOfSomeReadsOfTree history (λ read. AgreesUnlessDiskOrMemory (λ (d : ReportAndRefusal). d) (Ok done) (report_for_command command read))
 nothing_told history command applet done same others empty =
     let never = subst IsOther same others in
     explained history (λ read. report_for_command command read ≡ Ok done) (λ read. nothing_for command.applet command read never ∙ ap (λ (d : ReportAndRefusal). Ok d) (sym empty))

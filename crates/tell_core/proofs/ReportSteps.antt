@@ -10,18 +10,18 @@ use Rattle.change_inputs.specs.Chains.{and_then}
 use Rattle.change_inputs.specs.declared.root.Refused.{Refused}
 use Rattle.installed_info.specs.declared.telling.ReportAndRefusal.{ReportAndRefusal}
 use Rattle.change_inputs.specs.make_info.Reads.{Reads}
-use Rattle.change_inputs.specs.package_files.Runs.{IsExplainedBySomeReads}
+use Rattle.change_inputs.specs.package_files.Runs.{HoldsOfSomeReadsOfTree}
 use Rattle.report_core.specs.declared.refusal.Refusal.{Refusal}
 
 -- the part of a root that is read, as the program has it and as contracts see it
 module _ {A B : Type 0} (view : A → B) (part : Reads → Result B Refusal) where
   -- what is read is the part
   abbrev pub IsPartRead : List TreeState → Result A Refused → Type 0
-  IsPartRead history found = IsExplainedBySomeReads history (λ read. AgreesUnlessDiskOrMemory view found (part read))
+  IsPartRead history found = HoldsOfSomeReadsOfTree history (λ read. AgreesUnlessDiskOrMemory view found (part read))
 
   -- a result is the report of the part, which may rest on further reads
   abbrev pub IsReported : List TreeState → (Reads → B → Result ReportAndRefusal Refusal) → Result ReportAndRefusal Refused → Type 0
-  IsReported history report result = IsExplainedBySomeReads history (λ read. AgreesUnlessDiskOrMemory (λ (done : ReportAndRefusal). done) result (and_then (part read) (report read)))
+  IsReported history report result = HoldsOfSomeReadsOfTree history (λ read. AgreesUnlessDiskOrMemory (λ (done : ReportAndRefusal). done) result (and_then (part read) (report read)))
 
   module _ (history : List TreeState) (result : Result ReportAndRefusal Refused) where
     pub report_unread : (report : Reads → B → Result ReportAndRefusal Refusal) (fault : Refused) → IsErrAnd result (λ e. e ≡ fault) → IsPartRead history (Err fault) → IsReported history report result

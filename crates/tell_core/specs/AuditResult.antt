@@ -29,8 +29,8 @@ audit_result command read = and_then (database_for command read) (audit_of read)
 
 -- what `manifest` reports on those packages of the database that its operands name; or the refusal, if an
 -- operand names no installed package
-abbrev pub manifest_report : CommandLine → Database → Result ReportAndRefusal Refusal
-manifest_report command database =
+abbrev pub manifest_report_or_refusal : CommandLine → Database → Result ReportAndRefusal Refusal
+manifest_report_or_refusal command database =
     and_then (manifest_of database.packages command.operands) (λ report.
     Ok (report_and_refusal report None))
 
@@ -38,4 +38,4 @@ manifest_report command database =
 -- of an operand
 abbrev pub manifest_result : CommandLine → Reads → Result ReportAndRefusal Refusal
 manifest_result command read =
-    and_then (database_for command read) (manifest_report command)
+    and_then (database_for command read) (manifest_report_or_refusal command)

@@ -14,12 +14,12 @@ use Rattle.report_core.specs.declared.refusal.Refusal.{Refusal}
 
 -- what `list`, `search` or `policy` reports on the candidates and repositories of these inputs
 -- (*no_names* are to be upgraded). Or the refusal of too many candidates
-abbrev pub query_report : CommandLine → Inputs → Result ReportAndRefusal Refusal
-query_report command inputs =
+abbrev pub query_report_or_refusal : CommandLine → Inputs → Result ReportAndRefusal Refusal
+query_report_or_refusal command inputs =
     and_then (root_pool inputs no_names) (λ pool.
     Ok (report_and_refusal (text_of_query command pool inputs.root.repositories) None))
 
 -- the result of `list`, `search` or `policy`: its report on the inputs that are read. Or the refusal of
 -- an input, or of too many candidates
 abbrev pub query_result : CommandLine → Reads → Result ReportAndRefusal Refusal
-query_result command read = and_then (inputs_of command read) (query_report command)
+query_result command read = and_then (inputs_of command read) (query_report_or_refusal command)

@@ -3,8 +3,8 @@
 ghost use Rattle.base_core.specs.Read.{OnlyReads};
 ghost use Rattle.change_inputs.specs.Answers.{Agrees, AgreesUnlessDiskOrMemory};
 ghost use Rattle.change_inputs.specs.Seen.{installed_seen};
-ghost use Rattle.change_inputs.specs.package_files.Runs.{IsExplainedBySomeReads};
-ghost use Rattle.tell_core.specs.AuditResult.{audit_of, audit_result, manifest_report, manifest_result};
+ghost use Rattle.change_inputs.specs.package_files.Runs.{HoldsOfSomeReadsOfTree};
+ghost use Rattle.tell_core.specs.AuditResult.{audit_of, audit_result, manifest_report_or_refusal, manifest_result};
 
 use audit_core::{audit, audits_depend_on_their_own_reads, manifest};
 use base_core::{Tree, TreeFault, consecutive_reads_compose};
@@ -27,7 +27,7 @@ pub(crate) fn report_audit<T: Tree>(
     // The result is that of the definition, for some results of the reads; if the tree is
     // observable, the reads find its files. An I/O error of the tree and out of memory may occur in
     // any case.
-    ensures told { IsExplainedBySomeReads (T.history tree.old) (λ read.
+    ensures told { HoldsOfSomeReadsOfTree (T.history tree.old) (λ read.
         AgreesUnlessDiskOrMemory (λ done. done) result (audit_result command.now read)) }
     // The tree is only read: no file changes, no I/O error is hidden, and no call is a misuse.
     ensures tree { OnlyReads Refused.Disk (T.history tree.old) (T.history tree.new)
@@ -49,7 +49,7 @@ fn audit_installed<T: Tree>(
     // The result is that of the definition, for some results of the reads; if the tree is
     // observable, the reads find its files. An I/O error of the tree and out of memory may occur in
     // any case.
-    ensures told { IsExplainedBySomeReads (T.history tree.old) (λ read.
+    ensures told { HoldsOfSomeReadsOfTree (T.history tree.old) (λ read.
         AgreesUnlessDiskOrMemory (λ done. done) result (audit_of read
         (installed_seen installed.now))) }
     // The tree is only read: no file changes, no I/O error is hidden, and no call is a misuse.
@@ -82,7 +82,7 @@ pub(crate) fn report_manifest<T: Tree>(
     // The result is that of the definition, for some results of the reads; if the tree is
     // observable, the reads find its files. An I/O error of the tree and out of memory may occur in
     // any case.
-    ensures told { IsExplainedBySomeReads (T.history tree.old) (λ read.
+    ensures told { HoldsOfSomeReadsOfTree (T.history tree.old) (λ read.
         AgreesUnlessDiskOrMemory (λ done. done) result (manifest_result command.now read)) }
     // The tree is only read: no file changes, no I/O error is hidden, and no call is a misuse.
     ensures tree { OnlyReads Refused.Disk (T.history tree.old) (T.history tree.new)
@@ -102,7 +102,7 @@ fn manifest_installed(
     // The result is the manifest of the definition, or its refusal; out of memory may occur in any
     // case.
     ensures { Agrees (λ done. done) result
-        (manifest_report command.now (installed_seen installed.now)) }
+        (manifest_report_or_refusal command.now (installed_seen installed.now)) }
 {
     let db = installed.db(alloc)?;
     match manifest(alloc, &db, command.operands())? {

@@ -4,7 +4,7 @@ ghost use Rattle.change_inputs.specs.Answers.{Agrees, AgreesUnlessDiskOrMemory};
 ghost use Rattle.change_inputs.specs.Seen.{installed_seen};
 ghost use Rattle.tell_core.specs.InfoResult.{info_result};
 ghost use Rattle.installed_info.specs.Info.{info_of};
-ghost use Rattle.change_inputs.specs.package_files.Runs.{IsExplainedBySomeReads};
+ghost use Rattle.change_inputs.specs.package_files.Runs.{HoldsOfSomeReadsOfTree};
 
 use base_core::Tree;
 use change_inputs::{Installed, Refused};
@@ -27,7 +27,7 @@ pub(crate) fn report_info<T: Tree>(
     // The result is that of the definition, for some results of the reads; if the tree is
     // observable, the reads find its files. An I/O error of the tree and out of memory may occur in
     // any case.
-    ensures told { IsExplainedBySomeReads (T.history tree.old) (λ read.
+    ensures told { HoldsOfSomeReadsOfTree (T.history tree.old) (λ read.
         AgreesUnlessDiskOrMemory (λ done. done) result (info_result command.now read)) }
     // The tree is only read: no file changes, no I/O error is hidden, and no call is a misuse.
     ensures tree { OnlyReads Refused.Disk (T.history tree.old) (T.history tree.new)

@@ -3,10 +3,10 @@
 ghost use Rattle.base_core.specs.Read.{OnlyReads};
 ghost use Rattle.change_inputs.specs.Answers.{Agrees, AgreesUnlessDiskOrMemory};
 ghost use Rattle.change_inputs.specs.Seen.{inputs_seen};
-ghost use Rattle.change_inputs.specs.package_files.Runs.{IsExplainedBySomeReads};
+ghost use Rattle.change_inputs.specs.package_files.Runs.{HoldsOfSomeReadsOfTree};
 ghost use Rattle.query_core.specs.Queries.{text_of_query};
 ghost use Rattle.std.specs.Prelude.{◌≡◌, IfOk};
-ghost use Rattle.tell_core.specs.QueryResult.{query_report, query_result};
+ghost use Rattle.tell_core.specs.QueryResult.{query_report_or_refusal, query_result};
 
 use base_core::{Text, Tree};
 use change_inputs::{Loaded, Refused, Sealed};
@@ -31,7 +31,7 @@ pub(crate) fn report_query<T: Tree>(
     // The result is that of the definition, for some results of the reads; if the tree is
     // observable, the reads find its files. An I/O error of the tree and out of memory may occur in
     // any case.
-    ensures told { IsExplainedBySomeReads (T.history tree.old) (λ read.
+    ensures told { HoldsOfSomeReadsOfTree (T.history tree.old) (λ read.
         AgreesUnlessDiskOrMemory (λ done. done) result (query_result command.now read)) }
     // The tree is only read: no file changes, no I/O error is hidden, and no call is a misuse.
     ensures tree { OnlyReads Refused.Disk (T.history tree.old) (T.history tree.new)
@@ -51,7 +51,7 @@ fn query_loaded(
     // The result is the report of the definition, or the refusal of too many candidates; out of
     // memory may occur in any case.
     ensures { Agrees (λ done. done) result
-        (query_report command.now (inputs_seen loaded.now)) }
+        (query_report_or_refusal command.now (inputs_seen loaded.now)) }
 {
     // All candidates; no name is to be upgraded.
     let pool = loaded.pool(alloc, Upgrade::Nothing)?;

@@ -3,7 +3,7 @@
 ghost use Rattle.base_core.specs.Read.{OnlyReads};
 ghost use Rattle.change_inputs.specs.Answers.{AgreesUnlessDiskOrMemory};
 ghost use Rattle.installed_info.specs.Info.{report_and_refusal};
-ghost use Rattle.change_inputs.specs.package_files.Runs.{IsExplainedBySomeReads};
+ghost use Rattle.change_inputs.specs.package_files.Runs.{HoldsOfSomeReadsOfTree};
 ghost use Rattle.std.specs.Prelude.{◌≡◌, [], None};
 ghost use Rattle.tell_core.specs.ReportForCommand.{report_for_command};
 
@@ -32,7 +32,7 @@ pub fn tell<T: Tree>(
     // The result is that of the definition, for some results of the reads; if the tree is
     // observable, the reads find its files. An I/O error of the tree and out of memory may occur in
     // any case.
-    ensures told { IsExplainedBySomeReads (T.history tree.old) (λ read.
+    ensures told { HoldsOfSomeReadsOfTree (T.history tree.old) (λ read.
         AgreesUnlessDiskOrMemory (λ done. done) result (report_for_command command.now read)) }
     // The tree is only read: no file changes, no I/O error is hidden, and no call is a misuse.
     ensures tree { OnlyReads Refused.Disk (T.history tree.old) (T.history tree.new)

@@ -4,7 +4,7 @@ use Rattle.std.proofs.lemmas.List.{take_more, take_all, drop_all, get_or-map, ge
 use Rattle.std.proofs.lemmas.Bool.{cases_eq, eq-eqb, ne_eqb}
 use Rattle.std.specs.Str.{bytes_eq}
 use Rattle.std.specs.Option.{option_map}
-use Rattle.base_core.specs.Crash.{CrashMayLeave}
+use Rattle.base_core.specs.Crash.{CrashMayLeaveBytesOfFileNumber}
 use Rattle.base_core.specs.Undone.{IsAfterCrash, IsCrashMap}
 use Rattle.base_core.proofs.Undone.{left_each, read_may_be_left}
 use Rattle.base_core.specs.Files.{Files, NameMap, no_names, put_name, HasNoFileAsFolder}
@@ -12,7 +12,7 @@ use Rattle.base_core.specs.Tree.{TreeState, IsCurrentOrOlderMap, bytes_of_file_n
 use Rattle.std.proofs.lemmas.Nat.{mod_below}
 use Rattle.base_core.proofs.AtName.{name_cases, off_name}
 use Rattle.tree_memory.specs.Changes.{empty_state, after_put, state_after_changes, can_record_changes}
-use Rattle.tree_memory.specs.Images.{picked_crash_map, crash_image_count_of, crash_bytes, stored_file, IsPickedImageMap, IsImageOf, HasImageNames}
+use Rattle.tree_memory.specs.Images.{picked_crash_map, crash_map_pick_count_of, crash_bytes, stored_file, IsPickedImageMap, IsImageOf, HasImageNames}
 use Rattle.tree_memory.specs.Kept.{HoldsState, CanPut}
 use Rattle.tree_memory.specs.Table.{IsSortedNameTable, lookup}
 use Rattle.tree_memory.specs.WellFormedLaw.{AreMapsFiniteOfMadeFiles}
@@ -120,18 +120,18 @@ module _ (v : TreeState) (way : ℕ) (es : List NameAndFile) (i : ℕ) (all : le
   image_files : (q : List ℕ) → files_of w q ≡ option_map (λ n. crash_bytes way (v.files n)) (lookup es q)
   image_files q = so_far.files q ∙ ap (λ (l : List NameAndFile). option_map (λ n. crash_bytes way (v.files n)) (lookup l q)) (take_all i es all)
 
-  may : (o : Option ℕ) → CrashMayLeave v.files o (option_map (λ n. crash_bytes way (v.files n)) o)
+  may : (o : Option ℕ) → CrashMayLeaveBytesOfFileNumber v.files o (option_map (λ n. crash_bytes way (v.files n)) o)
   may None = refl
   may (Some n) = λ synced. ap (λ b. cond (b || (way == 0)) (v.files n).bytes (cond (way == 1) [] (replicate (length (v.files n).bytes) 255))) synced
 
   pub image_crash : IsCrashMap v (lookup es) → IsAfterCrash v w
   image_crash left = record {
-    left = (lookup es, left, λ q. subst (CrashMayLeave v.files (lookup es q)) (sym (image_files q)) (may (lookup es q)));
+    left = (lookup es, left, λ q. subst (CrashMayLeaveBytesOfFileNumber v.files (lookup es q)) (sym (image_files q)) (may (lookup es q)));
     one_map = so_far.one_map;
     synced = so_far.synced;
   }
 
-  pub image_is : (choice picks : ℕ) → picks ≡ crash_image_count_of v → way ≡ (choice / picks) % 3 → HasImageNames (choice % picks) v es → IsImageOf choice v (files_of w)
+  pub image_is : (choice picks : ℕ) → picks ≡ crash_map_pick_count_of v → way ≡ (choice / picks) % 3 → HasImageNames (choice % picks) v es → IsImageOf choice v (files_of w)
   image_is choice picks count is names = (
     lookup es,
     subst (λ p. IsPickedImageMap (choice % p) v (lookup es)) count names.map,

@@ -13,7 +13,7 @@ use Rattle.std.proofs.lemmas.Bool.{cases_eq, cases_lt, eq-eqb, ne_eqb}
 use Rattle.base_core.specs.Files.{NameMap, AreNames, AreFileBytes, HasNoFileAsFolder, drop_name, put_name}
 use Rattle.base_core.specs.Name.{IsName}
 use Rattle.base_core.specs.Listed.{AreSortedNamesInMap}
-use Rattle.base_core.specs.Tree.{TreeState, File, IsCurrentOrOlderMap, CanCreate, bytes_of_file_number, files_of, set_file, with_file_changed, with_names, after_create}
+use Rattle.base_core.specs.Tree.{TreeState, File, IsCurrentOrOlderMap, CanCreate, bytes_of_file_number, files_of, set_file, with_file_changed, with_newer_name_map, after_create}
 use Rattle.base_core.proofs.AtName.{name_cases, off_name}
 use Rattle.tree_memory.specs.Table.{IsSortedNameTable, lookup, names_of}
 use Rattle.tree_memory.specs.Changes.{empty_state, after_put, step, state_after_changes, earlier_states, contents_of, synced_flags}
@@ -116,14 +116,14 @@ named_drop names name named q some = by (bytes_eq q name) some
     by true here = absurd (cc (here))
     by false here = named q here
 
-pub sound_with : (v : TreeState) (new : NameMap) → IsSoundState v → HasNoFileAsFolder new → AreNames new → IsSoundState (with_names v new)
+pub sound_with : (v : TreeState) (new : NameMap) → IsSoundState v → HasNoFileAsFolder new → AreNames new → IsSoundState (with_newer_name_map v new)
 sound_with v new old good names = record { folders = folders; named = named; bytes = old.bytes }
   where
-    folders : (map : NameMap) → IsCurrentOrOlderMap (with_names v new) map → HasNoFileAsFolder map
+    folders : (map : NameMap) → IsCurrentOrOlderMap (with_newer_name_map v new) map → HasNoFileAsFolder map
     folders map (inl is) = subst HasNoFileAsFolder (sym is) good
     folders map (inr other) = old.folders map other
 
-    named : (map : NameMap) → IsCurrentOrOlderMap (with_names v new) map → AreNames map
+    named : (map : NameMap) → IsCurrentOrOlderMap (with_newer_name_map v new) map → AreNames map
     named map (inl is) = subst AreNames (sym is) names
     named map (inr other) = old.named map other
 

@@ -2,8 +2,8 @@
 use Rattle.std.specs.Prelude.{◌≡◌, true, false, [], ◌∷◌, Some, None, codes, length, refl}
 use Rattle.base_core.specs.Tree.{TreeState, after_create, after_append, after_sync, after_rename, after_remove, after_sync_names}
 use Rattle.tree_memory.specs.Changes.{empty_state, after_put}
-use Rattle.tree_memory.specs.Images.{crash_bytes, maps_newest_first, picked_crash_map, crash_image_count_of}
-use Rattle.tree_memory.specs.Plans.{PlanState, is_next_call_to_fail, has_later_failure, plan_after_one_call}
+use Rattle.tree_memory.specs.Images.{crash_bytes, maps_newest_first, picked_crash_map, crash_map_pick_count_of}
+use Rattle.tree_memory.specs.Plans.{FailurePlanState, is_next_call_to_fail, has_next_or_later_failure, plan_after_one_call}
 
 -- ---- images: an old file, and a new one that is not synced
 
@@ -70,13 +70,13 @@ row_oldest_undone : (picked_crash_map 2 two_changes (codes "new") ≡ None) × (
 unfolding two_maps two_changes
 row_oldest_undone = (refl, refl)
 
-row_count : (crash_image_count_of two_changes ≡ 4) × (crash_image_count_of two_maps ≡ 2)
+row_count : (crash_map_pick_count_of two_changes ≡ 4) × (crash_map_pick_count_of two_maps ≡ 2)
 unfolding two_maps two_changes
 row_count = (refl, refl)
 
 -- ---- plans
 
-first_and_third : PlanState
+first_and_third : FailurePlanState
 first_and_third = record { listed = 3 ∷ (1 ∷ []); stop = None }
 
 row_first : is_next_call_to_fail first_and_third ≡ true
@@ -91,11 +91,11 @@ row_third : is_next_call_to_fail (plan_after_one_call (plan_after_one_call first
 unfolding first_and_third
 row_third = refl
 
-row_past : has_later_failure (plan_after_one_call (plan_after_one_call (plan_after_one_call first_and_third))) ≡ false
+row_past : has_next_or_later_failure (plan_after_one_call (plan_after_one_call (plan_after_one_call first_and_third))) ≡ false
 unfolding first_and_third
 row_past = refl
 
-stopped : PlanState
+stopped : FailurePlanState
 stopped = record { listed = []; stop = Some 1 }
 
 row_one_more : is_next_call_to_fail stopped ≡ false

@@ -3,17 +3,17 @@ use Rattle.std.proofs.Common.{◌≡◌, ◌≢◌, ◌⊎◌, inl, inr, ⊎_eli
 use Rattle.std.proofs.lemmas.Bool.{le-leb, lt-leb}
 use Rattle.base_core.specs.Files.{NameMap, no_names}
 use Rattle.base_core.specs.Tree.{TreeState}
-use Rattle.base_core.specs.Undone.{MayBeLeftByCrash, IsCrashMap, with_change_replayed}
+use Rattle.base_core.specs.Undone.{CrashOfMapsMayLeaveMap, IsCrashMap, with_change_replayed}
 use Rattle.base_core.proofs.Undone.{change_off, change_whole}
-use Rattle.tree_memory.specs.Images.{maps_newest_first, most_changes_with_all_subsets, is_bit_set_at, is_change_undone, map_without, picked_crash_map, crash_image_count_of}
+use Rattle.tree_memory.specs.Images.{maps_newest_first, most_changes_with_all_subsets, is_bit_set_at, is_change_undone, map_without, picked_crash_map, crash_map_pick_count_of}
 
 -- ---- what is left is a map that a crash may leave
 
-without_left : (undone : ℕ → Bool) (new : NameMap) (older : List NameMap) → MayBeLeftByCrash new older (map_without undone new older)
+without_left : (undone : ℕ → Bool) (new : NameMap) (older : List NameMap) → CrashOfMapsMayLeaveMap new older (map_without undone new older)
 without_left undone new [] = refl
 without_left undone new (old ∷ older) = by (undone (length older)) (without_left undone old older)
   where
-    by : (b : Bool) → MayBeLeftByCrash old older (map_without undone old older) → MayBeLeftByCrash new (old ∷ older) (cond b (map_without undone old older) (with_change_replayed old new (map_without undone old older)))
+    by : (b : Bool) → CrashOfMapsMayLeaveMap old older (map_without undone old older) → CrashOfMapsMayLeaveMap new (old ∷ older) (cond b (map_without undone old older) (with_change_replayed old new (map_without undone old older)))
     by true left = inr left
     by false left = inl (map_without undone old older, left, refl)
 
@@ -91,7 +91,7 @@ module _ (old new : NameMap) (older : List NameMap) (n more : ℕ) (half : more 
 twice : (m : ℕ) → 2 ^ suc m ≡ 2 ^ m + 2 ^ m
 twice m = omega arith
 
-digits : (new : NameMap) (older : List NameMap) (map : NameMap) → MayBeLeftByCrash new older map → (n : ℕ) × IsPickedBy new older map n
+digits : (new : NameMap) (older : List NameMap) (map : NameMap) → CrashOfMapsMayLeaveMap new older map → (n : ℕ) × IsPickedBy new older map n
 digits new [] map is = (0, (omega arith, sym is))
 digits new (old ∷ older) map (inl (kept, left, is)) =
     let (n, (below, same)) = digits old older kept left in
@@ -104,7 +104,7 @@ digits new (old ∷ older) map (inr left) =
     let last : (n + n + 1) % 2 ≡ 1 = omega arith in
     (n + n + 1, (omega (arith, below, twice (length older)), digit_more old new older n (n + n + 1) half true (ap (λ r. r == 1) last) ∙ same))
 
-pub each_picked : (v : TreeState) (map : NameMap) → length v.older ≤ most_changes_with_all_subsets → IsCrashMap v map → (pick : ℕ) × (pick < crash_image_count_of v) × (picked_crash_map pick v ≡ map)
+pub each_picked : (v : TreeState) (map : NameMap) → length v.older ≤ most_changes_with_all_subsets → IsCrashMap v map → (pick : ℕ) × (pick < crash_map_pick_count_of v) × (picked_crash_map pick v ≡ map)
 each_picked v map few left =
     let (n, (below, same)) = digits v.names v.older map left in
     let is_few : leb (length v.older) most_changes_with_all_subsets ≡ true = le-leb (length v.older) most_changes_with_all_subsets few in (

@@ -35,8 +35,8 @@ is_change_undone changes pick number =
 
 -- how many numbers pick a map of names, given how many changes of names followed the last sync of the names; at
 -- most 2^64 - 1
-abbrev pub crash_image_count : ℕ → ℕ
-crash_image_count changes =
+abbrev pub crash_map_pick_count : ℕ → ℕ
+crash_map_pick_count changes =
     if nat_le changes most_changes_with_all_subsets then 2 ^ changes else min (changes * 2 + 1) (2 ^ 64 - 1)
 
 -- the map of names that a crash leaves if it undoes the changes for whose number `undone` is true, given the newest map
@@ -60,8 +60,8 @@ crash_bytes way file = if file.synced || way == 0 then file.bytes else
     (if way == 1 then [] else replicate (length file.bytes) 255)
 
 -- how many numbers pick a map of names that a crash at this state may leave: the numbers below the result
-abbrev pub crash_image_count_of : TreeState → ℕ
-crash_image_count_of v = crash_image_count (length v.older)
+abbrev pub crash_map_pick_count_of : TreeState → ℕ
+crash_map_pick_count_of v = crash_map_pick_count (length v.older)
 
 -- `map` is the map of names of the image that the number `pick` picks: the picked map, or the current map of the state
 -- `v` if in the picked map a file is a folder of another, which no tree has
@@ -74,9 +74,9 @@ pub record IsPickedImageMap (pick : ℕ) (v : TreeState) (map : NameMap) : Type 
 -- `image` are the files after the crash that the number `choice` picks. The number is divided by how many numbers
 -- pick a map of names: the remainder picks the map, and the quotient modulo 3 the bytes of unsynced files
 abbrev pub IsImageOf : ℕ → TreeState → Files → Type 0
-IsImageOf choice v image = (map : NameMap) × IsPickedImageMap (choice % crash_image_count_of v) v map
+IsImageOf choice v image = (map : NameMap) × IsPickedImageMap (choice % crash_map_pick_count_of v) v map
     × ((q : List ℕ) → image q
-    ≡ option_map (λ n. crash_bytes ((choice / crash_image_count_of v) % 3) (v.files n)) (map q))
+    ≡ option_map (λ n. crash_bytes ((choice / crash_map_pick_count_of v) % 3) (v.files n)) (map q))
 
 -- the entries of a table are the map of names of the image that the number `pick` picks
 pub record HasImageNames (pick : ℕ) (v : TreeState) (entries : List NameAndFile) : Type 0 where

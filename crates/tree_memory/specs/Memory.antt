@@ -4,7 +4,7 @@
 use Rattle.std.specs.Prelude.{◌≡◌, ◌⊎◌, ℕ, true, false, if◌then◌else◌, List, Result, OnOk, OnErr, is_ok}
 use Rattle.base_core.specs.Faults.{Counts, saturating_increment}
 use Rattle.base_core.specs.Tree.{TreeState}
-use Rattle.tree_memory.specs.Plans.{PlanState, is_next_call_to_fail, has_later_failure, plan_after_one_call}
+use Rattle.tree_memory.specs.Plans.{FailurePlanState, is_next_call_to_fail, has_next_or_later_failure, plan_after_one_call}
 use Rattle.tree_memory.specs.Stores.{store_state, store_history}
 use Rattle.tree_memory.specs.declared.calls.Calls.{Calls}
 use Rattle.tree_memory.specs.declared.tree.MemoryTree.{MemoryTree}
@@ -18,8 +18,8 @@ abbrev pub history_of : MemoryTree → List TreeState
 history_of tree = store_history tree.store
 
 -- which calls of a tree in memory are to fail
-abbrev pub plan_of : MemoryTree → PlanState
-plan_of tree = tree.calls.plan
+abbrev pub failure_plan_of : MemoryTree → FailurePlanState
+failure_plan_of tree = tree.calls.plan
 
 -- no call has failed, and no failure is planned
 abbrev pub no_faults : Counts
@@ -32,7 +32,7 @@ counts_by calls = record {
   faults = calls.tally.faults;
   misuses = calls.tally.misuses;
   memory_faults = calls.tally.memory_faults;
-  fallible = has_later_failure calls.plan;
+  fallible = has_next_or_later_failure calls.plan;
 }
 
 -- the counts of a tree in memory: its failed calls, its misuses, and its calls that ran out of memory
@@ -61,7 +61,7 @@ pub record IsReadCall {T E : Type 0} (old new : MemoryTree) (result : Result T E
   -- no call that writes is counted
   pub writes : writes_of new ≡ writes_of old
   -- the plan of failures is then counted from the call after this one
-  pub plan : plan_of new ≡ plan_after_one_call (plan_of old)
+  pub plan : failure_plan_of new ≡ plan_after_one_call (failure_plan_of old)
   -- an error is counted as a fault
   pub faults : (counts_of new).faults
       ≡ (if is_ok result then (counts_of old).faults else saturating_increment
@@ -75,14 +75,14 @@ pub record IsReadCall {T E : Type 0} (old new : MemoryTree) (result : Result T E
 -- the call
 pub record HasNoReasonToFail (can : TreeState → Type 0) (old : MemoryTree) : Type 0 where
   -- no failure of the call is planned
-  pub unplanned : is_next_call_to_fail (plan_of old) ≡ false
+  pub unplanned : is_next_call_to_fail (failure_plan_of old) ≡ false
   -- the state allows the call, so that it is no misuse
   pub proper : can (tree_state old)
 
 -- a call failed because its failure was planned, or because it was a misuse (`can` says which states allow the call)
 pub record FailedByPlanOrMisuse (can : TreeState → Type 0) (old new : MemoryTree) : Type 0 where
   -- the failure is planned, or the state does not allow the call
-  pub reason : (is_next_call_to_fail (plan_of old) ≡ true) ⊎ (can (tree_state old) → ⊥)
+  pub reason : (is_next_call_to_fail (failure_plan_of old) ≡ true) ⊎ (can (tree_state old) → ⊥)
   -- no lack of memory is counted
   pub memory_faults : (counts_of new).memory_faults ≡ (counts_of old).memory_faults
 
@@ -102,7 +102,7 @@ pub record IsWriteCall {T E : Type 0} (can : TreeState → Type 0) (old new : Me
   -- the call is counted as one that writes
   pub writes : writes_of new ≡ saturating_increment (writes_of old)
   -- the plan of failures is then counted from the call after this one
-  pub plan : plan_of new ≡ plan_after_one_call (plan_of old)
+  pub plan : failure_plan_of new ≡ plan_after_one_call (failure_plan_of old)
   -- the greatest length that a `read_at` asked for is unchanged
   pub longest : longest_read_of new ≡ longest_read_of old
   -- an error is counted as a fault

@@ -5,8 +5,8 @@ use Rattle.std.proofs.Common.{inl, inr, sym, ap, subst, arith}
 use Rattle.std.specs.Str.{bytes_eq}
 use Rattle.std.specs.List.{list_any}
 use Rattle.std.proofs.lemmas.List.Elements.{All-nil, All-cons}
-use Rattle.base_core.specs.Files.{NameMap, HasNamesAmong, put_name, drop_name, move_name}
-use Rattle.base_core.specs.Tree.{TreeState, File, IsWellFormed, IsCurrentOrOlderMap, with_file_changed, with_names, after_create, with_file_moved, with_name_removed, after_sync_names}
+use Rattle.base_core.specs.Files.{NameMap, HasOnlyNamesAmong, put_name, drop_name, move_name}
+use Rattle.base_core.specs.Tree.{TreeState, File, IsWellFormed, IsCurrentOrOlderMap, with_file_changed, with_newer_name_map, after_create, with_file_moved, with_name_removed, after_sync_names}
 use Rattle.tree_memory.specs.Changes.{empty_state, after_put, step, first_bytes_of_file, state_after_changes, earlier_states, contents_of}
 use Rattle.tree_memory.specs.Kept.{IsSoundState}
 use Rattle.tree_memory.specs.Memory.{history_of}
@@ -17,7 +17,7 @@ use Rattle.tree_memory.specs.declared.tree.MemoryTree.{MemoryTree}
 -- a map of names has finitely many names, and leads only to file numbers below `made`
 pub record IsFiniteMapOfMadeFiles (made : ℕ) (map : NameMap) : Type 0 where
   -- all names of the map are in some finite list
-  pub finite : (names : List (List ℕ)) × HasNamesAmong names map
+  pub finite : (names : List (List ℕ)) × HasOnlyNamesAmong names map
   -- each name leads to a file number below `made`
   pub below : (q : List ℕ) (n : ℕ) → map q ≡ Some n → n < made
 
@@ -32,7 +32,7 @@ bounded_empty = record { each = λ map is. record { finite = finite map is; belo
   where
     -- each map of names of the empty state has no name, so that the empty list has all its names
     finite : (map : NameMap) → IsCurrentOrOlderMap empty_state map → (names : List (List ℕ))
-        × HasNamesAmong names map
+        × HasOnlyNamesAmong names map
     finite map (inl is) =
         ([], λ q some. let none : map q ≡ None = ap (λ (m : NameMap). m q) is in cc (none, some))
     finite map (inr other) = absurd other
@@ -145,13 +145,14 @@ bounded-with_file_changed change v None whole = whole
 bounded-with_file_changed change v (Some n) whole = record { each = whole.each }
 
 -- if a state gets a new map of names that is finite and leads only to made files, this holds of each of its maps
-bounded-with_names : (v : TreeState) (new : NameMap) → AreMapsFiniteOfMadeFiles v
+bounded-with_newer_name_map : (v : TreeState) (new : NameMap) → AreMapsFiniteOfMadeFiles v
     → IsFiniteMapOfMadeFiles v.made new
-    → AreMapsFiniteOfMadeFiles (with_names v new)
-bounded-with_names v new whole small = record { each = each }
+    → AreMapsFiniteOfMadeFiles (with_newer_name_map v new)
+bounded-with_newer_name_map v new whole small = record { each = each }
   where
     -- a map is the new one, or one of the maps before
-    each : (map : NameMap) → IsCurrentOrOlderMap (with_names v new) map → IsFiniteMapOfMadeFiles v.made map
+    each : (map : NameMap) → IsCurrentOrOlderMap (with_newer_name_map v new) map
+        → IsFiniteMapOfMadeFiles v.made map
     each map (inl is) = same_map v.made map new is small
     each map (inr old) = whole.each map old
 
@@ -161,7 +162,7 @@ bounded-with_file_moved : (from to : List ℕ) (v : TreeState) (o : Option ℕ) 
 bounded-with_file_moved from to v None is whole = whole
 bounded-with_file_moved from to v (Some n) is whole =
     let old = whole.each v.names (inl refl) in
-    bounded-with_names v (move_name v.names from to n) whole
+    bounded-with_newer_name_map v (move_name v.names from to n) whole
     (bounded_put v.made to n (drop_name v.names from) (old.below from n is)
     (bounded_drop v.made from v.names old))
 
@@ -170,7 +171,7 @@ bounded-with_name_removed : (name : List ℕ) (v : TreeState) (o : Option ℕ) �
     → AreMapsFiniteOfMadeFiles (with_name_removed name v o)
 bounded-with_name_removed name v None whole = whole
 bounded-with_name_removed name v (Some n) whole =
-    bounded-with_names v (drop_name v.names name) whole
+    bounded-with_newer_name_map v (drop_name v.names name) whole
     (bounded_drop v.made name v.names (whole.each v.names (inl refl)))
 
 -- after a sync of the names, each map of names is still finite and leads only to made files

@@ -3,9 +3,9 @@
 
 ghost use Rattle.std.specs.Prelude.{◌≡◌, [], None, Some, OnOk, OnErr, is_ok, if◌then◌else◌, ◌⊎◌, ◌+◌, ℕ, false};
 ghost use Rattle.base_core.specs.Faults.{saturating_increment, IsFaultCountedWithCause, RoseOrIsSaturated};
-ghost use Rattle.tree_memory.specs.Plans.{PlanState, no_plan, is_next_call_to_fail, is_next_call_listed, plan_after_one_call, listed_calls_after_one_call, has_later_failure, is_call_to_fail, plan_after_calls};
+ghost use Rattle.tree_memory.specs.Plans.{FailurePlanState, no_plan, is_next_call_to_fail, is_next_call_listed, plan_after_one_call, listed_calls_after_one_call, has_next_or_later_failure, is_call_to_fail, plan_after_calls};
 ghost use Rattle.tree_memory.specs.Tallies.{no_calls, with_call, with_fault, with_misuse, with_memory_fault, with_begun_call, goes_on, HasNotFallen};
-ghost use Rattle.tree_memory.specs.Memory.{plan_of, counts_of};
+ghost use Rattle.tree_memory.specs.Memory.{failure_plan_of, counts_of};
 ghost use Rattle.tree_memory.specs.Sink.{SinkState, sink_counts};
 ghost use Rattle.tree_memory.specs.declared.tree.MemoryTree.{MemoryTree};
 
@@ -23,9 +23,9 @@ pub struct Plan {
 }
 
 impl Model for Plan {
-    ghost use Rattle.tree_memory.specs.Plans.{PlanState};
+    ghost use Rattle.tree_memory.specs.Plans.{FailurePlanState};
 
-    ghost Value = { PlanState };
+    ghost Value = { FailurePlanState };
 
     ghost view = { λ plan. record { listed = plan.listed.items; stop = plan.stop } };
 }
@@ -267,7 +267,7 @@ impl Calls {
 /// A law: if no failure of a tree in memory is planned and a fault was counted, a misuse or a lack
 /// of memory was counted too, or one of these two counts was at its greatest value.
 pub fn an_unplanned_fault_has_its_reason()
-    ensures { (before now : MemoryTree) → has_later_failure (plan_of before) ≡ false
+    ensures { (before now : MemoryTree) → has_next_or_later_failure (failure_plan_of before) ≡ false
         → IsFaultCountedWithCause (counts_of before) (counts_of now)
         → RoseOrIsSaturated (counts_of before).misuses (counts_of now).misuses
         ⊎ RoseOrIsSaturated (counts_of before).memory_faults (counts_of now).memory_faults }
@@ -284,6 +284,6 @@ pub fn an_endless_sink_runs_out_of_memory()
 /// A law: after k calls, the next call is to fail exactly if the plan makes call k + 1 fail: it is
 /// listed, or it is after the stop.
 pub fn a_call_fails_where_it_is_planned()
-    ensures { (plan : PlanState) (k : ℕ) → is_next_call_to_fail (plan_after_calls k plan)
+    ensures { (plan : FailurePlanState) (k : ℕ) → is_next_call_to_fail (plan_after_calls k plan)
         ≡ is_call_to_fail plan (k + 1) }
 {}

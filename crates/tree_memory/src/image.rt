@@ -8,7 +8,7 @@ ghost use Rattle.base_core.specs.Tree.{TreeState, files_of};
 ghost use Rattle.base_core.specs.Undone.{IsAfterCrash, IsCrashMap, lead_to_same_file, with_change_replayed};
 ghost use Rattle.base_core.specs.Files.{NameMap};
 ghost use Rattle.tree_memory.specs.Changes.{empty_state, state_after_changes, step, can_record_change};
-ghost use Rattle.tree_memory.specs.Images.{maps_newest_first, syncs_names, map_count_after_change, is_bit_set_at, is_change_undone, most_changes_with_all_subsets, crash_image_count, crash_image_count_of, picked_crash_map, IsImageOf, HasImageNames, crash_bytes, stored_file, HasNames};
+ghost use Rattle.tree_memory.specs.Images.{maps_newest_first, syncs_names, map_count_after_change, is_bit_set_at, is_change_undone, most_changes_with_all_subsets, crash_map_pick_count, crash_map_pick_count_of, picked_crash_map, IsImageOf, HasImageNames, crash_bytes, stored_file, HasNames};
 ghost use Rattle.tree_memory.specs.Stores.{store_state};
 ghost use Rattle.tree_memory.specs.Table.{lookup};
 
@@ -41,9 +41,9 @@ impl Store {
 
     /// How many numbers pick a map of names that a crash may leave: the numbers below the result.
     pub fn picks(&self) -> u64
-        ensures { result ≡ crash_image_count_of (store_state self.now) }
+        ensures { result ≡ crash_map_pick_count_of (store_state self.now) }
     {
-        crash_image_count(self.maps() - 1)
+        crash_map_pick_count(self.maps() - 1)
     }
 
     /// The store after the crash that a number chooses: the number picks the map of names and the
@@ -59,7 +59,7 @@ impl Store {
         // How many changes of names a crash may undo.
         let changes = self.maps() - 1;
         // How many numbers pick a map of names.
-        let picks = crash_image_count(changes);
+        let picks = crash_map_pick_count(changes);
         // What unsynced files contain: as read (0), no bytes (1), or bytes of value 255 (2).
         let way = choice / picks % 3;
         let names = self.image_names(alloc, changes, choice % picks)?;
@@ -127,9 +127,9 @@ impl Store {
 }
 
 // How many numbers pick a map of names, given how many changes of names may be undone.
-fn crash_image_count(changes: u64) -> u64
+fn crash_map_pick_count(changes: u64) -> u64
     // The count of the specification.
-    ensures count { result ≡ crash_image_count changes }
+    ensures count { result ≡ crash_map_pick_count changes }
     // The count is not 0.
     ensures some { 0 < result }
 {
@@ -410,7 +410,7 @@ fn crash_bytes(alloc: Global, file: &Stored, way: u64) -> Result<Vec<u8>, AllocE
 pub fn each_map_of_few_changes_is_picked()
     ensures { (v : TreeState) (map : NameMap) → length v.older ≤ most_changes_with_all_subsets
         → IsCrashMap v map
-        → (pick : ℕ) × (pick < crash_image_count_of v) × (picked_crash_map pick v ≡ map) }
+        → (pick : ℕ) × (pick < crash_map_pick_count_of v) × (picked_crash_map pick v ≡ map) }
 {}
 
 /// A law: the number 0 picks the current map of names, in which no change is undone.

@@ -12,9 +12,9 @@ ghost use Rattle.base_core.specs.Tree.{files_of, after_create, after_append, aft
 ghost use Rattle.base_core.specs.Undone.{IsAfterCrash};
 ghost use Rattle.base_core.specs.declared.tree.TreeFault.TheVariants.{Memory, Disk as DiskFault};
 ghost use Rattle.tree_memory.specs.Changes.{empty_state, after_put};
-ghost use Rattle.tree_memory.specs.Images.{maps_newest_first, crash_image_count_of, IsImageOf};
+ghost use Rattle.tree_memory.specs.Images.{maps_newest_first, crash_map_pick_count_of, IsImageOf};
 ghost use Rattle.tree_memory.specs.Kept.{CanPut};
-ghost use Rattle.tree_memory.specs.Plans.{no_plan, is_next_call_to_fail, has_later_failure, plan_after_one_call};
+ghost use Rattle.tree_memory.specs.Plans.{no_plan, is_next_call_to_fail, has_next_or_later_failure, plan_after_one_call};
 
 use crate::calls::{Calls, Plan};
 use crate::store::Store;
@@ -34,7 +34,7 @@ pub struct MemoryTree {
 }
 
 impl MemoryTree {
-    ghost use Rattle.tree_memory.specs.Memory.{tree_state, history_of, counts_of, calls_of, writes_of, plan_of, longest_read_of, no_faults};
+    ghost use Rattle.tree_memory.specs.Memory.{tree_state, history_of, counts_of, calls_of, writes_of, failure_plan_of, longest_read_of, no_faults};
 
     /// An empty tree, with no faults and no planned failures.
     pub fn new(alloc: Global) -> MemoryTree
@@ -43,7 +43,7 @@ impl MemoryTree {
         // No call has failed, and no failure is planned.
         ensures counts { counts_of result ≡ no_faults }
         // No call is to fail.
-        ensures plan { plan_of result ≡ no_plan }
+        ensures plan { failure_plan_of result ≡ no_plan }
         // No call was made.
         ensures calls { calls_of result ≡ 0 }
         // No call that writes was made.
@@ -81,7 +81,7 @@ impl MemoryTree {
         // The counts of failed calls are unchanged.
         ensures counts { counts_of self.new ≡ counts_of self.old }
         // The planned failures are unchanged.
-        ensures plan { plan_of self.new ≡ plan_of self.old }
+        ensures plan { failure_plan_of self.new ≡ failure_plan_of self.old }
         // The number of calls so far is unchanged.
         ensures calls { calls_of self.new ≡ calls_of self.old }
         // The number of calls so far that write is unchanged.
@@ -111,14 +111,18 @@ impl MemoryTree {
     /// replaces the earlier plan. If out of memory, nothing changes.
     pub fn fail_at(&mut self, calls: &[u64]) -> Result<(), AllocError>
         // On success the plan is this list of calls, and has no stop.
-        ensures ok { OnOk result (plan_of self.new ≡ record { listed = calls.now; stop = None }) }
+        ensures ok { OnOk result (failure_plan_of self.new
+            ≡ record { listed = calls.now; stop = None }) }
         // An error leaves the earlier plan.
-        ensures err { OnErr result (plan_of self.new ≡ plan_of self.old) }
+        ensures err { OnErr result (failure_plan_of self.new ≡ failure_plan_of self.old) }
         // The states of the tree so far are unchanged.
         ensures history { history_of self.new ≡ history_of self.old }
         // The counts are unchanged; `fallible` says whether a later call is planned to fail.
         ensures counts { counts_of self.new
-            ≡ record (counts_of self.old) { fallible = has_later_failure (plan_of self.new) } }
+            ≡ record (counts_of self.old) {
+              fallible = has_next_or_later_failure
+                  (failure_plan_of self.new);
+            } }
         // The number of calls so far is unchanged.
         ensures calls { calls_of self.new ≡ calls_of self.old }
         // The number of calls so far that write is unchanged.
@@ -133,7 +137,7 @@ impl MemoryTree {
     /// Plans that each call of `Tree` after the next n calls fails; this replaces the earlier plan.
     pub fn stop_after(&mut self, n: u64)
         // The plan is this stop alone, without listed calls.
-        ensures plan { plan_of self.new ≡ record { listed = []; stop = Some n } }
+        ensures plan { failure_plan_of self.new ≡ record { listed = []; stop = Some n } }
         // The states of the tree so far are unchanged.
         ensures history { history_of self.new ≡ history_of self.old }
         // The counts are unchanged; `fallible` says that a later call is planned to fail.
@@ -165,7 +169,7 @@ impl MemoryTree {
         // In the new tree no call has failed, and no failure is planned.
         ensures counts { IfOk result (λ image. counts_of image ≡ no_faults) }
         // No call of the new tree is to fail.
-        ensures plan { IfOk result (λ image. plan_of image ≡ no_plan) }
+        ensures plan { IfOk result (λ image. failure_plan_of image ≡ no_plan) }
         // No call of the new tree was made.
         ensures calls { IfOk result (λ image. calls_of image ≡ 0) }
         // No call of the new tree that writes was made.
@@ -227,14 +231,14 @@ impl MemoryTree {
 
     /// How many numbers pick a map of names in `pick_image`: the numbers below the result.
     pub fn picks(&self) -> u64
-        ensures { result ≡ crash_image_count_of (tree_state self.now) }
+        ensures { result ≡ crash_map_pick_count_of (tree_state self.now) }
     {
         self.store.picks()
     }
 }
 
 impl Tree for MemoryTree {
-    ghost use Rattle.tree_memory.specs.Memory.{tree_state, history_of, counts_of, calls_of, writes_of, plan_of, longest_read_of, IsReadCall, IsWriteCall};
+    ghost use Rattle.tree_memory.specs.Memory.{tree_state, history_of, counts_of, calls_of, writes_of, failure_plan_of, longest_read_of, IsReadCall, IsWriteCall};
     ghost use Rattle.tree_memory.specs.WellFormedLaw.{well_formed_history};
 
     // The history of a tree: its states so far, the newest first.
@@ -262,7 +266,7 @@ impl Tree for MemoryTree {
             (λ v. size ≡ option_map length (files_of v name.now))) }
 
         // The call fails exactly if its failure is planned.
-        ensures when { IsOk result ↔ (is_next_call_to_fail (plan_of self.old) ≡ false) }
+        ensures when { IsOk result ↔ (is_next_call_to_fail (failure_plan_of self.old) ≡ false) }
         // One more call that only reads is counted; an error is counted as a fault.
         ensures call { IsReadCall self.old self.new result }
         // The greatest length that a `read_at` asked for is unchanged.
@@ -289,7 +293,7 @@ impl Tree for MemoryTree {
             into.new ≡ take (length into.old) (drop at bytes)))) }
 
         // The call fails exactly if its failure is planned, or if it is a misuse.
-        ensures when { IsOk result ↔ ((is_next_call_to_fail (plan_of self.old) ≡ false)
+        ensures when { IsOk result ↔ ((is_next_call_to_fail (failure_plan_of self.old) ≡ false)
             × CanRead name.now at (length into.old) (tree_state self.old)) }
         // An error leaves the buffer as it was.
         ensures unchanged_after_failed_call { OnErr result (into.new ≡ into.old) }
@@ -449,16 +453,17 @@ impl Tree for MemoryTree {
         ensures order { IfOk result (λ names. AreSortedNamesBelowFolder folder.now names) }
 
         // The call fails with an I/O error exactly if its failure is planned.
-        ensures when { IsErrOf result DiskFault ↔ (is_next_call_to_fail (plan_of self.old) ≡ true) }
+        ensures when { IsErrOf result DiskFault
+            ↔ (is_next_call_to_fail (failure_plan_of self.old) ≡ true) }
         // The numbers of the plan are then counted from the call after this call.
-        ensures plan { plan_of self.new ≡ plan_after_one_call (plan_of self.old) }
+        ensures plan { failure_plan_of self.new ≡ plan_after_one_call (failure_plan_of self.old) }
         // One more call was made.
         ensures calls { calls_of self.new ≡ saturating_increment (calls_of self.old) }
         // The number of calls so far that write is unchanged.
         ensures writes { writes_of self.new ≡ writes_of self.old }
         // One more fault is counted if the failure of this call is planned.
         ensures faults { (counts_of self.new).faults
-            ≡ (if is_next_call_to_fail (plan_of self.old) then saturating_increment
+            ≡ (if is_next_call_to_fail (failure_plan_of self.old) then saturating_increment
             (counts_of self.old).faults else
             (counts_of self.old).faults) }
         // No call is counted as failed for lack of memory of the tree.
@@ -484,7 +489,7 @@ impl Tree for MemoryTree {
             (counts_of self.new) result }
 
         // The call fails exactly if its failure is planned.
-        ensures when { IsOk result ↔ (is_next_call_to_fail (plan_of self.old) ≡ false) }
+        ensures when { IsOk result ↔ (is_next_call_to_fail (failure_plan_of self.old) ≡ false) }
         // One more call that only reads is counted; an error is counted as a fault.
         ensures call { IsReadCall self.old self.new result }
         // The greatest length that a `read_at` asked for is unchanged.

@@ -7,7 +7,7 @@ use Rattle.std.proofs.lemmas.Bool.{cases_Bool}
 use Rattle.dep_core.specs.Dependency.{Dependency}
 use Rattle.search_tables.specs.candidate_core.Candidates.{Candidate, meets_dependency, occupies_name}
 use Rattle.search_tables.specs.candidate_core.Rank.{SealedPool, candidate_at}
-use Rattle.search_tables.specs.Selection.{conflicts_with, does_exclude, exclude_each_other, occupied_names, share_a_name}
+use Rattle.search_tables.specs.Selection.{is_conflict_of_first_met_by_second, does_exclude, exclude_each_other, occupied_names, share_a_name}
 use Rattle.unmet_world.specs.Exclusion.{conflict_between, conflict_with, is_conflict_met_by, shared_name_at_places, occupied_among, shared_name}
 
 found_any : {X : Type 0} (p : X → Bool) (xs : List X) (x : X) → find p xs ≡ Some x → list_any p xs ≡ true
@@ -70,7 +70,7 @@ module _ (pool : SealedPool) (a b : ℕ) (apart : (a == b) ≡ false) where
   conflicts : (c d : ℕ) → is_some (conflict_between pool c d) ≡ true → does_exclude pool c d ≡ true
   conflicts c d h =
       let found = some_is (conflict_between pool c d) h in
-      let held : conflicts_with pool c d ≡ true = conflict_held (candidate_at pool c) (candidate_at pool d) found.0 found.1 in
+      let held : is_conflict_of_first_met_by_second pool c d ≡ true = conflict_held (candidate_at pool c) (candidate_at pool d) found.0 found.1 in
       rw held refl
 
   pub by_conflict : {X : Type 0} (f : X → Dependency) (o : Option X) → option_map f o ≡ conflict_between pool a b → is_some o ≡ true → exclude_each_other pool a b ≡ true
@@ -83,7 +83,7 @@ module _ (pool : SealedPool) (a b : ℕ) (apart : (a == b) ≡ false) where
   by_name h =
       let found = some_is (shared_name_at_places pool a b) h in
       let held : share_a_name pool a b ≡ true = name_held (candidate_at pool a) (candidate_at pool b) found.0 found.1 in
-      kept_out (rw held (or_true (conflicts_with pool a b)))
+      kept_out (rw held (or_true (is_conflict_of_first_met_by_second pool a b)))
     where
       or_true : (x : Bool) → (x || true) ≡ true
       or_true true = refl

@@ -11,7 +11,7 @@ use Rattle.change_inputs.specs.Seen.{inputs_seen}
 use Rattle.change_inputs.specs.declared.loaded.Loaded.{Loaded}
 use Rattle.change_inputs.specs.declared.root.Refused.{Refused}
 use Rattle.change_inputs.specs.declared.root.Refused.TheVariants as Refuseds
-use Rattle.change_inputs.specs.package_files.Runs.{IsExplainedBySomeReads}
+use Rattle.change_inputs.specs.package_files.Runs.{HoldsOfSomeReadsOfTree}
 use Rattle.command_core.specs.Command.{CommandLine}
 use Rattle.dep_core.specs.Dependency.{Dependency}
 use Rattle.dep_core.specs.Repositories.{Repository}
@@ -19,7 +19,7 @@ use Rattle.report_core.specs.declared.refusal.Refusal.{Refusal}
 use Rattle.search_tables.specs.candidate_core.Rank.{SealedPool, no_names}
 use Rattle.unmet_world.specs.Explained.{ExplainsChange, ExplainsIfPool, ExplainsIfRead, ExplainsInputs, ExplainsPool, ExplainsResult}
 
-pub of_read : (command : CommandLine) (history : List TreeState) (read : Result Loaded Refused) (r : Result (Vec ℕ Global) TreeFault) → IsExplainedBySomeReads history (λ reads. AgreesUnlessDiskOrMemory inputs_seen read (inputs_of command reads)) → IfOk r (λ text. ExplainsResult read text.items) → IfOk r (λ text. ExplainsChange command history text.items)
+pub of_read : (command : CommandLine) (history : List TreeState) (read : Result Loaded Refused) (r : Result (Vec ℕ Global) TreeFault) → HoldsOfSomeReadsOfTree history (λ reads. AgreesUnlessDiskOrMemory inputs_seen read (inputs_of command reads)) → IfOk r (λ text. ExplainsResult read text.items) → IfOk r (λ text. ExplainsChange command history text.items)
 of_read command history read (Err fault) e h = tt
 of_read command history (Ok loaded) (Ok text) e h = record { read = e.read; observed = e.observed; is = subst (λ (found : Result Inputs Refusal). ExplainsIfRead found text.items) (sym e.is) h }
 of_read command history (Err (Refuseds.Refusal refusal)) (Ok text) e h = record { read = e.read; observed = e.observed; is = subst (λ (found : Result Inputs Refusal). ExplainsIfRead found text.items) (sym e.is) h }

@@ -8,7 +8,7 @@ use Rattle.dep_core.specs.Repositories.{Repository}
 use Rattle.search_tables.specs.candidate_core.Candidates.{Candidate, is_eligible}
 use Rattle.search_tables.specs.candidate_core.Rank.{SealedPool}
 use Rattle.search_tables.specs.candidate_core.Options.{IsIn}
-use Rattle.search_tables.specs.Selection.{IsSatisfying, install_if_applies, names_by_install_if, positive_needs}
+use Rattle.search_tables.specs.Selection.{IsSatisfying, install_if_applies, names_whose_install_if_applies, positive_needs}
 use Rattle.unmet_world.specs.Lines.{IsExplanationOfUnmetWorld, explanation_text, missing_lines, most_printed_lines, need_lines, printed_line, text_of_at_most_ten_lines, refutation_lines, step_lines, want_lines, with_texts, world_lines}
 use Rattle.unmet_world.specs.Refutation.{IsRefutation, wanted}
 use Rattle.unmet_world.specs.declared.refutation.Refutation.{Refutation}
@@ -43,7 +43,7 @@ filter_none : {X : Type 0} (p : X → Bool) (xs : List X) → ((x : X) → p x �
 filter_none p [] none = refl
 filter_none p (x ∷ xs) none = rw (none x) (filter_none p xs none)
 
-none_asked : (pool : SealedPool) → names_by_install_if pool [] ≡ []
+none_asked : (pool : SealedPool) → names_whose_install_if_applies pool [] ≡ []
 none_asked pool = ap (map (λ (c : Candidate). c.name)) (filter_none (install_if_applies pool []) pool.candidates (none_applies pool))
 
 nothing_satisfies : (pool : SealedPool) → positive_needs pool.world ≡ [] → IsSatisfying pool []

@@ -14,7 +14,7 @@ use Rattle.change_inputs.specs.declared.root.Refused.TheVariants as Refuseds
 use Rattle.command_core.specs.Command.{CommandLine}
 use Rattle.command_core.specs.declared.command.Applet.{Applet}
 use Rattle.command_core.specs.declared.command.Applet.TheVariants.{Add, Del, Upgrade, Fix}
-use Rattle.change_inputs.specs.package_files.Runs.{IsExplainedBySomeReads}
+use Rattle.change_inputs.specs.package_files.Runs.{HoldsOfSomeReadsOfTree}
 use Rattle.report_core.specs.declared.refusal.Refusal.{Refusal}
 use Rattle.hint_core.specs.Repositories.{no_index_line}
 use Rattle.unmet_world.specs.Lines.{IsExplanationOfUnmetWorld}
@@ -58,7 +58,7 @@ ExplainsIfRead (Err refusal) text = text ≡ []
 -- observable, these are reads of the tree
 abbrev pub ExplainsChange : CommandLine → List TreeState → List ℕ → Type 0
 ExplainsChange command history text =
-    IsExplainedBySomeReads history (λ read. ExplainsIfRead (inputs_of command read) text)
+    HoldsOfSomeReadsOfTree history (λ read. ExplainsIfRead (inputs_of command read) text)
 
 -- a text explains a command with this applet; it is empty if the command does not change packages
 abbrev pub ExplainsForApplet : Applet → CommandLine → List TreeState → List ℕ → Type 0

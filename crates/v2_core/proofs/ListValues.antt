@@ -16,7 +16,7 @@ use Rattle.v2_lines.specs.Views.{line_value_view}
 use Rattle.v2_lines.specs.declared.value.Value.{Value}
 use Rattle.v2_lines.specs.declared.value.Value.TheVariants as Values
 use Rattle.v2_core.specs.Database.{value_of_first_or_null, values_if_line_of_field}
-use Rattle.v2_core.specs.Records.{InfoLine, is_line_of}
+use Rattle.v2_core.specs.Records.{InfoLine, is_line_of_field}
 use Rattle.v2_lines.proofs.make_info.Mapped.{with_list}
 use Rattle.v2_core.proofs.Lists.{with_list-append}
 
@@ -43,12 +43,12 @@ given_line f info i l d values old new whole within is says left one =
     ∙ sym (ap (λ (us : List Plain). with_list us old) (line_at f info i l d values within is says) ∙ with_list-append (map plain_value values) (plains_of_lines f (drop (i + 1) info)) old)
     ∙ left
 
-pub line_of_field : (f : InfoField) (info : List InfoLine) (i : ℕ) (l d : InfoLine) (old new whole : DraftState) → i < length info → l ≡ get_or info i d → is_line_of f l ≡ true
+pub line_of_field : (f : InfoField) (info : List InfoLine) (i : ℕ) (l d : InfoLine) (old new whole : DraftState) → i < length info → l ≡ get_or info i d → is_line_of_field f l ≡ true
     → with_list (plains_of_lines f (drop i info)) old ≡ whole → new ≡ with_list (map plain_value l.values) old → with_list (plains_of_lines f (drop (i + 1) info)) new ≡ whole
 line_of_field f info i l d old new whole within is same left one =
     given_line f info i l d l.values old new whole within is (ap (λ b. cond b l.values []) same) left one
 
-pub line_of_another : (f : InfoField) (info : List InfoLine) (i : ℕ) (l d : InfoLine) (old new whole : DraftState) → i < length info → l ≡ get_or info i d → is_line_of f l ≡ false
+pub line_of_another : (f : InfoField) (info : List InfoLine) (i : ℕ) (l d : InfoLine) (old new whole : DraftState) → i < length info → l ≡ get_or info i d → is_line_of_field f l ≡ false
     → with_list (plains_of_lines f (drop i info)) old ≡ whole → new ≡ old → with_list (plains_of_lines f (drop (i + 1) info)) new ≡ whole
 line_of_another f info i l d old new whole within is other left same =
     given_line f info i l d [] old new whole within is (ap (λ b. cond b l.values []) other) left same

@@ -3,10 +3,10 @@ use Rattle.std.proofs.Common.{◌≡◌, ℕ, List, [], ◌∷◌, map, Result, 
 use Rattle.adb_view.specs.Plain.{Plain, none, more, array_or_null, trimmed_object_or_null}
 use Rattle.v2_lines.specs.adb_values.Drafts.{DraftState, draft_with, draft_with_open_list, empty_draft}
 use Rattle.v2_lines.proofs.adb_values.Lists.{Closes}
-use Rattle.v2_lines.specs.adb_write.Canonical.{PayloadCounts, payload_or_overflow}
+use Rattle.v2_lines.specs.adb_write.Canonical.{ByteAndValueCounts, payload_or_overflow}
 use Rattle.v2_lines.specs.make_info.Values.{plains_of_list}
-use Rattle.v2_core.specs.Database.{array_of, record_value, value_of_records}
-use Rattle.v2_core.specs.Payload.{IsV2Fault, or_too_large, payload_if_sound, payload_of_records}
+use Rattle.v2_core.specs.Database.{array_or_null_of_list, record_value, database_value_of_records}
+use Rattle.v2_core.specs.Payload.{IsV2Fault, payload_unless_too_large, payload_if_sound, payload_of_records}
 use Rattle.v2_core.specs.Records.{Record}
 use Rattle.v2_core.specs.Writing.{IsLineFault, draft_with_database, draft_with_records}
 use Rattle.v2_core.specs.declared.read.V2Fault.{V2Fault}
@@ -14,12 +14,12 @@ use Rattle.v2_core.specs.declared.read.V2Fault.TheVariants.{Bad, TooLarge, Memor
 use Rattle.v2_lines.proofs.make_info.Mapped.{with_list}
 
 -- what a draft of the database ends with is the payload, or the counts at which it overflows
-pub finished : (read : Result (List Record) ℕ) (start d : DraftState) (answer : Result (List ℕ) PayloadCounts) → start ≡ empty_draft → draft_with_database read start ≡ Ok d
-    → ((v : Plain) → d ≡ draft_with v empty_draft → payload_or_overflow v ≡ answer) → payload_of_records read ≡ or_too_large answer
+pub finished : (read : Result (List Record) ℕ) (start d : DraftState) (answer : Result (List ℕ) ByteAndValueCounts) → start ≡ empty_draft → draft_with_database read start ≡ Ok d
+    → ((v : Plain) → d ≡ draft_with v empty_draft → payload_or_overflow v ≡ answer) → payload_of_records read ≡ payload_unless_too_large answer
 finished (Ok records) start d answer fresh so end =
-    let v : Plain = value_of_records records in
+    let v : Plain = database_value_of_records records in
     let same : draft_with v start ≡ d = cc in
-    ap or_too_large (end v (sym same ∙ ap (λ (s : DraftState). draft_with v s) fresh))
+    ap payload_unless_too_large (end v (sym same ∙ ap (λ (s : DraftState). draft_with v s) fresh))
 finished (Err line) start d answer fresh so end = absurd cc
 
 -- a bad line is why there is no payload
@@ -40,6 +40,6 @@ pub database_closed : (read : Result (List Record) ℕ) (a b c d e f : DraftStat
 database_closed (Ok records) a b c d e f first second so array object =
     let packages : List Plain = map record_value records in
     let all : with_list packages c ≡ d = cc in
-    let list : e ≡ draft_with (array_of packages) b = array (plains_of_list packages) b (sym all ∙ ap (λ (s : DraftState). with_list packages s) second) in
-    ap (λ (s : DraftState). Ok s) (sym (object (more (array_of packages) none) a (list ∙ ap (λ (s : DraftState). draft_with (array_of packages) s) first)))
+    let list : e ≡ draft_with (array_or_null_of_list packages) b = array (plains_of_list packages) b (sym all ∙ ap (λ (s : DraftState). with_list packages s) second) in
+    ap (λ (s : DraftState). Ok s) (sym (object (more (array_or_null_of_list packages) none) a (list ∙ ap (λ (s : DraftState). draft_with (array_or_null_of_list packages) s) first)))
 database_closed (Err line) a b c d e f first second so array object = absurd cc

@@ -10,8 +10,8 @@ use Rattle.dep_core.specs.World.{is_line_end, lines_of}
 use Rattle.v2_lines.specs.Accesses.{Access}
 use Rattle.v2_lines.specs.InfoFields.{is_list_info_field}
 use Rattle.v2_lines.specs.Lines.{RecordLine, info_line, folder_access_line, file_line, file_access_line, file_hash_line, record_line_of}
-use Rattle.v2_core.specs.Reading.{records_from, records_of, with_records}
-use Rattle.v2_core.specs.Records.{InfoLine, ListedFile, ListedFolder, Record, empty_record, listed_file_from_parts, file_with_access, file_with_hash, listed_folder_from_parts, folder_with_access, folder_with_file, folder_with_last_file_changed, has_line_of, lacks_needed_line, record_from_parts, record_if_both_parts, list_with_last_changed, with_record_line}
+use Rattle.v2_core.specs.Reading.{records_from_unfinished_record, records_of, records_followed_by}
+use Rattle.v2_core.specs.Records.{InfoLine, ListedFile, ListedFolder, Record, empty_record, listed_file_from_parts, file_with_access, file_with_hash, listed_folder_from_parts, folder_with_access, folder_with_file, folder_with_last_file_changed, has_line_of_field, lacks_name_or_version_line, record_from_parts, record_if_both_parts, list_with_last_changed, with_record_line}
 use Rattle.v2_core.specs.Spelling.{AreLines, SpellsRecord, SpellsText, access_lines, file_lines, folder_lines, hash_lines, info_lines, is_one_line, lines_text_before, record_lines, have_no_repeated_single_field}
 use Rattle.v2_core.proofs.Lists.{with_last-push}
 use Rattle.v2_core.proofs.RecordEnds.{good_end}
@@ -106,22 +106,22 @@ taken true has info more h = refl
 taken false false info more h = refl
 taken false true info more h = cc
 
-with_info_line : (has_line : Bool) (info : List InfoLine) (folders : List ListedFolder) (l : InfoLine) → (is_list_info_field l.field || not (has_line_of l.field info)) ≡ true → with_record_line (record_from_parts has_line info folders) (info_line l.field l.values) ≡ Some (record_from_parts true (info ++ l ∷ []) folders)
+with_info_line : (has_line : Bool) (info : List InfoLine) (folders : List ListedFolder) (l : InfoLine) → (is_list_info_field l.field || not (has_line_of_field l.field info)) ≡ true → with_record_line (record_from_parts has_line info folders) (info_line l.field l.values) ≡ Some (record_from_parts true (info ++ l ∷ []) folders)
 with_info_line has_line info folders l h =
-    ap (λ i. record_if_both_parts i (Some folders)) (taken (is_list_info_field l.field) (has_line_of l.field info) info (info ++ l ∷ []) h)
+    ap (λ i. record_if_both_parts i (Some folders)) (taken (is_list_info_field l.field) (has_line_of_field l.field info) info (info ++ l ∷ []) h)
 
 after_info : (done info : List InfoLine) → have_no_repeated_single_field done info ≡ true → after (record_from_parts true done []) (info_lines info) ≡ Some (record_from_parts true (done ++ info) [])
 after_info done [] h = ap (λ i. Some (record_from_parts true i [])) (sym (append-nil done))
 after_info done (l ∷ ls) h =
-    let once = and_parts (is_list_info_field l.field || not (has_line_of l.field done)) (have_no_repeated_single_field (done ++ l ∷ []) ls) h in
+    let once = and_parts (is_list_info_field l.field || not (has_line_of_field l.field done)) (have_no_repeated_single_field (done ++ l ∷ []) ls) h in
     after_more (record_from_parts true done []) (record_from_parts true (done ++ l ∷ []) []) (info_line l.field l.values) (info_lines ls) (with_info_line true done [] l once.0)
     ∙ (after_info (done ++ l ∷ []) ls once.1
     ∙ ap (λ i. Some (record_from_parts true i [])) (append_assoc done (l ∷ []) ls))
 
-after_first : (info : List InfoLine) → lacks_needed_line info ≡ false → have_no_repeated_single_field [] info ≡ true → after empty_record (info_lines info) ≡ Some (record_from_parts true info [])
+after_first : (info : List InfoLine) → lacks_name_or_version_line info ≡ false → have_no_repeated_single_field [] info ≡ true → after empty_record (info_lines info) ≡ Some (record_from_parts true info [])
 after_first [] complete h = cc
 after_first (l ∷ ls) complete h =
-    let once = and_parts (is_list_info_field l.field || not (has_line_of l.field [])) (have_no_repeated_single_field (l ∷ []) ls) h in
+    let once = and_parts (is_list_info_field l.field || not (has_line_of_field l.field [])) (have_no_repeated_single_field (l ∷ []) ls) h in
     after_more empty_record (record_from_parts true (l ∷ []) []) (info_line l.field l.values) (info_lines ls) (with_info_line false [] [] l once.0)
     ∙ after_info (l ∷ []) ls once.1
 
@@ -134,17 +134,17 @@ not_empty (b ∷ bs) l h = not_zero b bs
 same_record : (r s : Record) → ◌≡◌ {A = Option Record} (Some r) (Some s) → r ≡ s
 same_record r s h = cc
 
-read_on_by : (n : ℕ) (r s : Record) (o : Option Record) (t : List ℕ) (ts : List (List ℕ)) (l : RecordLine) (ls : List RecordLine) (rest : List (List ℕ)) → record_line_of t ≡ Some l → with_record_line r l ≡ o → ((q : Record) → after q ls ≡ Some s → records_from (n + 1) q (ts ++ rest) ≡ records_from (n + 1 + length ts) s rest) → option_and_then (λ q. after q ls) o ≡ Some s → records_from n r (t ∷ (ts ++ rest)) ≡ records_from (n + suc (length ts)) s rest
+read_on_by : (n : ℕ) (r s : Record) (o : Option Record) (t : List ℕ) (ts : List (List ℕ)) (l : RecordLine) (ls : List RecordLine) (rest : List (List ℕ)) → record_line_of t ≡ Some l → with_record_line r l ≡ o → ((q : Record) → after q ls ≡ Some s → records_from_unfinished_record (n + 1) q (ts ++ rest) ≡ records_from_unfinished_record (n + 1 + length ts) s rest) → option_and_then (λ q. after q ls) o ≡ Some s → records_from_unfinished_record n r (t ∷ (ts ++ rest)) ≡ records_from_unfinished_record (n + suc (length ts)) s rest
 read_on_by n r s None t ts l ls rest says is on h = cc
 read_on_by n r s (Some q) t ts l ls rest says is on h =
     let count : n + 1 + length ts ≡ n + suc (length ts) = omega arith in
     at_good_line n r q t (ts ++ rest) (not_empty t l says) (ap (option_and_then (with_record_line r)) says ∙ is)
-    ∙ (on q h ∙ ap (λ k. records_from k s rest) count)
+    ∙ (on q h ∙ ap (λ k. records_from_unfinished_record k s rest) count)
 
-read_on : (n : ℕ) (r s : Record) (ts : List (List ℕ)) (ls : List RecordLine) (rest : List (List ℕ)) → AreLines ts ls → after r ls ≡ Some s → records_from n r (ts ++ rest) ≡ records_from (n + length ts) s rest
+read_on : (n : ℕ) (r s : Record) (ts : List (List ℕ)) (ls : List RecordLine) (rest : List (List ℕ)) → AreLines ts ls → after r ls ≡ Some s → records_from_unfinished_record n r (ts ++ rest) ≡ records_from_unfinished_record (n + length ts) s rest
 read_on n r s [] [] rest lines h =
     let count : n ≡ n + 0 = omega arith in
-    ap (λ q. records_from n q rest) (same_record r s h) ∙ ap (λ k. records_from k s rest) count
+    ap (λ q. records_from_unfinished_record n q rest) (same_record r s h) ∙ ap (λ k. records_from_unfinished_record k s rest) count
 read_on n r s [] (l ∷ ls) rest lines h = absurd lines
 read_on n r s (t ∷ ts) [] rest lines h = absurd lines
 read_on n r s (t ∷ ts) (l ∷ ls) rest lines h =
@@ -153,7 +153,7 @@ read_on n r s (t ∷ ts) (l ∷ ls) rest lines h =
 whole : (r : Record) → r.has_line ≡ true → record_from_parts true r.info r.folders ≡ r
 whole r h = ap (λ b. record_from_parts b r.info r.folders) (sym h)
 
-read_record : (n : ℕ) (r : Record) (texts rest : List (List ℕ)) → SpellsRecord texts r → records_from n empty_record (texts ++ rest) ≡ records_from (n + length texts) r rest
+read_record : (n : ℕ) (r : Record) (texts rest : List (List ℕ)) → SpellsRecord texts r → records_from_unfinished_record n empty_record (texts ++ rest) ≡ records_from_unfinished_record (n + length texts) r rest
 read_record n r texts rest spells =
     read_on n empty_record r texts (record_lines r) rest spells.lines_say
     (after_both empty_record (record_from_parts true r.info []) (info_lines r.info) (flat_map folder_lines r.folders) (after_first r.info spells.complete spells.once)
@@ -171,19 +171,19 @@ split_lines (t ∷ ts) (l ∷ ls) rest lines =
     slice_split_at is_line_end t 10 (lines_text_before ts rest) (no_line_ends t lines.0) refl
     ∙ ap (λ more. t ∷ more) (split_lines ts ls rest lines.2)
 
-read_back : (n : ℕ) (text : List ℕ) (rs : List Record) → SpellsText text rs → records_from n empty_record (lines_of text) ≡ Ok rs
-read_back n text [] spelled = ap (λ t. records_from n empty_record (lines_of t)) spelled
+read_back : (n : ℕ) (text : List ℕ) (rs : List Record) → SpellsText text rs → records_from_unfinished_record n empty_record (lines_of text) ≡ Ok rs
+read_back n text [] spelled = ap (λ t. records_from_unfinished_record n empty_record (lines_of t)) spelled
 read_back n text (r ∷ rs) spelled =
     let lines = spelled.0 in
     let rest = spelled.1 in
     let spells : SpellsRecord lines r = spelled.3 in
     let m = n + length lines in
-    ap (λ t. records_from n empty_record (lines_of t)) spelled.2
-    ∙ (ap (records_from n empty_record) (split_lines lines (record_lines r) (10 ∷ rest) spells.lines_say)
+    ap (λ t. records_from_unfinished_record n empty_record (lines_of t)) spelled.2
+    ∙ (ap (records_from_unfinished_record n empty_record) (split_lines lines (record_lines r) (10 ∷ rest) spells.lines_say)
     ∙ (read_record n r lines ([] ∷ lines_of rest) spells
     ∙ (at_empty_line m r [] (lines_of rest) refl
-    ∙ (good_end m r (records_from (m + 1) empty_record (lines_of rest)) spells.begun spells.complete
-    ∙ ap (with_records (r ∷ [])) (read_back (m + 1) rest rs spelled.4)))))
+    ∙ (good_end m r (records_from_unfinished_record (m + 1) empty_record (lines_of rest)) spells.begun spells.complete
+    ∙ ap (records_followed_by (r ∷ [])) (read_back (m + 1) rest rs spelled.4)))))
 
 pub text_read_back : (text : List ℕ) (rs : List Record) → SpellsText text rs → records_of text ≡ Ok rs
 unfolding records_of

@@ -10,15 +10,15 @@ use Rattle.v2_lines.specs.make_info.Values.{plains_of_list}
 use Rattle.v2_lines.specs.Accesses.{Access}
 use Rattle.v2_lines.specs.declared.field.InfoField.{InfoField}
 use Rattle.v2_lines.specs.declared.field.InfoField.TheVariants as Fields
-use Rattle.v2_core.specs.Records.{InfoLine, ListedFile, ListedFolder, Record, is_line_of}
+use Rattle.v2_core.specs.Records.{InfoLine, ListedFile, ListedFolder, Record, is_line_of_field}
 
 -- the array of some values; Null if there are none
-abbrev pub array_of : List Plain → Plain
-array_of vs = array_or_null (plains_of_list vs)
+abbrev pub array_or_null_of_list : List Plain → Plain
+array_or_null_of_list vs = array_or_null (plains_of_list vs)
 
 -- the object of some values, without the last Nulls
-abbrev pub object_of : List Plain → Plain
-object_of vs = trimmed_object_or_null (plains_of_list vs)
+abbrev pub trimmed_object_or_null_of_list : List Plain → Plain
+trimmed_object_or_null_of_list vs = trimmed_object_or_null (plains_of_list vs)
 
 -- ---- the package's information
 
@@ -34,21 +34,22 @@ value_of_line (Some line) = value_of_first_or_null line.values
 
 -- the value of a field of which a record has one line at most
 abbrev pub value_of_single_line_field : InfoField → List InfoLine → Plain
-value_of_single_line_field f info = value_of_line (find (is_line_of f) info)
+value_of_single_line_field f info = value_of_line (find (is_line_of_field f) info)
 
 -- the values of a line if the line is of this field, otherwise none
 abbrev pub values_if_line_of_field : InfoField → InfoLine → List FieldValue
-values_if_line_of_field f line = if is_line_of f line then line.values else []
+values_if_line_of_field f line = if is_line_of_field f line then line.values else []
 
 -- the array of all values that the lines of a field give
 abbrev pub array_of_field_values : InfoField → List InfoLine → Plain
-array_of_field_values f info = array_of (map plain_value (flat_map (values_if_line_of_field f) info))
+array_of_field_values f info =
+    array_or_null_of_list (map plain_value (flat_map (values_if_line_of_field f) info))
 
 -- the object of a package's information: the first 18 fields of table 3 in order. The 13th, file-size,
 -- is Null, since the text does not have it, and so are the fields after these
 unfoldable pub record_info_value : List InfoLine → Plain
 record_info_value info =
-    object_of
+    trimmed_object_or_null_of_list
     (value_of_single_line_field Fields.Name info ∷ value_of_single_line_field Fields.Version info
     ∷ value_of_single_line_field Fields.Hashes info
     ∷ value_of_single_line_field Fields.Description info ∷ value_of_single_line_field Fields.Arch info
@@ -65,7 +66,8 @@ record_info_value info =
 -- the object of an owner and mode (table 2): mode, user, group; Null if no line gives them
 abbrev pub listed_access_value : Option Access → Plain
 listed_access_value None = null
-listed_access_value (Some a) = object_of (int a.mode ∷ blob_or_null a.user ∷ blob_or_null a.group ∷ [])
+listed_access_value (Some a) =
+    trimmed_object_or_null_of_list (int a.mode ∷ blob_or_null a.user ∷ blob_or_null a.group ∷ [])
 
 -- the blob of a file's hash; Null if no line gives it
 abbrev pub listed_hash_value : Option (List ℕ) → Plain
@@ -76,16 +78,16 @@ listed_hash_value (Some hash) = blob_or_null hash
 -- text does not have them
 abbrev pub listed_file_value : ListedFile → Plain
 listed_file_value file =
-    object_of
+    trimmed_object_or_null_of_list
     (blob_or_null file.name ∷ listed_access_value file.access ∷ null ∷ null
     ∷ listed_hash_value file.hash ∷ [])
 
 -- the object of a folder (table 5): name, acl, files
 abbrev pub listed_folder_value : ListedFolder → Plain
 listed_folder_value folder =
-    object_of
+    trimmed_object_or_null_of_list
     (blob_or_null folder.name ∷ listed_access_value folder.access
-    ∷ array_of (map listed_file_value folder.files) ∷ [])
+    ∷ array_or_null_of_list (map listed_file_value folder.files) ∷ [])
 
 -- ---- packages
 
@@ -93,10 +95,11 @@ listed_folder_value folder =
 -- triggers are Null, since the text has none
 abbrev pub record_value : Record → Plain
 record_value r =
-    object_of
-    (record_info_value r.info ∷ array_of (map listed_folder_value r.folders) ∷ null ∷ null
+    trimmed_object_or_null_of_list
+    (record_info_value r.info ∷ array_or_null_of_list (map listed_folder_value r.folders) ∷ null ∷ null
     ∷ value_of_single_line_field Fields.ReplacesPriority r.info ∷ [])
 
 -- the object of an installed database (table 9): a package for each record, in the order of the text
-abbrev pub value_of_records : List Record → Plain
-value_of_records records = object_of (array_of (map record_value records) ∷ [])
+abbrev pub database_value_of_records : List Record → Plain
+database_value_of_records records =
+    trimmed_object_or_null_of_list (array_or_null_of_list (map record_value records) ∷ [])

@@ -2,12 +2,12 @@
 -- The rule is in `docs/formats.md`, "Text database of version 2": the first bad line of the whole text
 -- is reported.
 use Rattle.std.specs.Prelude.{◌≡◌, ℕ, ◌<◌, List, [], ◌∷◌, ◌++◌, length, take, Result, Ok, Err}
-use Rattle.v2_core.specs.Reading.{records_from}
+use Rattle.v2_core.specs.Reading.{records_from_unfinished_record}
 use Rattle.v2_core.specs.Records.{Record, empty_record}
 
 -- the records of a text's lines
 abbrev pub read_lines : List (List ℕ) → Result (List Record) ℕ
-read_lines lines = records_from 0 empty_record lines
+read_lines lines = records_from_unfinished_record 0 empty_record lines
 
 -- these lines are the first ones of a text that is read
 pub record BeginsText (front : List (List ℕ)) : Type 0 where

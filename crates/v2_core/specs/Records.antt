@@ -69,18 +69,18 @@ listed_folder_from_parts name access files = record { name = name; access = acce
 -- ---- one more line; None if the line is not allowed there
 
 -- whether a line is of a field
-abbrev pub is_line_of : InfoField → InfoLine → Bool
-is_line_of f line = letter_of line.field == letter_of f
+abbrev pub is_line_of_field : InfoField → InfoLine → Bool
+is_line_of_field f line = letter_of line.field == letter_of f
 
 -- whether one of these lines is of the field
-abbrev pub has_line_of : InfoField → List InfoLine → Bool
-has_line_of f info = list_any (is_line_of f) info
+abbrev pub has_line_of_field : InfoField → List InfoLine → Bool
+has_line_of_field f info = list_any (is_line_of_field f) info
 
 -- the lines on the package with one more line of the field `f`; None if it is a second line of a field
 -- that is no list
 abbrev pub with_info_values : InfoField → List FieldValue → List InfoLine → Option (List InfoLine)
 with_info_values f values info =
-    if not (is_list_info_field f) && has_line_of f info then None
+    if not (is_list_info_field f) && has_line_of_field f info then None
     else Some (info ++ info_line_from_parts f values ∷ [])
 
 -- a list whose last element was replaced by the result of `change`; None if the list is empty, or
@@ -155,6 +155,6 @@ with_record_line r line =
     record_if_both_parts (with_info_line line r.info) (with_path_line line r.folders)
 
 -- whether the line of the package's name or that of its version is missing
-abbrev pub lacks_needed_line : List InfoLine → Bool
-lacks_needed_line info =
-    not (has_line_of Fields.Name info) || not (has_line_of Fields.Version info)
+abbrev pub lacks_name_or_version_line : List InfoLine → Bool
+lacks_name_or_version_line info =
+    not (has_line_of_field Fields.Name info) || not (has_line_of_field Fields.Version info)

@@ -7,7 +7,7 @@ use Rattle.dep_core.specs.World.{is_line_end}
 use Rattle.v2_lines.specs.Accesses.{Access}
 use Rattle.v2_lines.specs.InfoFields.{is_list_info_field}
 use Rattle.v2_lines.specs.Lines.{RecordLine, info_line, folder_line, folder_access_line, file_line, file_access_line, file_hash_line, record_line_of}
-use Rattle.v2_core.specs.Records.{InfoLine, ListedFile, ListedFolder, Record, has_line_of, lacks_needed_line}
+use Rattle.v2_core.specs.Records.{InfoLine, ListedFile, ListedFolder, Record, has_line_of_field, lacks_name_or_version_line}
 
 -- the line of the owner and mode of a file or a folder, which `line` makes; none if no line gave them
 abbrev pub access_lines : (Access → RecordLine) → Option Access → List RecordLine
@@ -43,7 +43,7 @@ record_lines r = info_lines r.info ++ flat_map folder_lines r.folders
 abbrev pub have_no_repeated_single_field : List InfoLine → List InfoLine → Bool
 have_no_repeated_single_field before [] = true
 have_no_repeated_single_field before (l ∷ ls) =
-    (is_list_info_field l.field || not (has_line_of l.field before))
+    (is_list_info_field l.field || not (has_line_of_field l.field before))
     && have_no_repeated_single_field (before ++ l ∷
     []) ls
 
@@ -64,7 +64,7 @@ pub record SpellsRecord (lines : List (List ℕ)) (r : Record) : Type 0 where
   -- the record has a line
   pub begun : r.has_line ≡ true
   -- the record has a name and a version
-  pub complete : lacks_needed_line r.info ≡ false
+  pub complete : lacks_name_or_version_line r.info ≡ false
   -- the record has each field that is no list at most once
   pub once : have_no_repeated_single_field [] r.info ≡ true
   -- the lines are those of the record

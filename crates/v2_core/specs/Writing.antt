@@ -7,7 +7,7 @@ use Rattle.base_core.specs.declared.cause.Cause.TheVariants.{TextLine}
 use Rattle.v2_lines.specs.make_info.Values.{plains_of_list}
 use Rattle.v2_core.specs.declared.read.V2Fault.{V2Fault}
 use Rattle.v2_core.specs.declared.read.V2Fault.TheVariants.{Bad, TooLarge, Memory}
-use Rattle.v2_core.specs.Database.{value_of_records, record_value}
+use Rattle.v2_core.specs.Database.{database_value_of_records, record_value}
 use Rattle.v2_core.specs.Records.{Record}
 
 -- a draft with the package of each record that is read, or the first bad line
@@ -17,7 +17,7 @@ draft_with_records (Err line) d = Err line
 
 -- a draft with the database of the records that are read, or the first bad line
 abbrev pub draft_with_database : Result (List Record) ℕ → DraftState → Result DraftState ℕ
-draft_with_database (Ok records) d = Ok (draft_with (value_of_records records) d)
+draft_with_database (Ok records) d = Ok (draft_with (database_value_of_records records) d)
 draft_with_database (Err line) d = Err line
 
 -- a fault of reading the lines of a text: a bad line is that of the result `read`, and out of memory may occur at

@@ -9,7 +9,7 @@ ghost use Rattle.v2_core.specs.declared.read.V2Fault.TheVariants.{Bad};
 ghost use Rattle.v2_lines.specs.adb_schema.Soundness.{payload_fault};
 ghost use Rattle.adb_view.specs.declared.tables.Which.TheVariants as Tables;
 ghost use Rattle.v2_core.specs.Payload.{IsV2Fault, payload_of_text, payload_of_records};
-ghost use Rattle.v2_core.specs.Reading.{records_from_record_end, records_from, records_of};
+ghost use Rattle.v2_core.specs.Reading.{records_from_record_end, records_from_unfinished_record, records_of};
 ghost use Rattle.v2_core.specs.Records.{Record as RecordModel, empty_record};
 ghost use Rattle.v2_core.specs.Writing.{IsLineFault, draft_with_database, draft_with_records};
 ghost use Rattle.dep_core.specs.World.{lines_of};
@@ -131,12 +131,14 @@ fn add_line<'a>(
     // On Ok, the line is read: to read the lines that follow, from the new record on, gives the
     // same packages as to read this line and them from the old record on.
     ensures ok { OnOk result ((rest : List (List ℕ))
-        → draft_with_records (records_from number text_record.new rest) draft.new
-        ≡ draft_with_records (records_from (number - 1) text_record.old (line.entry.now ∷ rest))
+        → draft_with_records (records_from_unfinished_record number text_record.new rest) draft.new
+        ≡ draft_with_records (records_from_unfinished_record (number - 1) text_record.old
+        (line.entry.now ∷ rest))
         draft.old) }
     // An error is the first bad line, whatever lines follow, or out of memory.
     ensures bad { IfErr result (λ fault. (rest : List (List ℕ))
-        → IsLineFault fault (records_from (number - 1) text_record.old (line.entry.now ∷ rest))) }
+        → IsLineFault fault (records_from_unfinished_record (number - 1) text_record.old
+        (line.entry.now ∷ rest))) }
 {
     if line.is_empty() {
         return end_record(draft, text_record, number - 1);
@@ -180,7 +182,7 @@ fn write_record(draft: &mut Draft, text_record: &Record<'_>, lines: u64) -> Resu
     if !text_record.has_line() {
         return Ok(());
     }
-    if text_record.lacks_needed_line() {
+    if text_record.lacks_name_or_version_line() {
         return Err(bad_line(lines));
     }
     write_package(draft, text_record)?;

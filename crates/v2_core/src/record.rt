@@ -7,7 +7,7 @@ ghost use Rattle.std.specs.List.{find, list_any};
 ghost use Rattle.std.specs.Option.{option_map};
 ghost use Rattle.std.specs.Prelude.{◌≡◌, ◌++◌, ◌∷◌, [], IfOk, None, OnOk, Some, if◌then◌else◌, is_some, option_and_then};
 ghost use Rattle.v2_core.specs.Reading.{record_with_text_line};
-ghost use Rattle.v2_core.specs.Records.{empty_record, listed_file_from_parts, file_with_access, file_with_hash, listed_folder_from_parts, folder_with_access, folder_with_file, folder_with_last_file_changed, has_line_of, info_line_from_parts, is_line_of, lacks_needed_line, with_info_values, list_with_last_changed, with_record_line};
+ghost use Rattle.v2_core.specs.Records.{empty_record, listed_file_from_parts, file_with_access, file_with_hash, listed_folder_from_parts, folder_with_access, folder_with_file, folder_with_last_file_changed, has_line_of_field, info_line_from_parts, is_line_of_field, lacks_name_or_version_line, with_info_values, list_with_last_changed, with_record_line};
 ghost use Rattle.v2_lines.specs.Accesses.{access_view};
 ghost use Rattle.v2_lines.specs.Lines.{record_line_of};
 ghost use Rattle.v2_lines.specs.Views.{line_view, line_value_view};
@@ -233,10 +233,11 @@ impl<'a> Record<'a> {
     }
 
     /// Whether the line of the package's name or that of its version is missing.
-    pub(crate) fn lacks_needed_line(&self) -> bool
-        ensures { result ≡ lacks_needed_line self.now.info }
+    pub(crate) fn lacks_name_or_version_line(&self) -> bool
+        ensures { result ≡ lacks_name_or_version_line self.now.info }
     {
-        !has_line_of(&self.info, InfoField::Name) || !has_line_of(&self.info, InfoField::Version)
+        !has_line_of_field(&self.info, InfoField::Name)
+            || !has_line_of_field(&self.info, InfoField::Version)
     }
 
     /// Reads a line of a text, and adds it. False: the line is bad.
@@ -272,8 +273,8 @@ impl<'a> Record<'a> {
 }
 
 /// Whether one of these lines is of this field.
-fn has_line_of(info: &[InfoLine<'_>], field: InfoField) -> bool
-    ensures { result ≡ has_line_of field info.now }
+fn has_line_of_field(info: &[InfoLine<'_>], field: InfoField) -> bool
+    ensures { result ≡ has_line_of_field field info.now }
 {
     info.iter().any(|line| line.field == field)
 }
@@ -288,7 +289,7 @@ fn add_info<'a>(
     ensures { IfOk result (λ good. (if good then Some info.new.items else None)
         ≡ with_info_values field (line_value_view value.entry) info.old.items) }
 {
-    if !field.is_list_info_field() && has_line_of(info, field) {
+    if !field.is_list_info_field() && has_line_of_field(info, field) {
         return Ok(false);
     }
     info.push(InfoLine { field, value })?;

@@ -11,8 +11,8 @@ ghost use Rattle.std.specs.List.{find};
 ghost use Rattle.std.specs.Option.{option_map};
 ghost use Rattle.std.specs.Prelude.{◌≡◌, OnOk, Some, map};
 ghost use Rattle.v2_core.specs.Columns.{value_of_column};
-ghost use Rattle.v2_core.specs.Database.{listed_access_value, array_of, listed_file_value, value_of_first_or_null, listed_folder_value, listed_hash_value, record_info_value, array_of_field_values, value_of_single_line_field, record_value};
-ghost use Rattle.v2_core.specs.Records.{is_line_of};
+ghost use Rattle.v2_core.specs.Database.{listed_access_value, array_or_null_of_list, listed_file_value, value_of_first_or_null, listed_folder_value, listed_hash_value, record_info_value, array_of_field_values, value_of_single_line_field, record_value};
+ghost use Rattle.v2_core.specs.Records.{is_line_of_field};
 ghost use Rattle.v2_core.specs.Views.{access_view_if_any, hash_view};
 ghost use Rattle.v2_lines.specs.Accesses.{access_view};
 ghost use Rattle.v2_lines.specs.Views.{line_value_view};
@@ -129,7 +129,7 @@ fn write_once(draft: &mut Draft, info: &[InfoLine<'_>], field: InfoField) -> Res
 
 // The line of a field of which a record has at most one line, if there is such a line.
 fn find_line<'a, 'b>(info: &'a [InfoLine<'b>], field: InfoField) -> Option<&'a InfoLine<'b>>
-    ensures { option_map (λ line. line.now) result ≡ find (is_line_of field) info.entry.now }
+    ensures { option_map (λ line. line.now) result ≡ find (is_line_of_field field) info.entry.now }
 {
     info.iter().find(|line| line.field == field)
 }
@@ -200,7 +200,8 @@ fn write_needs(draft: &mut Draft, needs: &[Dep<'_>]) -> Result<(), AllocError>
 fn write_folders(draft: &mut Draft, folders: &[Folder<'_>]) -> Result<(), AllocError>
     // On Ok, the array of the folders is added to the draft.
     ensures { OnOk result
-        (draft.new ≡ draft_with (array_of (map listed_folder_value folders.now)) draft.old) }
+        (draft.new ≡ draft_with (array_or_null_of_list
+        (map listed_folder_value folders.now)) draft.old) }
 {
     draft.open_list()?;
     for folder in folders {
@@ -224,7 +225,8 @@ fn write_folder(draft: &mut Draft, folder: &Folder<'_>) -> Result<(), AllocError
 fn write_files(draft: &mut Draft, files: &[File<'_>]) -> Result<(), AllocError>
     // On Ok, the array of the files is added to the draft.
     ensures { OnOk result
-        (draft.new ≡ draft_with (array_of (map listed_file_value files.now)) draft.old) }
+        (draft.new ≡ draft_with (array_or_null_of_list
+        (map listed_file_value files.now)) draft.old) }
 {
     draft.open_list()?;
     for file in files {

@@ -8,7 +8,7 @@ use Rattle.hex.specs.Hex.{decode_of as hex_bytes}
 use Rattle.hex.specs.declared.error.FromHexError.{FromHexError}
 use Rattle.version_core.specs.Order.{is_version}
 use Rattle.dep_core.specs.Dependency.{is_package_name}
-use Rattle.make_info.specs.Fields.{FieldValue, text, number, decimal_number, dependency_values_in, nonempty_parts, text_value_if}
+use Rattle.make_info.specs.Fields.{FieldValue, text, number, decimal_number, dependency_values_in, nonempty_parts_between_spaces, text_value_if}
 use Rattle.v2_lines.specs.declared.field.Grammar.{Grammar}
 use Rattle.v2_lines.specs.declared.field.Grammar.TheVariants as Grammars
 
@@ -48,7 +48,8 @@ values_under_grammar Grammars.PackageVersion value = text_value_if (is_version v
 values_under_grammar Grammars.AnyText value = text_value_if true value
 values_under_grammar Grammars.Number value = option_map single_number_value (decimal_number value)
 values_under_grammar Grammars.Commit value = Some (commit_values (hex_bytes value))
-values_under_grammar Grammars.Dependencies value = dependency_values_in (nonempty_parts value)
+values_under_grammar Grammars.Dependencies value =
+    dependency_values_in (nonempty_parts_between_spaces value)
 
 -- the dependencies `before`, followed by further ones; None if one of the further ones is no
 -- dependency

@@ -4,7 +4,7 @@ ghost use Rattle.dep_core.specs.Meets.{dependency};
 ghost use Rattle.hex.specs.Hex.{decode_of};
 ghost use Rattle.base64.specs.Engines.{standard};
 ghost use Rattle.base64.specs.GeneralPurpose.{decode_of as base64_bytes};
-ghost use Rattle.make_info.specs.Fields.{decimal_number, dependency_values_in, nonempty_parts, text_value_if};
+ghost use Rattle.make_info.specs.Fields.{decimal_number, dependency_values_in, nonempty_parts_between_spaces, text_value_if};
 ghost use Rattle.make_info.specs.Reading.{nonempty_part};
 ghost use Rattle.std.specs.Option.{option_map};
 ghost use Rattle.std.specs.Prelude.{◌≡◌, ◌++◌, ◌==◌, IfOk, None, Some, if◌then◌else◌, length};
@@ -136,7 +136,7 @@ fn read_commit<'a>(alloc: Global, text: &[u8]) -> Result<Option<Value<'a>>, Allo
 fn read_needs<'a>(alloc: Global, text: &'a [u8]) -> Result<Option<Value<'a>>, AllocError>
     // On Ok, the result has the dependencies of all parts that are not empty, or is None.
     ensures { IfOk result (λ found. option_map line_value_view found
-        ≡ dependency_values_in (nonempty_parts text.entry.now)) }
+        ≡ dependency_values_in (nonempty_parts_between_spaces text.entry.now)) }
 {
     let mut needs = Vec::new(alloc);
     for part in text.split(|byte| *byte == b' ') {

@@ -15,9 +15,9 @@ use Rattle.std.proofs.lemmas.List.Sums.{take_while-cons}
 use Rattle.std.proofs.Math.Bool.{and-false}
 use Rattle.version_core.specs.declared.token.Class.{Class}
 use Rattle.version_core.specs.declared.token.Class.TheVariants.{Revision, Hash, SuffixNumber, Letter, Component}
-use Rattle.version_core.specs.Token.{Token, Lexeme, number_token, text_token, lexeme, stray_lexeme, is_component, is_suffix, is_before_hash, is_before_revision, is_hex_digit, leading_digits, leading_hex_digits, leading_letters, number_lexeme, later_component_lexeme, suffix_lexeme, hash_lexeme, revision_lexeme, next_lexeme, lexeme_at}
+use Rattle.version_core.specs.Token.{Token, Lexeme, number_token, text_token, lexeme, stray_lexeme, is_component, is_suffix, is_allowed_before_suffix_or_hash, is_allowed_before_revision, is_hex_digit, leading_digits, leading_hex_digits, leading_letters, number_lexeme, later_component_lexeme, suffix_lexeme, hash_lexeme, revision_lexeme, next_lexeme, lexeme_at}
 use Rattle.version_core.specs.Order.{are_in_grammar, is_last_token_class, is_stray_class, is_version, token_cmp, tokens, tokens_after_class_skipping_bytes, version_cmp}
-use Rattle.version_core.specs.Matching.{all_fit, is_prefix_of, fits, is_fuzzy_match, is_zero_component}
+use Rattle.version_core.specs.Matching.{are_wanted_tokens_met_by, is_prefix_of, fits, is_fuzzy_match, is_zero_component}
 use Rattle.version_core.specs.Reading.{AreEqualUpTo, IsLastMark, begins_with_mark, hash_cmp, hash_fits, is_token_mark, is_unmarked}
 use Rattle.version_core.proofs.OrderLaws.{token_cmp-total}
 use Rattle.version_core.proofs.Places.{NoEnd, number_no_end, some_no_end, stray_first}
@@ -64,10 +64,10 @@ abbrev next_by : Class → ℕ → List ℕ → List ℕ → List ℕ → List �
 next_by last b digits letters number hash revision =
     cond (eqb b 46 && is_component last) (later_component_lexeme digits)
     (cond (is_ascii_lowercase b && is_component last) (lexeme (number_token Letter b) 1)
-    (cond (eqb b 95 && is_before_hash last) (suffix_lexeme letters)
+    (cond (eqb b 95 && is_allowed_before_suffix_or_hash last) (suffix_lexeme letters)
     (cond (is_ascii_digit b && is_suffix last) (number_lexeme SuffixNumber 0 number)
-    (cond (eqb b 126 && is_before_hash last) (hash_lexeme hash)
-    (cond (eqb b 45 && is_before_revision last) revision
+    (cond (eqb b 126 && is_allowed_before_suffix_or_hash last) (hash_lexeme hash)
+    (cond (eqb b 45 && is_allowed_before_revision last) revision
     stray_lexeme)))))
 
 lexeme_front : (last : Option Class) (b : ℕ) (a : List ℕ) (m : ℕ) (x : List ℕ) → is_token_mark m ≡ true → lexeme_at last (b ∷ (a ++ m ∷ x)) ≡ lexeme_at last (b ∷ a)
@@ -91,9 +91,9 @@ mark_lexeme None m x mark h =
 mark_lexeme (Some last) m x mark h =
     by_mark (λ m. is_last_token_class (next_lexeme last (m ∷ x)).token.class ≡ false → next_lexeme last (m ∷ x) ≡ next_lexeme Component (m ∷ x)) m mark
     (plain_by (is_component last) (later_component_lexeme (leading_digits x)))
-    (plain_by (is_before_hash last) (suffix_lexeme (leading_letters x)))
-    (plain_by (is_before_hash last) (hash_lexeme (leading_hex_digits x)))
-    (plain_by (is_before_revision last) (revision_lexeme x))
+    (plain_by (is_allowed_before_suffix_or_hash last) (suffix_lexeme (leading_letters x)))
+    (plain_by (is_allowed_before_suffix_or_hash last) (hash_lexeme (leading_hex_digits x)))
+    (plain_by (is_allowed_before_revision last) (revision_lexeme x))
     h
 
 -- ---- the tokens of a text that is in the grammar
@@ -339,27 +339,27 @@ equal_fits : (token : Token) → fits token token ≡ true
 unfolding fits
 equal_fits token = fits_by_itself (is_zero_component token.class && is_zero_component token.class) token
 
-pub fit_passes : PassesEqual all_fit
+pub fit_passes : PassesEqual are_wanted_tokens_met_by
 fit_passes token ts us h =
-    (λ i. h i || (fits token token && all_fit ts us)) ∙ ap (λ b. b && all_fit ts us) (equal_fits token)
+    (λ i. h i || (fits token token && are_wanted_tokens_met_by ts us)) ∙ ap (λ b. b && are_wanted_tokens_met_by ts us) (equal_fits token)
 
-fit_drops : (digits x y : List ℕ) → all_fit (hash_and_after digits x) (hash_and_after digits y) ≡ hash_fits x y
+fit_drops : (digits x y : List ℕ) → are_wanted_tokens_met_by (hash_and_after digits x) (hash_and_after digits y) ≡ hash_fits x y
 unfolding fits
 fit_drops digits x y =
-    ap (λ o. is_eq o && all_fit (tokens_after_class_skipping_bytes (Some Hash) (length (leading_hex_digits x)) x) (tokens_after_class_skipping_bytes (Some Hash) (length (leading_hex_digits y)) y))
+    ap (λ o. is_eq o && are_wanted_tokens_met_by (tokens_after_class_skipping_bytes (Some Hash) (length (leading_hex_digits x)) x) (tokens_after_class_skipping_bytes (Some Hash) (length (leading_hex_digits y)) y))
     (same_digits digits (leading_hex_digits y) (leading_hex_digits x))
 
-pub fit_whole : (wanted found : List ℕ) → all_fit (tokens wanted) (tokens found) ≡ is_fuzzy_match found wanted
+pub fit_whole : (wanted found : List ℕ) → are_wanted_tokens_met_by (tokens wanted) (tokens found) ≡ is_fuzzy_match found wanted
 unfolding is_fuzzy_match
 fit_whole wanted found = refl
 
-pub fit_from_mark : (wanted found : List ℕ) (len at : ℕ) → AreEqualUpTo wanted found len → IsLastMark (take len wanted) at → is_version wanted ≡ true → is_version found ≡ true → is_fuzzy_match found wanted ≡ all_fit (tokens_after_class_skipping_bytes (Some Component) 0 (drop at wanted)) (tokens_after_class_skipping_bytes (Some Component) 0 (drop at found))
+pub fit_from_mark : (wanted found : List ℕ) (len at : ℕ) → AreEqualUpTo wanted found len → IsLastMark (take len wanted) at → is_version wanted ≡ true → is_version found ≡ true → is_fuzzy_match found wanted ≡ are_wanted_tokens_met_by (tokens_after_class_skipping_bytes (Some Component) 0 (drop at wanted)) (tokens_after_class_skipping_bytes (Some Component) 0 (drop at found))
 fit_from_mark wanted found len at equal last one two =
-    sym (fit_whole wanted found) ∙ made_from_mark all_fit fit_passes wanted found len at equal last one two
+    sym (fit_whole wanted found) ∙ made_from_mark are_wanted_tokens_met_by fit_passes wanted found len at equal last one two
 
 pub fit_from_hash : (wanted found : List ℕ) (len at : ℕ) → AreEqualUpTo wanted found len → IsLastMark (take len wanted) at → is_version wanted ≡ true → is_version found ≡ true → at < length wanted → get_or wanted at 0 ≡ 126 → is_fuzzy_match found wanted ≡ hash_fits (drop len wanted) (drop len found)
 fit_from_hash wanted found len at equal last one two within tilde =
-    sym (fit_whole wanted found) ∙ made_from_hash all_fit fit_passes wanted found len at equal last one two hash_fits fit_drops within tilde
+    sym (fit_whole wanted found) ∙ made_from_hash are_wanted_tokens_met_by fit_passes wanted found len at equal last one two hash_fits fit_drops within tilde
 
 pub mark_within : (text : List ℕ) (len at : ℕ) → IsLastMark (take len text) at → at < length text
 mark_within text len at found =

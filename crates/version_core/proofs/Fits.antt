@@ -9,7 +9,7 @@ use Rattle.version_core.specs.declared.token.Class.{Class}
 use Rattle.version_core.specs.declared.token.Class.TheVariants.{Stray, PreRelease, End, Revision, Hash, SuffixNumber, Suffix, Letter, ZeroComponent, Component}
 use Rattle.version_core.specs.Token.{Token}
 use Rattle.version_core.specs.Order.{class_rank, is_last_token_class, token_cmp}
-use Rattle.version_core.specs.Matching.{all_fit, is_prefix_of, fits, is_zero_component}
+use Rattle.version_core.specs.Matching.{are_wanted_tokens_met_by, is_prefix_of, fits, is_zero_component}
 
 abbrev is_last_rank : ℕ → Bool
 is_last_rank rank = eqb rank 2 || eqb rank 0
@@ -66,12 +66,12 @@ fits_not_last w f last h =
     fits_by (is_zero_component w.class && is_zero_component f.class) (is_prefix_of w.text f.text) (is_eq (token_cmp f w)) w.class f.class
     (λ z. zero_is_not_last f.class (both _ _ z)) (λ e. equal_tokens f w e ∙ last) h
 
-all_fit-step : (w f : Token) (ws fs : List Token) → is_last_token_class w.class ≡ false → fits w f ≡ true → all_fit (w ∷ ws) (f ∷ cond (is_last_token_class f.class) [] fs) ≡ all_fit ws fs
-all_fit-step w f ws fs last h = rw (fits_not_last w f last h, last, h) refl
+are_wanted_tokens_met_by-step : (w f : Token) (ws fs : List Token) → is_last_token_class w.class ≡ false → fits w f ≡ true → are_wanted_tokens_met_by (w ∷ ws) (f ∷ cond (is_last_token_class f.class) [] fs) ≡ are_wanted_tokens_met_by ws fs
+are_wanted_tokens_met_by-step w f ws fs last h = rw (fits_not_last w f last h, last, h) refl
 
 -- after two tokens that fit, the others decide
-pub all_fit_after : (wanted found : List Token) (w f : Token) (ws fs : List Token) → wanted ≡ w ∷ cond (is_last_token_class w.class) [] ws → found ≡ f ∷ cond (is_last_token_class f.class) [] fs → is_last_token_class w.class ≡ false → fits w f ≡ true → all_fit wanted found ≡ all_fit ws fs
+pub all_fit_after : (wanted found : List Token) (w f : Token) (ws fs : List Token) → wanted ≡ w ∷ cond (is_last_token_class w.class) [] ws → found ≡ f ∷ cond (is_last_token_class f.class) [] fs → is_last_token_class w.class ≡ false → fits w f ≡ true → are_wanted_tokens_met_by wanted found ≡ are_wanted_tokens_met_by ws fs
 all_fit_after wanted found w f ws fs first second last h =
-    (λ i. all_fit (first i) (second i))
-    ∙ ap (λ b. all_fit (w ∷ cond b [] ws) (f ∷ cond (is_last_token_class f.class) [] fs)) last
-    ∙ all_fit-step w f ws fs last h
+    (λ i. are_wanted_tokens_met_by (first i) (second i))
+    ∙ ap (λ b. are_wanted_tokens_met_by (w ∷ cond b [] ws) (f ∷ cond (is_last_token_class f.class) [] fs)) last
+    ∙ are_wanted_tokens_met_by-step w f ws fs last h

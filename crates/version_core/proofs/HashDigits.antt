@@ -10,7 +10,7 @@ use Rattle.std.proofs.lemmas.List.{drop-drop}
 use Rattle.version_core.specs.declared.token.Class.{Class}
 use Rattle.version_core.specs.declared.token.Class.TheVariants as Classes
 use Rattle.version_core.specs.declared.overlapping.Place.{Place}
-use Rattle.version_core.specs.Token.{Lexeme, number_token, text_token, lexeme, stray_lexeme, has_number_length, is_component, is_suffix, is_before_hash, is_before_revision, is_hex_digit, begins_with_zero, leading_digits, leading_hex_digits, leading_letters, number_lexeme, later_component_lexeme, suffix_rank, suffix_lexeme, suffix_lexeme_of_rank, hash_lexeme, revision_lexeme, next_lexeme}
+use Rattle.version_core.specs.Token.{Lexeme, number_token, text_token, lexeme, stray_lexeme, has_number_length, is_component, is_suffix, is_allowed_before_suffix_or_hash, is_allowed_before_revision, is_hex_digit, begins_with_zero, leading_digits, leading_hex_digits, leading_letters, number_lexeme, later_component_lexeme, suffix_rank, suffix_lexeme, suffix_lexeme_of_rank, hash_lexeme, revision_lexeme, next_lexeme}
 use Rattle.version_core.specs.Order.{are_in_grammar, tokens_after_class_skipping_bytes}
 use Rattle.version_core.specs.Reading.{is_hash, unread_len}
 use Rattle.version_core.specs.Overlapping.{IsNextPlace, can_rest_follow_place, is_valid_version_rest}
@@ -173,10 +173,10 @@ next_hashes last b rest other =
     let o : Lexeme = hash_lexeme (leading_hex_digits other) in
     cond_hashes (eqb b 46 && is_component last) (later_component_lexeme (leading_digits rest)) _ (later_component_lexeme (leading_digits other)) _ h o (no_hashes _ _ h o (component_no_hash (leading_digits rest)))
     (cond_hashes (is_ascii_lowercase b && is_component last) (lexeme (number_token Classes.Letter b) 1) _ (lexeme (number_token Classes.Letter b) 1) _ h o (no_hashes _ _ h o refl)
-    (cond_hashes (eqb b 95 && is_before_hash last) (suffix_lexeme (leading_letters rest)) _ (suffix_lexeme (leading_letters other)) _ h o (no_hashes _ _ h o (suffix_no_hash (leading_letters rest) (suffix_rank (leading_letters rest))))
+    (cond_hashes (eqb b 95 && is_allowed_before_suffix_or_hash last) (suffix_lexeme (leading_letters rest)) _ (suffix_lexeme (leading_letters other)) _ h o (no_hashes _ _ h o (suffix_no_hash (leading_letters rest) (suffix_rank (leading_letters rest))))
     (cond_hashes (is_ascii_digit b && is_suffix last) (number_lexeme Classes.SuffixNumber 0 (leading_digits (b ∷ rest))) _ (number_lexeme Classes.SuffixNumber 0 (leading_digits (b ∷ other))) _ h o (no_hashes _ _ h o (number_no_hash Classes.SuffixNumber 0 (leading_digits (b ∷ rest)) refl))
-    (cond_hashes (eqb b 126 && is_before_hash last) h _ o _ h o (λ marked. (refl, refl))
-    (cond_hashes (eqb b 45 && is_before_revision last) (revision_lexeme rest) stray_lexeme (revision_lexeme other) stray_lexeme h o (no_hashes _ _ h o (revision_no_hash rest)) (no_hashes stray_lexeme stray_lexeme h o refl))))))
+    (cond_hashes (eqb b 126 && is_allowed_before_suffix_or_hash last) h _ o _ h o (λ marked. (refl, refl))
+    (cond_hashes (eqb b 45 && is_allowed_before_revision last) (revision_lexeme rest) stray_lexeme (revision_lexeme other) stray_lexeme h o (no_hashes _ _ h o (revision_no_hash rest)) (no_hashes stray_lexeme stray_lexeme h o refl))))))
 
 -- a hash has a digit
 digit_first : (d : ℕ) (rest : List ℕ) → is_hash (hash_lexeme (leading_hex_digits (d ∷ rest))).token.class ≡ true → is_hex_digit d ≡ true

@@ -9,7 +9,7 @@ use Rattle.std.specs.Prelude.{slice_range}
 use Rattle.std.proofs.lemmas.List.Sums.{take_while-cons}
 use Rattle.version_core.specs.declared.token.Class.{Class}
 use Rattle.version_core.specs.declared.token.Class.TheVariants.{Revision, SuffixNumber, Letter, ZeroComponent, Component}
-use Rattle.version_core.specs.Token.{Lexeme, number_token, text_token, lexeme, stray_lexeme, has_number_length, is_component, is_suffix, is_before_hash, is_before_revision, begins_with_zero, is_hex_digit, leading_digits, leading_hex_digits, leading_letters, number_lexeme, later_component_lexeme, suffix_rank, suffix_lexeme, suffix_lexeme_of_rank, hash_lexeme, revision_lexeme, next_lexeme}
+use Rattle.version_core.specs.Token.{Lexeme, number_token, text_token, lexeme, stray_lexeme, has_number_length, is_component, is_suffix, is_allowed_before_suffix_or_hash, is_allowed_before_revision, begins_with_zero, is_hex_digit, leading_digits, leading_hex_digits, leading_letters, number_lexeme, later_component_lexeme, suffix_rank, suffix_lexeme, suffix_lexeme_of_rank, hash_lexeme, revision_lexeme, next_lexeme}
 use Rattle.version_core.specs.Order.{is_last_token_class}
 use Rattle.version_core.proofs.Walk.{lexeme_at_within}
 
@@ -120,10 +120,10 @@ next_local last b rest n m =
     let one : (x y : Lexeme) → IsLocal (1 + n) (1 + m) x y → IsLocal (suc n) (suc m) x y = λ x y. along (suc n) (suc m) (1 + n) (1 + m) x y (omega arith) (omega arith) in
     cond_local (suc n) (suc m) (eqb b 46 && is_component last) (later_component_lexeme (leading_digits (take n rest))) _ (later_component_lexeme (leading_digits (take m rest))) _ (one _ _ (local_by is_ascii_digit later_component_lexeme 1 component_width rest n m))
     (cond_local (suc n) (suc m) (is_ascii_lowercase b && is_component last) (lexeme (number_token Letter b) 1) _ (lexeme (number_token Letter b) 1) _ (λ token ends fits. refl)
-    (cond_local (suc n) (suc m) (eqb b 95 && is_before_hash last) (suffix_lexeme (leading_letters (take n rest))) _ (suffix_lexeme (leading_letters (take m rest))) _ (one _ _ (local_by is_ascii_lowercase suffix_lexeme 1 (λ word. suffix_width_by word (suffix_rank word)) rest n m))
+    (cond_local (suc n) (suc m) (eqb b 95 && is_allowed_before_suffix_or_hash last) (suffix_lexeme (leading_letters (take n rest))) _ (suffix_lexeme (leading_letters (take m rest))) _ (one _ _ (local_by is_ascii_lowercase suffix_lexeme 1 (λ word. suffix_width_by word (suffix_rank word)) rest n m))
     (cond_local (suc n) (suc m) (is_ascii_digit b && is_suffix last) (number_lexeme SuffixNumber 0 (leading_digits (b ∷ take n rest))) _ (number_lexeme SuffixNumber 0 (leading_digits (b ∷ take m rest))) _ (along (suc n) (suc m) (0 + suc n) (0 + suc m) _ _ (omega arith) (omega arith) (local_by is_ascii_digit (number_lexeme SuffixNumber 0) 0 (number_width SuffixNumber 0) (b ∷ rest) (suc n) (suc m)))
-    (cond_local (suc n) (suc m) (eqb b 126 && is_before_hash last) (hash_lexeme (leading_hex_digits (take n rest))) _ (hash_lexeme (leading_hex_digits (take m rest))) _ (one _ _ (local_by is_hex_digit hash_lexeme 1 hash_width rest n m))
-    (cond_local (suc n) (suc m) (eqb b 45 && is_before_revision last) (revision_lexeme (take n rest)) stray_lexeme (revision_lexeme (take m rest)) stray_lexeme (revision_local rest n m) (stray_local (suc n) (suc m)))))))
+    (cond_local (suc n) (suc m) (eqb b 126 && is_allowed_before_suffix_or_hash last) (hash_lexeme (leading_hex_digits (take n rest))) _ (hash_lexeme (leading_hex_digits (take m rest))) _ (one _ _ (local_by is_hex_digit hash_lexeme 1 hash_width rest n m))
+    (cond_local (suc n) (suc m) (eqb b 45 && is_allowed_before_revision last) (revision_lexeme (take n rest)) stray_lexeme (revision_lexeme (take m rest)) stray_lexeme (revision_local rest n m) (stray_local (suc n) (suc m)))))))
 
 -- after a token of some class
 pub token_local : (last : Class) (xs : List ℕ) (n m : ℕ) → IsLocal n m (next_lexeme last (take n xs)) (next_lexeme last (take m xs))

@@ -14,7 +14,7 @@ use Rattle.version_core.specs.declared.token.Class.{Class}
 use Rattle.version_core.specs.declared.token.Class.TheVariants.{Stray, PreRelease, End, Revision, Hash, SuffixNumber, Suffix, Letter, ZeroComponent, Component}
 use Rattle.version_core.specs.Token.{Token}
 use Rattle.version_core.specs.Order.{class_rank, is_last_token_class, token_cmp, tokens, version_cmp}
-use Rattle.version_core.specs.Matching.{all_fit, is_prefix_of, fits, is_fuzzy_match, is_zero_component, matches, has_bit}
+use Rattle.version_core.specs.Matching.{are_wanted_tokens_met_by, is_prefix_of, fits, is_fuzzy_match, is_zero_component, matches, has_bit}
 use Rattle.version_core.proofs.Fits.{nat_cmp-Equal}
 
 -- each part of the comparison of two tokens is a total order
@@ -109,11 +109,11 @@ fits-itself t =
     fits_by (is_zero_component t.class && is_zero_component t.class) (is_prefix_of t.text t.text) (is_eq (token_cmp t t))
     ((bytes_eq-Decides t.text (take (length t.text) t.text)).1 (sym (take_all (length t.text) t.text (omega arith)))) (is_eq-itself t)
 
-all_fit-itself : (ts : List Token) → all_fit ts ts ≡ true
-all_fit-itself [] = refl
-all_fit-itself (t ∷ ts) = or_right (is_last_token_class t.class) (fits t t && all_fit ts ts) (rw (fits-itself t) (all_fit-itself ts))
+are_wanted_tokens_met_by-itself : (ts : List Token) → are_wanted_tokens_met_by ts ts ≡ true
+are_wanted_tokens_met_by-itself [] = refl
+are_wanted_tokens_met_by-itself (t ∷ ts) = or_right (is_last_token_class t.class) (fits t t && are_wanted_tokens_met_by ts ts) (rw (fits-itself t) (are_wanted_tokens_met_by-itself ts))
 
 pub fuzzy_by_tokens : (found wanted : List ℕ) → version_cmp found wanted ≡ Equal → is_fuzzy_match found wanted ≡ true
 unfolding is_fuzzy_match
 fuzzy_by_tokens found wanted h =
-    ap (λ ts. all_fit ts (tokens found)) (sym (equal_tokens_of found wanted h)) ∙ all_fit-itself (tokens found)
+    ap (λ ts. are_wanted_tokens_met_by ts (tokens found)) (sym (equal_tokens_of found wanted h)) ∙ are_wanted_tokens_met_by-itself (tokens found)

@@ -7,7 +7,7 @@ use Rattle.std.proofs.lemmas.List.{length-drop, length-take-le}
 use Rattle.version_core.specs.declared.token.Class.{Class}
 use Rattle.version_core.specs.declared.token.Class.TheVariants as Classes
 use Rattle.version_core.specs.declared.overlapping.Place.{Place}
-use Rattle.version_core.specs.Token.{Token, Lexeme, number_token, text_token, lexeme, stray_lexeme, has_number_length, is_component, is_suffix, is_before_hash, is_before_revision, begins_with_zero, leading_digits, leading_hex_digits, leading_letters, number_lexeme, later_component_lexeme, suffix_rank, suffix_lexeme, suffix_lexeme_of_rank, hash_lexeme, revision_lexeme, next_lexeme, lexeme_at}
+use Rattle.version_core.specs.Token.{Token, Lexeme, number_token, text_token, lexeme, stray_lexeme, has_number_length, is_component, is_suffix, is_allowed_before_suffix_or_hash, is_allowed_before_revision, begins_with_zero, leading_digits, leading_hex_digits, leading_letters, number_lexeme, later_component_lexeme, suffix_rank, suffix_lexeme, suffix_lexeme_of_rank, hash_lexeme, revision_lexeme, next_lexeme, lexeme_at}
 use Rattle.version_core.specs.Order.{are_in_grammar, is_last_token_class, is_stray_class, is_version, tokens, tokens_after_class_skipping_bytes}
 use Rattle.version_core.specs.Overlapping.{IsNextPlace, IsSafeSkip, can_rest_follow_place, is_valid_version_rest, passed_len}
 use Rattle.version_core.proofs.Walk.{after, lexeme_at_within, tokens_after_class_skipping_bytes-step}
@@ -103,10 +103,10 @@ unfolding next_lexeme
 next_no_end last b rest =
     cond_no_end (eqb b 46 && is_component last) (later_component_lexeme (leading_digits rest)) _ (component_no_end (leading_digits rest))
     (cond_no_end (is_ascii_lowercase b && is_component last) (lexeme (number_token Classes.Letter b) 1) _ (λ h. h)
-    (cond_no_end (eqb b 95 && is_before_hash last) (suffix_lexeme (leading_letters rest)) _ (suffix_no_end (leading_letters rest) (suffix_rank (leading_letters rest)))
+    (cond_no_end (eqb b 95 && is_allowed_before_suffix_or_hash last) (suffix_lexeme (leading_letters rest)) _ (suffix_no_end (leading_letters rest) (suffix_rank (leading_letters rest)))
     (cond_no_end (is_ascii_digit b && is_suffix last) (number_lexeme Classes.SuffixNumber 0 (leading_digits (b ∷ rest))) _ (number_no_end Classes.SuffixNumber 0 (leading_digits (b ∷ rest)) (λ h. h))
-    (cond_no_end (eqb b 126 && is_before_hash last) (hash_lexeme (leading_hex_digits rest)) _ (hash_no_end (leading_hex_digits rest))
-    (cond_no_end (eqb b 45 && is_before_revision last) (revision_lexeme rest) stray_lexeme (revision_no_end rest) (λ _. refl))))))
+    (cond_no_end (eqb b 126 && is_allowed_before_suffix_or_hash last) (hash_lexeme (leading_hex_digits rest)) _ (hash_no_end (leading_hex_digits rest))
+    (cond_no_end (eqb b 45 && is_allowed_before_revision last) (revision_lexeme rest) stray_lexeme (revision_no_end rest) (λ _. refl))))))
 
 pub some_no_end : (last : Class) (text : List ℕ) → 0 < length text → NoEnd (next_lexeme last text)
 some_no_end last [] long = absurd (omega arith)

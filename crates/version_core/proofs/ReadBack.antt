@@ -11,9 +11,9 @@ use Rattle.std.proofs.lemmas.List.Sums.{take_while-cons}
 use Rattle.std.proofs.lemmas.List.Folds.{length-prefix_len}
 use Rattle.version_core.specs.declared.token.Class.{Class}
 use Rattle.version_core.specs.declared.token.Class.TheVariants.{Stray, PreRelease, End, Revision, Hash, SuffixNumber, Suffix, Letter, ZeroComponent, Component}
-use Rattle.version_core.specs.Token.{Token, Lexeme, number_token, text_token, lexeme, stray_lexeme, has_number_length, is_hex_digit, is_component, is_suffix, is_before_hash, is_before_revision, begins_with_zero, leading_digits, leading_hex_digits, leading_letters, number_lexeme, later_component_lexeme, suffix_rank, suffix_lexeme, suffix_lexeme_of_rank, hash_lexeme, revision_lexeme, next_lexeme}
+use Rattle.version_core.specs.Token.{Token, Lexeme, number_token, text_token, lexeme, stray_lexeme, has_number_length, is_hex_digit, is_component, is_suffix, is_allowed_before_suffix_or_hash, is_allowed_before_revision, begins_with_zero, leading_digits, leading_hex_digits, leading_letters, number_lexeme, later_component_lexeme, suffix_rank, suffix_lexeme, suffix_lexeme_of_rank, hash_lexeme, revision_lexeme, next_lexeme}
 use Rattle.version_core.specs.Order.{are_in_grammar, is_last_token_class, is_stray_class, is_version, tokens, tokens_after_class_skipping_bytes}
-use Rattle.version_core.specs.Grammar.{Parts, IsSpelledVersion, is_none_or, is_numeral, is_hash_text, is_suffix_part, SuffixPart, later_components_text, letter_text, number_text, suffixes_text, hash_text, revision_text, component_token}
+use Rattle.version_core.specs.Grammar.{VersionParts, IsSpelledVersion, is_none_or, is_numeral, is_hash_text, is_suffix_part, SuffixPart, later_components_text, letter_text, number_text, suffixes_text, hash_text, revision_text, component_token}
 use Rattle.version_core.proofs.Walk.{after, has_number_length-pos, tokens_after_class_skipping_bytes-step}
 use Rattle.version_core.proofs.Spelled.{first_true, then_true, number_read, component_read, component_is_not_last_by, suffix_whole_by, suffix_class_by, suffix_is_not_last, hash_read, component_before_hash, before_hash_before_revision, suffix_before_hash}
 
@@ -92,9 +92,9 @@ record IsTail (last : Class) (text : List ℕ) : Type 0 where
   no_later : is_component last ≡ false → later ≡ []
   no_letter : is_component last ≡ false → letter ≡ None
   no_number : is_suffix last ≡ false → number ≡ None
-  no_suffixes : is_before_hash last ≡ false → suffixes ≡ []
-  no_hash : is_before_hash last ≡ false → hash ≡ None
-  no_revision : is_before_revision last ≡ false → revision ≡ None
+  no_suffixes : is_allowed_before_suffix_or_hash last ≡ false → suffixes ≡ []
+  no_hash : is_allowed_before_suffix_or_hash last ≡ false → hash ≡ None
+  no_revision : is_allowed_before_revision last ≡ false → revision ≡ None
   whole : text ≡ tail_text later letter number suffixes hash revision
 
 at_end : (last : Class) → IsTail last []
@@ -141,9 +141,9 @@ with_component last class ds behind h plain numeral end = record {
   no_later = λ k. impossible (is_component last) h k;
   no_letter = λ k. impossible (is_component last) h k;
   no_number = λ _. refl;
-  no_suffixes = λ k. impossible (is_before_hash last) (component_before_hash last h) k;
-  no_hash = λ k. impossible (is_before_hash last) (component_before_hash last h) k;
-  no_revision = λ k. impossible (is_before_revision last) (before_hash_before_revision last (component_before_hash last h)) k;
+  no_suffixes = λ k. impossible (is_allowed_before_suffix_or_hash last) (component_before_hash last h) k;
+  no_hash = λ k. impossible (is_allowed_before_suffix_or_hash last) (component_before_hash last h) k;
+  no_revision = λ k. impossible (is_allowed_before_revision last) (before_hash_before_revision last (component_before_hash last h)) k;
   whole =
       ap (λ t. 46 ∷ (ds ++ t)) (end.whole ∙ ap (λ n. tail_text end.later end.letter n end.suffixes end.hash end.revision) (end.no_number plain))
       ∙ ap (λ t. 46 ∷ t) (sym (append_assoc ds (later_components_text end.later) (letter_text end.letter ++ (suffixes_text end.suffixes ++ (hash_text end.hash ++ revision_text end.revision)))));
@@ -167,16 +167,16 @@ with_letter last b behind h small end = record {
   no_later = λ _. refl;
   no_letter = λ k. impossible (is_component last) h k;
   no_number = λ _. refl;
-  no_suffixes = λ k. impossible (is_before_hash last) (component_before_hash last h) k;
-  no_hash = λ k. impossible (is_before_hash last) (component_before_hash last h) k;
-  no_revision = λ k. impossible (is_before_revision last) (before_hash_before_revision last (component_before_hash last h)) k;
+  no_suffixes = λ k. impossible (is_allowed_before_suffix_or_hash last) (component_before_hash last h) k;
+  no_hash = λ k. impossible (is_allowed_before_suffix_or_hash last) (component_before_hash last h) k;
+  no_revision = λ k. impossible (is_allowed_before_revision last) (before_hash_before_revision last (component_before_hash last h)) k;
   whole =
       ap (λ t. b ∷ t) (end.whole
       ∙ (λ i. tail_text (end.no_later refl i) (end.no_letter refl i) (end.no_number refl i) end.suffixes end.hash end.revision));
 }
 
 -- `_`, a suffix and its number before such an end
-with_suffix : (last class : Class) (name behind : List ℕ) → is_before_hash last ≡ true → is_component class ≡ false → is_some (suffix_rank name) ≡ true → IsTail class behind → IsTail last (95 ∷ (name ++ behind))
+with_suffix : (last class : Class) (name behind : List ℕ) → is_allowed_before_suffix_or_hash last ≡ true → is_component class ≡ false → is_some (suffix_rank name) ≡ true → IsTail class behind → IsTail last (95 ∷ (name ++ behind))
 with_suffix last class name behind h plain known end = record {
   later = [];
   letter = None;
@@ -194,9 +194,9 @@ with_suffix last class name behind h plain known end = record {
   no_later = λ _. refl;
   no_letter = λ _. refl;
   no_number = λ _. refl;
-  no_suffixes = λ k. impossible (is_before_hash last) h k;
-  no_hash = λ k. impossible (is_before_hash last) h k;
-  no_revision = λ k. impossible (is_before_revision last) (before_hash_before_revision last h) k;
+  no_suffixes = λ k. impossible (is_allowed_before_suffix_or_hash last) h k;
+  no_hash = λ k. impossible (is_allowed_before_suffix_or_hash last) h k;
+  no_revision = λ k. impossible (is_allowed_before_revision last) (before_hash_before_revision last h) k;
   whole =
       ap (λ t. 95 ∷ (name ++ t)) (end.whole
       ∙ (λ i. tail_text (end.no_later plain i) (end.no_letter plain i) end.number end.suffixes end.hash end.revision)
@@ -222,16 +222,16 @@ with_number last ds behind h plain numeral end = record {
   no_later = λ _. refl;
   no_letter = λ _. refl;
   no_number = λ k. impossible (is_suffix last) h k;
-  no_suffixes = λ k. impossible (is_before_hash last) (suffix_before_hash last h) k;
-  no_hash = λ k. impossible (is_before_hash last) (suffix_before_hash last h) k;
-  no_revision = λ k. impossible (is_before_revision last) (before_hash_before_revision last (suffix_before_hash last h)) k;
+  no_suffixes = λ k. impossible (is_allowed_before_suffix_or_hash last) (suffix_before_hash last h) k;
+  no_hash = λ k. impossible (is_allowed_before_suffix_or_hash last) (suffix_before_hash last h) k;
+  no_revision = λ k. impossible (is_allowed_before_revision last) (before_hash_before_revision last (suffix_before_hash last h)) k;
   whole =
       ap (λ t. ds ++ t) (end.whole
       ∙ (λ i. tail_text (end.no_later refl i) (end.no_letter refl i) (end.no_number refl i) end.suffixes end.hash end.revision));
 }
 
 -- `~` and a hash before such an end
-with_hash : (last : Class) (ds behind : List ℕ) → is_before_hash last ≡ true → is_hash_text ds ≡ true → IsTail Hash behind → IsTail last (126 ∷ (ds ++ behind))
+with_hash : (last : Class) (ds behind : List ℕ) → is_allowed_before_suffix_or_hash last ≡ true → is_hash_text ds ≡ true → IsTail Hash behind → IsTail last (126 ∷ (ds ++ behind))
 with_hash last ds behind h hash end = record {
   later = [];
   letter = None;
@@ -249,15 +249,15 @@ with_hash last ds behind h hash end = record {
   no_letter = λ _. refl;
   no_number = λ _. refl;
   no_suffixes = λ _. refl;
-  no_hash = λ k. impossible (is_before_hash last) h k;
-  no_revision = λ k. impossible (is_before_revision last) (before_hash_before_revision last h) k;
+  no_hash = λ k. impossible (is_allowed_before_suffix_or_hash last) h k;
+  no_revision = λ k. impossible (is_allowed_before_revision last) (before_hash_before_revision last h) k;
   whole =
       ap (λ t. 126 ∷ (ds ++ t)) (end.whole
       ∙ (λ i. tail_text (end.no_later refl i) (end.no_letter refl i) (end.no_number refl i) (end.no_suffixes refl i) (end.no_hash refl i) end.revision));
 }
 
 -- `-r` and a number before such an end
-with_revision : (last : Class) (ds behind : List ℕ) → is_before_revision last ≡ true → is_numeral ds ≡ true → IsTail Revision behind → IsTail last (45 ∷ 114 ∷ (ds ++ behind))
+with_revision : (last : Class) (ds behind : List ℕ) → is_allowed_before_revision last ≡ true → is_numeral ds ≡ true → IsTail Revision behind → IsTail last (45 ∷ 114 ∷ (ds ++ behind))
 with_revision last ds behind h numeral end = record {
   later = [];
   letter = None;
@@ -276,7 +276,7 @@ with_revision last ds behind h numeral end = record {
   no_number = λ _. refl;
   no_suffixes = λ _. refl;
   no_hash = λ _. refl;
-  no_revision = λ k. impossible (is_before_revision last) h k;
+  no_revision = λ k. impossible (is_allowed_before_revision last) h k;
   whole =
       ap (λ t. 45 ∷ 114 ∷ (ds ++ t)) (end.whole
       ∙ (λ i. tail_text (end.no_later refl i) (end.no_letter refl i) (end.no_number refl i) (end.no_suffixes refl i) (end.no_hash refl i) (end.no_revision refl i)))
@@ -341,7 +341,7 @@ suffix_no_component Letter h = refl
 suffix_no_component ZeroComponent h = absurd (false≢true h)
 suffix_no_component Component h = absurd (false≢true h)
 
-suffix_case : (n : ℕ) → Shorter n → (last : Class) (b : ℕ) (rest : List ℕ) → length rest ≤ n → (eqb b 95 && is_before_hash last) ≡ true → CountsOnlyRise (b ∷ rest) (suffix_lexeme (leading_letters rest)) → IsTail last (b ∷ rest)
+suffix_case : (n : ℕ) → Shorter n → (last : Class) (b : ℕ) (rest : List ℕ) → length rest ≤ n → (eqb b 95 && is_allowed_before_suffix_or_hash last) ≡ true → CountsOnlyRise (b ∷ rest) (suffix_lexeme (leading_letters rest)) → IsTail last (b ∷ rest)
 suffix_case n shorter last b rest few guard sound =
     let word : List ℕ = leading_letters rest in
     let behind : List ℕ = drop (length word) rest in
@@ -351,10 +351,10 @@ suffix_case n shorter last b rest few guard sound =
     let end = shorter (suffix_lexeme word).token.class behind short
     (sound_after (b ∷ rest) behind (suffix_lexeme word) (suffix_lexeme word).token (1 + length word) (suffix_whole_by word (suffix_rank word) known)
     (suffix_is_not_last (suffix_lexeme word).token.class class) (drop_one (length word) b rest) sound) in
-    let tail = with_suffix last (suffix_lexeme word).token.class word behind (then_true (eqb b 95) (is_before_hash last) guard)
+    let tail = with_suffix last (suffix_lexeme word).token.class word behind (then_true (eqb b 95) (is_allowed_before_suffix_or_hash last) guard)
     (suffix_no_component (suffix_lexeme word).token.class class) known end in
     subst (IsTail last)
-    (λ i. same_byte b 95 (first_true (eqb b 95) (is_before_hash last) guard) i ∷ sym (split_run is_ascii_lowercase rest) i) tail
+    (λ i. same_byte b 95 (first_true (eqb b 95) (is_allowed_before_suffix_or_hash last) guard) i ∷ sym (split_run is_ascii_lowercase rest) i) tail
 
 number_case : (n : ℕ) → Shorter n → (last : Class) (b : ℕ) (rest : List ℕ) → length rest ≤ n → (is_ascii_digit b && is_suffix last) ≡ true → CountsOnlyRise (b ∷ rest) (number_lexeme SuffixNumber 0 (leading_digits (b ∷ rest))) → IsTail last (b ∷ rest)
 number_case n shorter last b rest few guard sound =
@@ -371,7 +371,7 @@ number_case n shorter last b rest few guard sound =
     let tail = with_number last ds behind suffix (suffix_no_component last suffix) numeral end in
     subst (IsTail last) (sym (split_run is_ascii_digit (b ∷ rest))) tail
 
-hash_case : (n : ℕ) → Shorter n → (last : Class) (b : ℕ) (rest : List ℕ) → length rest ≤ n → (eqb b 126 && is_before_hash last) ≡ true → CountsOnlyRise (b ∷ rest) (hash_lexeme (leading_hex_digits rest)) → IsTail last (b ∷ rest)
+hash_case : (n : ℕ) → Shorter n → (last : Class) (b : ℕ) (rest : List ℕ) → length rest ≤ n → (eqb b 126 && is_allowed_before_suffix_or_hash last) ≡ true → CountsOnlyRise (b ∷ rest) (hash_lexeme (leading_hex_digits rest)) → IsTail last (b ∷ rest)
 hash_case n shorter last b rest few guard sound =
     let ds : List ℕ = leading_hex_digits rest in
     let behind : List ℕ = drop (length ds) rest in
@@ -379,12 +379,12 @@ hash_case n shorter last b rest few guard sound =
     let short : length behind ≤ n = omega (arith, length-drop (length ds) rest) in
     let end = shorter Hash behind short
     (sound_after (b ∷ rest) behind (hash_lexeme ds) (text_token Hash ds) (1 + length ds) (hash_read ds hash) refl (drop_one (length ds) b rest) sound) in
-    let tail = with_hash last ds behind (then_true (eqb b 126) (is_before_hash last) guard) hash end in
+    let tail = with_hash last ds behind (then_true (eqb b 126) (is_allowed_before_suffix_or_hash last) guard) hash end in
     subst (IsTail last)
-    (λ i. same_byte b 126 (first_true (eqb b 126) (is_before_hash last) guard) i ∷ sym (split_run is_hex_digit rest) i) tail
+    (λ i. same_byte b 126 (first_true (eqb b 126) (is_allowed_before_suffix_or_hash last) guard) i ∷ sym (split_run is_hex_digit rest) i) tail
 
 -- after the `-`
-revision_by : (n : ℕ) → Shorter n → (last : Class) (b : ℕ) (rest : List ℕ) → length rest ≤ n → b ≡ 45 → is_before_revision last ≡ true → CountsOnlyRise (b ∷ rest) (revision_lexeme rest) → IsTail last (b ∷ rest)
+revision_by : (n : ℕ) → Shorter n → (last : Class) (b : ℕ) (rest : List ℕ) → length rest ≤ n → b ≡ 45 → is_allowed_before_revision last ≡ true → CountsOnlyRise (b ∷ rest) (revision_lexeme rest) → IsTail last (b ∷ rest)
 unfolding revision_lexeme
 revision_by n shorter last b [] few dash guard sound = absurd (false≢true sound)
 revision_by n shorter last b (c ∷ rest) few dash guard sound =
@@ -401,10 +401,10 @@ revision_by n shorter last b (c ∷ rest) few dash guard sound =
     subst (IsTail last)
     (λ i. sym dash i ∷ same_byte c 114 letter i ∷ sym (split_run is_ascii_digit rest) i) tail
 
-revision_case : (n : ℕ) → Shorter n → (last : Class) (b : ℕ) (rest : List ℕ) → length rest ≤ n → (eqb b 45 && is_before_revision last) ≡ true → CountsOnlyRise (b ∷ rest) (revision_lexeme rest) → IsTail last (b ∷ rest)
+revision_case : (n : ℕ) → Shorter n → (last : Class) (b : ℕ) (rest : List ℕ) → length rest ≤ n → (eqb b 45 && is_allowed_before_revision last) ≡ true → CountsOnlyRise (b ∷ rest) (revision_lexeme rest) → IsTail last (b ∷ rest)
 revision_case n shorter last b rest few guard sound =
-    revision_by n shorter last b rest few (sym (same_byte b 45 (first_true (eqb b 45) (is_before_revision last) guard)))
-    (then_true (eqb b 45) (is_before_revision last) guard) sound
+    revision_by n shorter last b rest few (sym (same_byte b 45 (first_true (eqb b 45) (is_allowed_before_revision last) guard)))
+    (then_true (eqb b 45) (is_allowed_before_revision last) guard) sound
 
 lexeme_case : (n : ℕ) → Shorter n → (last : Class) (b : ℕ) (rest : List ℕ) → length rest ≤ n → CountsOnlyRise (b ∷ rest) (next_lexeme last (b ∷ rest)) → IsTail last (b ∷ rest)
 unfolding next_lexeme
@@ -412,10 +412,10 @@ lexeme_case n shorter last b rest few =
     let P : Lexeme → Type 0 = λ found. CountsOnlyRise (b ∷ rest) found → IsTail last (b ∷ rest) in
     cond_case P (eqb b 46 && is_component last) (later_component_lexeme (leading_digits rest)) _ (component_case n shorter last b rest few)
     (cond_case P (is_ascii_lowercase b && is_component last) (lexeme (number_token Letter b) 1) _ (letter_case n shorter last b rest few)
-    (cond_case P (eqb b 95 && is_before_hash last) (suffix_lexeme (leading_letters rest)) _ (suffix_case n shorter last b rest few)
+    (cond_case P (eqb b 95 && is_allowed_before_suffix_or_hash last) (suffix_lexeme (leading_letters rest)) _ (suffix_case n shorter last b rest few)
     (cond_case P (is_ascii_digit b && is_suffix last) (number_lexeme SuffixNumber 0 (leading_digits (b ∷ rest))) _ (number_case n shorter last b rest few)
-    (cond_case P (eqb b 126 && is_before_hash last) (hash_lexeme (leading_hex_digits rest)) _ (hash_case n shorter last b rest few)
-    (cond_case P (eqb b 45 && is_before_revision last) (revision_lexeme rest) stray_lexeme (revision_case n shorter last b rest few)
+    (cond_case P (eqb b 126 && is_allowed_before_suffix_or_hash last) (hash_lexeme (leading_hex_digits rest)) _ (hash_case n shorter last b rest few)
+    (cond_case P (eqb b 45 && is_allowed_before_revision last) (revision_lexeme rest) stray_lexeme (revision_case n shorter last b rest few)
     (λ sound. absurd (false≢true sound)))))))
 
 tails : (n : ℕ) → Shorter n
@@ -435,7 +435,7 @@ spelled text h =
     let same : drop (0 + length ds) text ≡ behind = let e : 0 + length ds ≡ length ds = omega arith in ap (λ m. drop m text) e in
     let end = tails (length behind) Component behind (omega arith)
     (sound_after text behind (number_lexeme Component 0 ds) (number_token Component (digits_value 10 ds)) (0 + length ds) (number_read Component 0 ds numeral) refl same here) in
-    let parts : Parts = record { first = ds; later = end.later; letter = end.letter; suffixes = end.suffixes; hash = end.hash; revision = end.revision } in
+    let parts : VersionParts = record { first = ds; later = end.later; letter = end.letter; suffixes = end.suffixes; hash = end.hash; revision = end.revision } in
     record {
       parts = parts;
       sound =

@@ -12,9 +12,9 @@ use Rattle.std.proofs.lemmas.List.Sums.{take_while-cons}
 use Rattle.std.proofs.lemmas.Slice.Eq.{bytes_eq-Decides}
 use Rattle.version_core.specs.declared.token.Class.{Class}
 use Rattle.version_core.specs.declared.token.Class.TheVariants.{Stray, PreRelease, End, Revision, Hash, SuffixNumber, Suffix, Letter, ZeroComponent, Component}
-use Rattle.version_core.specs.Token.{Token, Lexeme, token_without_value, number_token, text_token, lexeme, stray_lexeme, has_number_length, is_hex_digit, is_component, is_suffix, is_before_hash, is_before_revision, begins_with_zero, leading_digits, leading_hex_digits, leading_letters, number_lexeme, later_component_lexeme, suffix_rank, suffix_lexeme, suffix_lexeme_of_rank, hash_lexeme, revision_lexeme, next_lexeme, lexeme_at}
+use Rattle.version_core.specs.Token.{Token, Lexeme, token_without_value, number_token, text_token, lexeme, stray_lexeme, has_number_length, is_hex_digit, is_component, is_suffix, is_allowed_before_suffix_or_hash, is_allowed_before_revision, begins_with_zero, leading_digits, leading_hex_digits, leading_letters, number_lexeme, later_component_lexeme, suffix_rank, suffix_lexeme, suffix_lexeme_of_rank, hash_lexeme, revision_lexeme, next_lexeme, lexeme_at}
 use Rattle.version_core.specs.Order.{are_in_grammar, is_last_token_class, is_stray_class, is_version, tokens, tokens_after_class_skipping_bytes}
-use Rattle.version_core.specs.Grammar.{Parts, are_version_parts, spelling, tokens_of, is_none_or, is_numeral, is_hash_text, is_suffix_part, SuffixPart, later_components_text, letter_text, number_text, suffixes_text, hash_text, revision_text, component_token, later_component_tokens, letter_tokens, number_tokens, suffix_tokens, hash_tokens, revision_tokens}
+use Rattle.version_core.specs.Grammar.{VersionParts, are_version_parts, spelling, tokens_of, is_none_or, is_numeral, is_hash_text, is_suffix_part, SuffixPart, later_components_text, letter_text, number_text, suffixes_text, hash_text, revision_text, component_token, later_component_tokens, letter_tokens, number_tokens, suffix_tokens, hash_tokens, revision_tokens}
 use Rattle.version_core.proofs.Walk.{after, tokens_after_class_skipping_bytes-step}
 
 -- ---- tests
@@ -106,7 +106,7 @@ numeral_digits ds h = then_true (has_number_length ds) (list_all is_ascii_digit 
 
 -- ---- revision
 
-next_revision : (last : Class) (rest : List ℕ) → is_before_revision last ≡ true → next_lexeme last (45 ∷ rest) ≡ revision_lexeme rest
+next_revision : (last : Class) (rest : List ℕ) → is_allowed_before_revision last ≡ true → next_lexeme last (45 ∷ rest) ≡ revision_lexeme rest
 unfolding next_lexeme
 next_revision last rest h = rw h refl
 
@@ -119,7 +119,7 @@ at_end : (last : Class) → tokens_after_class_skipping_bytes (Some last) 0 [] �
 unfolding next_lexeme
 at_end last = refl
 
-read_revision : (revision : Option (List ℕ)) (last : Class) → is_before_revision last ≡ true → is_none_or is_numeral revision ≡ true → tokens_after_class_skipping_bytes (Some last) 0 (revision_text revision) ≡ revision_tokens revision ++ token_without_value End ∷ []
+read_revision : (revision : Option (List ℕ)) (last : Class) → is_allowed_before_revision last ≡ true → is_none_or is_numeral revision ≡ true → tokens_after_class_skipping_bytes (Some last) 0 (revision_text revision) ≡ revision_tokens revision ++ token_without_value End ∷ []
 read_revision None last h ok = at_end last
 read_revision (Some ds) last h ok =
     let long : 2 + length ds ≡ length (45 ∷ 114 ∷ ds) = omega arith in
@@ -129,7 +129,7 @@ read_revision (Some ds) last h ok =
 
 -- ---- hash
 
-next_hash : (last : Class) (rest : List ℕ) → is_before_hash last ≡ true → next_lexeme last (126 ∷ rest) ≡ hash_lexeme (leading_hex_digits rest)
+next_hash : (last : Class) (rest : List ℕ) → is_allowed_before_suffix_or_hash last ≡ true → next_lexeme last (126 ∷ rest) ≡ hash_lexeme (leading_hex_digits rest)
 unfolding next_lexeme
 next_hash last rest h = rw h refl
 
@@ -138,7 +138,7 @@ unfolding hash_lexeme
 hash_read ds h =
     ap (λ t. cond t (lexeme (text_token Hash ds) (1 + length ds)) stray_lexeme) (first_true (ltb 0 (length ds)) (list_all is_hex_digit ds) h)
 
-pub before_hash_before_revision : (last : Class) → is_before_hash last ≡ true → is_before_revision last ≡ true
+pub before_hash_before_revision : (last : Class) → is_allowed_before_suffix_or_hash last ≡ true → is_allowed_before_revision last ≡ true
 before_hash_before_revision Stray h = h
 before_hash_before_revision PreRelease h = h
 before_hash_before_revision End h = h
@@ -150,7 +150,7 @@ before_hash_before_revision Letter h = h
 before_hash_before_revision ZeroComponent h = h
 before_hash_before_revision Component h = h
 
-read_hash : (hash : Option (List ℕ)) (last : Class) (rest : List ℕ) (ts : List Token) → is_before_hash last ≡ true → is_none_or is_hash_text hash ≡ true → begins is_hex_digit rest ≡ false → ((class : Class) → is_before_revision class ≡ true → tokens_after_class_skipping_bytes (Some class) 0 rest ≡ ts) → tokens_after_class_skipping_bytes (Some last) 0 (hash_text hash ++ rest) ≡ hash_tokens hash ++ ts
+read_hash : (hash : Option (List ℕ)) (last : Class) (rest : List ℕ) (ts : List Token) → is_allowed_before_suffix_or_hash last ≡ true → is_none_or is_hash_text hash ≡ true → begins is_hex_digit rest ≡ false → ((class : Class) → is_allowed_before_revision class ≡ true → tokens_after_class_skipping_bytes (Some class) 0 rest ≡ ts) → tokens_after_class_skipping_bytes (Some last) 0 (hash_text hash ++ rest) ≡ hash_tokens hash ++ ts
 read_hash None last rest ts h ok other more = more last (before_hash_before_revision last h)
 read_hash (Some ds) last rest ts h ok other more =
     let long : 1 + length ds ≡ length (126 ∷ ds) = omega arith in
@@ -166,7 +166,7 @@ unfolding next_lexeme
 next_number last d rest h digit =
     rw (digit_is_no_dot d digit, digit_is_no_letter d digit, digit_is_no_underscore d digit, digit, h) refl
 
-pub suffix_before_hash : (last : Class) → is_suffix last ≡ true → is_before_hash last ≡ true
+pub suffix_before_hash : (last : Class) → is_suffix last ≡ true → is_allowed_before_suffix_or_hash last ≡ true
 suffix_before_hash Stray h = h
 suffix_before_hash PreRelease h = refl
 suffix_before_hash End h = h
@@ -190,7 +190,7 @@ suffix_is_not_last Letter h = refl
 suffix_is_not_last ZeroComponent h = refl
 suffix_is_not_last Component h = refl
 
-read_number : (number : Option (List ℕ)) (last : Class) (rest : List ℕ) (ts : List Token) → is_suffix last ≡ true → is_none_or is_numeral number ≡ true → begins is_ascii_digit rest ≡ false → ((class : Class) → is_before_hash class ≡ true → tokens_after_class_skipping_bytes (Some class) 0 rest ≡ ts) → tokens_after_class_skipping_bytes (Some last) 0 (number_text number ++ rest) ≡ number_tokens number ++ ts
+read_number : (number : Option (List ℕ)) (last : Class) (rest : List ℕ) (ts : List Token) → is_suffix last ≡ true → is_none_or is_numeral number ≡ true → begins is_ascii_digit rest ≡ false → ((class : Class) → is_allowed_before_suffix_or_hash class ≡ true → tokens_after_class_skipping_bytes (Some class) 0 rest ≡ ts) → tokens_after_class_skipping_bytes (Some last) 0 (number_text number ++ rest) ≡ number_tokens number ++ ts
 read_number None last rest ts h ok other more = more last (suffix_before_hash last h)
 read_number (Some []) last rest ts h ok other more = absurd (false≢true ok)
 read_number (Some (d ∷ ds)) last rest ts h ok other more =
@@ -201,7 +201,7 @@ read_number (Some (d ∷ ds)) last rest ts h ok other more =
     ∙ ap (number_lexeme SuffixNumber 0) (run-append is_ascii_digit (d ∷ ds) rest all other) ∙ number_read SuffixNumber 0 (d ∷ ds) ok) refl
     ∙ ap (λ tokens. number_token SuffixNumber (digits_value 10 (d ∷ ds)) ∷ tokens) (more SuffixNumber refl)
 
-next_suffix : (last : Class) (rest : List ℕ) → is_before_hash last ≡ true → next_lexeme last (95 ∷ rest) ≡ suffix_lexeme (leading_letters rest)
+next_suffix : (last : Class) (rest : List ℕ) → is_allowed_before_suffix_or_hash last ≡ true → next_lexeme last (95 ∷ rest) ≡ suffix_lexeme (leading_letters rest)
 unfolding next_lexeme
 next_suffix last rest h = rw h refl
 
@@ -240,7 +240,7 @@ begins_no_letter : (number : Option (List ℕ)) (rest : List ℕ) → is_none_or
 begins_no_letter None rest ok h = h
 begins_no_letter (Some ds) rest ok h = digits_are_no_letters ds rest (numeral_digits ds ok) h
 
-read_suffixes : (suffixes : List SuffixPart) (last : Class) (rest : List ℕ) (ts : List Token) → is_before_hash last ≡ true → list_all is_suffix_part suffixes ≡ true → begins is_ascii_digit rest ≡ false → begins is_ascii_lowercase rest ≡ false → ((class : Class) → is_before_hash class ≡ true → tokens_after_class_skipping_bytes (Some class) 0 rest ≡ ts) → tokens_after_class_skipping_bytes (Some last) 0 (suffixes_text suffixes ++ rest) ≡ suffix_tokens suffixes ++ ts
+read_suffixes : (suffixes : List SuffixPart) (last : Class) (rest : List ℕ) (ts : List Token) → is_allowed_before_suffix_or_hash last ≡ true → list_all is_suffix_part suffixes ≡ true → begins is_ascii_digit rest ≡ false → begins is_ascii_lowercase rest ≡ false → ((class : Class) → is_allowed_before_suffix_or_hash class ≡ true → tokens_after_class_skipping_bytes (Some class) 0 rest ≡ ts) → tokens_after_class_skipping_bytes (Some last) 0 (suffixes_text suffixes ++ rest) ≡ suffix_tokens suffixes ++ ts
 read_suffixes [] last rest ts h ok no_digit no_letter more = more last h
 read_suffixes (s ∷ ss) last rest ts h ok no_digit no_letter more =
     let behind : List ℕ = suffixes_text ss ++ rest in
@@ -269,7 +269,7 @@ next_letter : (last : Class) (b : ℕ) (rest : List ℕ) → is_component last �
 unfolding next_lexeme
 next_letter last b rest h small = rw (letter_is_no_dot b small, small, h) refl
 
-pub component_before_hash : (last : Class) → is_component last ≡ true → is_before_hash last ≡ true
+pub component_before_hash : (last : Class) → is_component last ≡ true → is_allowed_before_suffix_or_hash last ≡ true
 component_before_hash Stray h = absurd (false≢true h)
 component_before_hash PreRelease h = refl
 component_before_hash End h = absurd (false≢true h)
@@ -281,7 +281,7 @@ component_before_hash Letter h = refl
 component_before_hash ZeroComponent h = refl
 component_before_hash Component h = refl
 
-read_letter : (letter : Option ℕ) (last : Class) (rest : List ℕ) (ts : List Token) → is_component last ≡ true → is_none_or is_ascii_lowercase letter ≡ true → ((class : Class) → is_before_hash class ≡ true → tokens_after_class_skipping_bytes (Some class) 0 rest ≡ ts) → tokens_after_class_skipping_bytes (Some last) 0 (letter_text letter ++ rest) ≡ letter_tokens letter ++ ts
+read_letter : (letter : Option ℕ) (last : Class) (rest : List ℕ) (ts : List Token) → is_component last ≡ true → is_none_or is_ascii_lowercase letter ≡ true → ((class : Class) → is_allowed_before_suffix_or_hash class ≡ true → tokens_after_class_skipping_bytes (Some class) 0 rest ≡ ts) → tokens_after_class_skipping_bytes (Some last) 0 (letter_text letter ++ rest) ≡ letter_tokens letter ++ ts
 read_letter None last rest ts h ok more = more last (component_before_hash last h)
 read_letter (Some b) last rest ts h ok more =
     read_token (Some last) (b ∷ rest) (b ∷ []) rest (number_token Letter b) 1 refl refl (next_letter last b rest h ok) refl
@@ -333,7 +333,7 @@ read_later (ds ∷ later) last rest ts h ok other more =
 -- ---- all of it
 
 -- which parts are in the grammar
-record InGrammar (parts : Parts) : Type 0 where
+record InGrammar (parts : VersionParts) : Type 0 where
   first : is_numeral parts.first ≡ true
   later : list_all is_numeral parts.later ≡ true
   letter : is_none_or is_ascii_lowercase parts.letter ≡ true
@@ -349,13 +349,13 @@ in_grammar_by true true false d e f h = absurd (false≢true h)
 in_grammar_by true false c d e f h = absurd (false≢true h)
 in_grammar_by false b c d e f h = absurd (false≢true h)
 
-in_grammar : (parts : Parts) → are_version_parts parts ≡ true → InGrammar parts
+in_grammar : (parts : VersionParts) → are_version_parts parts ≡ true → InGrammar parts
 in_grammar parts ok =
     let six = in_grammar_by (is_numeral parts.first) (list_all is_numeral parts.later) (is_none_or is_ascii_lowercase parts.letter)
     (list_all is_suffix_part parts.suffixes) (is_none_or is_hash_text parts.hash) (is_none_or is_numeral parts.revision) ok in
     record { first = six.0; later = six.1; letter = six.2; suffixes = six.3; hash = six.4; revision = six.5 }
 
-pub read_spelling : (parts : Parts) → are_version_parts parts ≡ true → tokens (spelling parts) ≡ tokens_of parts
+pub read_spelling : (parts : VersionParts) → are_version_parts parts ≡ true → tokens (spelling parts) ≡ tokens_of parts
 unfolding tokens
 read_spelling parts ok =
     let each = in_grammar parts ok in
@@ -428,7 +428,7 @@ revision_sound : (revision : Option (List ℕ)) → are_in_grammar (revision_tok
 revision_sound None = refl
 revision_sound (Some ds) = refl
 
-pub spelling_is_version : (parts : Parts) → are_version_parts parts ≡ true → is_version (spelling parts) ≡ true
+pub spelling_is_version : (parts : VersionParts) → are_version_parts parts ≡ true → is_version (spelling parts) ≡ true
 unfolding is_version
 spelling_is_version parts ok =
     let each = in_grammar parts ok in

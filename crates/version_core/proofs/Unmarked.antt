@@ -11,7 +11,7 @@ use Rattle.std.proofs.lemmas.List.{drop-drop, drop_more, length-drop, length-tak
 use Rattle.std.proofs.lemmas.Slice.Eq.{bytes_eq-Decides}
 use Rattle.version_core.specs.declared.token.Class.{Class}
 use Rattle.version_core.specs.declared.token.Class.TheVariants.{PreRelease, Revision, SuffixNumber, Suffix, Letter, ZeroComponent, Component}
-use Rattle.version_core.specs.Token.{Lexeme, number_token, text_token, lexeme, stray_lexeme, has_number_length, is_component, is_suffix, is_before_hash, is_before_revision, begins_with_zero, leading_digits, leading_hex_digits, leading_letters, number_lexeme, later_component_lexeme, suffix_class, suffix_rank, suffix_lexeme_of_rank, hash_lexeme, revision_lexeme, next_lexeme, lexeme_at}
+use Rattle.version_core.specs.Token.{Lexeme, number_token, text_token, lexeme, stray_lexeme, has_number_length, is_component, is_suffix, is_allowed_before_suffix_or_hash, is_allowed_before_revision, begins_with_zero, leading_digits, leading_hex_digits, leading_letters, number_lexeme, later_component_lexeme, suffix_class, suffix_rank, suffix_lexeme_of_rank, hash_lexeme, revision_lexeme, next_lexeme, lexeme_at}
 use Rattle.version_core.specs.Order.{is_last_token_class, is_stray_class, is_version}
 use Rattle.version_core.specs.Reading.{AreEqualUpTo, AreEqualUpToPlaceInHash, HasUnmarkedEnd, IsLastMark, begins_with_mark, is_token_mark, is_unmarked}
 use Rattle.version_core.proofs.EqualFront.{IsGood, and_left, and_right, by_mark, cut_text, good_after, good_front, good_whole, goes_on, mark_within, with_mark}
@@ -125,10 +125,10 @@ unfolding next_lexeme
 unmarked_short last b rest bare =
     cond_short (room last) (eqb b 46 && is_component last) (later_component_lexeme (leading_digits rest)) _ (no_mark b 46 (is_component last) bare refl)
     (cond_short (room last) (is_ascii_lowercase b && is_component last) (lexeme (number_token Letter b) 1) _ (λ h. letter_short last b (and_right (is_ascii_lowercase b) (is_component last) h))
-    (cond_short (room last) (eqb b 95 && is_before_hash last) (suffix_lexeme_of_rank (leading_letters rest) (suffix_rank (leading_letters rest))) _ (no_mark b 95 (is_before_hash last) bare refl)
+    (cond_short (room last) (eqb b 95 && is_allowed_before_suffix_or_hash last) (suffix_lexeme_of_rank (leading_letters rest) (suffix_rank (leading_letters rest))) _ (no_mark b 95 (is_allowed_before_suffix_or_hash last) bare refl)
     (cond_short (room last) (is_ascii_digit b && is_suffix last) (number_lexeme SuffixNumber 0 (leading_digits (b ∷ rest))) _ (λ h. suffix_number_short last (leading_digits (b ∷ rest)) (and_right (is_ascii_digit b) (is_suffix last) h))
-    (cond_short (room last) (eqb b 126 && is_before_hash last) (hash_lexeme (leading_hex_digits rest)) _ (no_mark b 126 (is_before_hash last) bare refl)
-    (cond_short (room last) (eqb b 45 && is_before_revision last) (revision_lexeme rest) stray_lexeme (no_mark b 45 (is_before_revision last) bare refl)
+    (cond_short (room last) (eqb b 126 && is_allowed_before_suffix_or_hash last) (hash_lexeme (leading_hex_digits rest)) _ (no_mark b 126 (is_allowed_before_suffix_or_hash last) bare refl)
+    (cond_short (room last) (eqb b 45 && is_allowed_before_revision last) (revision_lexeme rest) stray_lexeme (no_mark b 45 (is_allowed_before_revision last) bare refl)
     (stray_short (room last)))))))
 
 -- ---- bytes in a row

@@ -10,7 +10,7 @@ use Rattle.std.proofs.lemmas.Bool.Decides.{nat_tests}
 use Rattle.std.proofs.lemmas.List.Folds.{list_all-append}
 use Rattle.version_core.specs.Order.{is_version}
 use Rattle.version_core.specs.Token.{is_hex_digit, has_number_length, suffix_rank}
-use Rattle.version_core.specs.Grammar.{IsSpelledVersion, Parts, SuffixPart, are_version_parts, hash_text, is_none_or, is_hash_text, is_numeral, is_suffix_part, later_components_text, letter_text, number_text, revision_text, spelling, suffixes_text, begins_with_digit, is_version_byte}
+use Rattle.version_core.specs.Grammar.{IsSpelledVersion, VersionParts, SuffixPart, are_version_parts, hash_text, is_none_or, is_hash_text, is_numeral, is_suffix_part, later_components_text, letter_text, number_text, revision_text, spelling, suffixes_text, begins_with_digit, is_version_byte}
 use Rattle.version_core.proofs.ReadBack.{spelled}
 
 pub all-imp : (P Q : ℕ → Bool) → ((b : ℕ) → P b ≡ true → Q b ≡ true) → (xs : List ℕ) → list_all P xs ≡ true → list_all Q xs ≡ true
@@ -94,7 +94,7 @@ revision-bytes : (revision : Option (List ℕ)) → is_none_or is_numeral revisi
 revision-bytes None h = refl
 revision-bytes (Some digits) h = numeral-bytes digits h
 
-spelling-bytes : (parts : Parts) → are_version_parts parts ≡ true → list_all is_version_byte (spelling parts) ≡ true
+spelling-bytes : (parts : VersionParts) → are_version_parts parts ≡ true → list_all is_version_byte (spelling parts) ≡ true
 spelling-bytes parts h =
     let a = and_parts (is_numeral parts.first) _ h in
     let b = and_parts (list_all is_numeral parts.later) _ a.1 in

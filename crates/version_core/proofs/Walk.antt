@@ -10,7 +10,7 @@ use Rattle.std.proofs.lemmas.List.Folds.{length-prefix_len}
 use Rattle.std.proofs.lemmas.List.Sums.{prefix_len-le-length}
 use Rattle.version_core.specs.declared.token.Class.{Class}
 use Rattle.version_core.specs.declared.token.Class.TheVariants.{Revision, Hash, SuffixNumber, Letter, ZeroComponent, Component}
-use Rattle.version_core.specs.Token.{Token, Lexeme, number_token, text_token, lexeme, stray_lexeme, has_number_length, is_component, is_suffix, is_before_hash, is_before_revision, begins_with_zero, is_hex_digit, leading_digits, leading_hex_digits, leading_letters, number_lexeme, later_component_lexeme, suffix_rank, suffix_lexeme, suffix_lexeme_of_rank, hash_lexeme, revision_lexeme, next_lexeme, lexeme_at}
+use Rattle.version_core.specs.Token.{Token, Lexeme, number_token, text_token, lexeme, stray_lexeme, has_number_length, is_component, is_suffix, is_allowed_before_suffix_or_hash, is_allowed_before_revision, begins_with_zero, is_hex_digit, leading_digits, leading_hex_digits, leading_letters, number_lexeme, later_component_lexeme, suffix_rank, suffix_lexeme, suffix_lexeme_of_rank, hash_lexeme, revision_lexeme, next_lexeme, lexeme_at}
 use Rattle.version_core.specs.declared.lexeme.Lexeme.{Lexeme as LexemeAt}
 use Rattle.version_core.specs.Order.{is_last_token_class, tokens_after_class_skipping_bytes}
 use Rattle.version_core.specs.Reading.{lexeme_view, token_view, unread_len}
@@ -79,10 +79,10 @@ next_within last (b ∷ rest) =
     let hex : 1 + length (leading_hex_digits rest) ≤ length text = omega (arith, length-take_while is_hex_digit rest) in
     cond_within text (eqb b 46 && is_component last) (later_component_lexeme (leading_digits rest)) _ (λ _. component_within text (leading_digits rest) digits)
     (cond_within text (is_ascii_lowercase b && is_component last) (lexeme (number_token Letter b) 1) _ (λ _. lexeme_within text (number_token Letter b) 1 (omega arith) (omega arith))
-    (cond_within text (eqb b 95 && is_before_hash last) (suffix_lexeme (leading_letters rest)) _ (λ _. suffix_within_by text (leading_letters rest) (suffix_rank (leading_letters rest)) word)
+    (cond_within text (eqb b 95 && is_allowed_before_suffix_or_hash last) (suffix_lexeme (leading_letters rest)) _ (λ _. suffix_within_by text (leading_letters rest) (suffix_rank (leading_letters rest)) word)
     (cond_within text (is_ascii_digit b && is_suffix last) (number_lexeme SuffixNumber 0 (leading_digits text)) _ (λ _. number_within text SuffixNumber 0 (leading_digits text) (omega (arith, length-take_while is_ascii_digit text)))
-    (cond_within text (eqb b 126 && is_before_hash last) (hash_lexeme (leading_hex_digits rest)) _ (λ _. hash_within text (leading_hex_digits rest) hex)
-    (cond_within text (eqb b 45 && is_before_revision last) (revision_lexeme rest) stray_lexeme (λ _. revision_within text rest (omega arith))
+    (cond_within text (eqb b 126 && is_allowed_before_suffix_or_hash last) (hash_lexeme (leading_hex_digits rest)) _ (λ _. hash_within text (leading_hex_digits rest) hex)
+    (cond_within text (eqb b 45 && is_allowed_before_revision last) (revision_lexeme rest) stray_lexeme (λ _. revision_within text rest (omega arith))
     (stray_within text))))))
 
 pub lexeme_at_within : (last : Option Class) (text : List ℕ) → HasNamesAmong text (lexeme_at last text)

@@ -18,7 +18,7 @@ pub record SuffixPart : Type 0 where
   pub number : Option (List ℕ)
 
 -- the parts of a version, as bytes: the components, then what may follow them (a letter, suffixes, a hash, a revision)
-pub record Parts : Type 0 where
+pub record VersionParts : Type 0 where
   -- the digits of the first component
   pub first : List ℕ
   -- the digits of each later component
@@ -50,7 +50,7 @@ abbrev pub is_suffix_part : SuffixPart → Bool
 is_suffix_part suffix = is_some (suffix_rank suffix.name) && is_none_or is_numeral suffix.number
 
 -- whether each part follows the grammar, so that the parts are those of a version
-abbrev pub are_version_parts : Parts → Bool
+abbrev pub are_version_parts : VersionParts → Bool
 are_version_parts parts =
     is_numeral parts.first && (list_all is_numeral parts.later
     && (is_none_or is_ascii_lowercase parts.letter && (list_all is_suffix_part parts.suffixes
@@ -88,7 +88,7 @@ revision_text None = []
 revision_text (Some digits) = 45 ∷ 114 ∷ digits
 
 -- the text of a version, spelled from its parts
-abbrev pub spelling : Parts → List ℕ
+abbrev pub spelling : VersionParts → List ℕ
 spelling parts =
     parts.first ++ (later_components_text parts.later ++ (letter_text parts.letter
     ++ (suffixes_text parts.suffixes ++ (hash_text parts.hash ++ revision_text parts.revision))))
@@ -131,7 +131,7 @@ revision_tokens None = []
 revision_tokens (Some digits) = number_token Revision (digits_value 10 digits) ∷ []
 
 -- the tokens of a version with these parts, the end included
-abbrev pub tokens_of : Parts → List Token
+abbrev pub tokens_of : VersionParts → List Token
 tokens_of parts =
     number_token Component (digits_value 10 parts.first)
     ∷ (later_component_tokens parts.later ++ (letter_tokens parts.letter ++ (suffix_tokens parts.suffixes
@@ -140,7 +140,7 @@ tokens_of parts =
 -- a text is a version by the grammar: some parts that follow the grammar spell it
 pub record IsSpelledVersion (text : List ℕ) : Type 0 where
   -- the parts of the version
-  pub parts : Parts
+  pub parts : VersionParts
   -- each part follows the grammar
   pub sound : are_version_parts parts ≡ true
   -- the parts spell the text

@@ -37,14 +37,15 @@ fits wanted found =
 
 -- whether each token of the wanted version, up to its end, fits the token of the found version at
 -- the same index
-abbrev pub all_fit : List Token → List Token → Bool
-all_fit [] found = true
-all_fit (w ∷ ws) [] = is_last_token_class w.class
-all_fit (w ∷ ws) (f ∷ fs) = is_last_token_class w.class || (fits w f && all_fit ws fs)
+abbrev pub are_wanted_tokens_met_by : List Token → List Token → Bool
+are_wanted_tokens_met_by [] found = true
+are_wanted_tokens_met_by (w ∷ ws) [] = is_last_token_class w.class
+are_wanted_tokens_met_by (w ∷ ws) (f ∷ fs) =
+    is_last_token_class w.class || (fits w f && are_wanted_tokens_met_by ws fs)
 
 -- the fuzzy match: whether the version `found` begins with the tokens of the version `wanted`
 unfoldable pub is_fuzzy_match : List ℕ → List ℕ → Bool
-is_fuzzy_match found wanted = all_fit (tokens wanted) (tokens found)
+is_fuzzy_match found wanted = are_wanted_tokens_met_by (tokens wanted) (tokens found)
 
 -- whether the operator with these match bits accepts the version `found`: one of the bits holds for `found`, compared
 -- with the version `wanted`

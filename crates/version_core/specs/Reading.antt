@@ -15,7 +15,7 @@ use Rattle.version_core.specs.declared.token.TokenAt.{TokenAt}
 use Rattle.version_core.specs.declared.token.Tokens.{Tokens}
 use Rattle.version_core.specs.declared.lexeme.Lexeme.{Lexeme as LexemeAt}
 use Rattle.version_core.specs.Token.{Token, Lexeme, lexeme, is_hex_digit, leading_hex_digits}
-use Rattle.version_core.specs.Matching.{all_fit}
+use Rattle.version_core.specs.Matching.{are_wanted_tokens_met_by}
 use Rattle.version_core.specs.Order.{token_cmp, tokens_after_class_skipping_bytes}
 
 -- the token of the definitions for a token of the program: its text ends before the first byte that is no hexadecimal
@@ -143,5 +143,6 @@ hash_cmp left right =
 abbrev pub hash_fits : List ℕ → List ℕ → Bool
 hash_fits wanted found =
     is_eq (slice_cmp nat_cmp (leading_hex_digits found) (leading_hex_digits wanted))
-    && all_fit (tokens_after_class_skipping_bytes (Some Hash) (length (leading_hex_digits wanted)) wanted)
+    && are_wanted_tokens_met_by
+    (tokens_after_class_skipping_bytes (Some Hash) (length (leading_hex_digits wanted)) wanted)
     (tokens_after_class_skipping_bytes (Some Hash) (length (leading_hex_digits found)) found)

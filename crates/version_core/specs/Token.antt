@@ -144,15 +144,15 @@ is_suffix Suffix = true
 is_suffix _ = false
 
 -- whether a suffix or a hash may follow a token of this class
-abbrev pub is_before_hash : Class → Bool
-is_before_hash Letter = true
-is_before_hash SuffixNumber = true
-is_before_hash class = is_component class || is_suffix class
+abbrev pub is_allowed_before_suffix_or_hash : Class → Bool
+is_allowed_before_suffix_or_hash Letter = true
+is_allowed_before_suffix_or_hash SuffixNumber = true
+is_allowed_before_suffix_or_hash class = is_component class || is_suffix class
 
 -- whether a revision may follow a token of this class
-abbrev pub is_before_revision : Class → Bool
-is_before_revision Hash = true
-is_before_revision class = is_before_hash class
+abbrev pub is_allowed_before_revision : Class → Bool
+is_allowed_before_revision Hash = true
+is_allowed_before_revision class = is_allowed_before_suffix_or_hash class
 
 -- the first lexeme of a text, given the class `last` of the token before the text. The first byte of the text and this
 -- class decide (46 is `.`, 95 `_`, 126 `~`, 45 `-`)
@@ -161,11 +161,11 @@ next_lexeme last [] = lexeme (token_without_value End) 0
 next_lexeme last (b ∷ rest) =
     if (b == 46) && is_component last then later_component_lexeme (leading_digits rest) else
     if is_ascii_lowercase b && is_component last then lexeme (number_token Letter b) 1 else
-    if (b == 95) && is_before_hash last then suffix_lexeme (leading_letters rest) else
+    if (b == 95) && is_allowed_before_suffix_or_hash last then suffix_lexeme (leading_letters rest) else
     if is_ascii_digit b && is_suffix last
     then number_lexeme SuffixNumber 0 (leading_digits (b ∷ rest)) else
-    if (b == 126) && is_before_hash last then hash_lexeme (leading_hex_digits rest) else
-    if (b == 45) && is_before_revision last then revision_lexeme rest else
+    if (b == 126) && is_allowed_before_suffix_or_hash last then hash_lexeme (leading_hex_digits rest) else
+    if (b == 45) && is_allowed_before_revision last then revision_lexeme rest else
     stray_lexeme
 
 -- the first lexeme of a text. At the start of a version (None) it is the first component. Otherwise the class of the

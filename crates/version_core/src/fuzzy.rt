@@ -3,7 +3,7 @@
 //! below "An operator has four bits".
 
 ghost use Rattle.std.specs.Prelude.{◌≡◌, IsTrue};
-ghost use Rattle.version_core.specs.Matching.{all_fit, is_fuzzy_match};
+ghost use Rattle.version_core.specs.Matching.{are_wanted_tokens_met_by, is_fuzzy_match};
 ghost use Rattle.version_core.specs.Order.{is_version};
 ghost use Rattle.version_core.specs.Reading.{hash_fits, tokens_left};
 
@@ -21,8 +21,11 @@ pub fn is_fuzzy_match(found: &[u8], wanted: &[u8]) -> bool
 {
     // Both versions are equal before this place, so that only what follows has to be compared.
     match parting_of(wanted, found) {
-        Parting::AtFront => all_fit(Tokens::of(wanted), Tokens::of(found)),
-        Parting::AtMark(at) => all_fit(tokens_from_mark(wanted, at), tokens_from_mark(found, at)),
+        Parting::AtFront => are_wanted_tokens_met_by(Tokens::of(wanted), Tokens::of(found)),
+        Parting::AtMark(at) => are_wanted_tokens_met_by(
+            tokens_from_mark(wanted, at),
+            tokens_from_mark(found, at),
+        ),
         Parting::InHash(len) => fits_within_hash(behind(wanted, len), behind(found, len)),
     }
 }
@@ -37,13 +40,14 @@ fn fits_within_hash(wanted: &[u8], found: &[u8]) -> bool
         return false;
     }
     let class = Class::Hash;
-    all_fit(Tokens::behind(class, wanted), Tokens::behind(class, found))
+    are_wanted_tokens_met_by(Tokens::behind(class, wanted), Tokens::behind(class, found))
 }
 
 /// Whether each remaining token of the wanted version, up to its end, fits the token of the found
 /// version at the same index.
-fn all_fit(wanted: Tokens<'_>, found: Tokens<'_>) -> bool
-    ensures { result ≡ all_fit (tokens_left wanted.entry) (tokens_left found.entry) }
+fn are_wanted_tokens_met_by(wanted: Tokens<'_>, found: Tokens<'_>) -> bool
+    ensures { result ≡ are_wanted_tokens_met_by (tokens_left wanted.entry)
+        (tokens_left found.entry) }
 {
     let mut found_tokens = found;
     let mut wanted_tokens = wanted;

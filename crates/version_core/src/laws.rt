@@ -5,7 +5,7 @@
 ghost use Rattle.std.specs.Prelude.{◌≡◌, ◌∷◌, ◌↔◌, [], ℕ, List, count_by, true};
 ghost use Rattle.std.specs.Cmp.{IsTotalOrder};
 ghost use Rattle.std.specs.declared.cmp.Ordering.TheVariants.{Equal};
-ghost use Rattle.version_core.specs.Grammar.{IsSpelledVersion, Parts, are_version_parts, begins_with_digit, is_version_byte, spelling, tokens_of};
+ghost use Rattle.version_core.specs.Grammar.{IsSpelledVersion, VersionParts, are_version_parts, begins_with_digit, is_version_byte, spelling, tokens_of};
 ghost use Rattle.version_core.specs.Op.{EQUAL, GREATER, LESS};
 ghost use Rattle.std.specs.List.{list_all};
 ghost use Rattle.version_core.specs.Order.{is_version, tokens, version_cmp};
@@ -46,10 +46,10 @@ pub fn equal_versions_match_fuzzily()
 /// parts.
 pub fn spelled_is_read()
     // The spelling of such parts is a valid version.
-    ensures version { (parts : Parts)
+    ensures version { (parts : VersionParts)
         → are_version_parts parts ≡ true → is_version (spelling parts) ≡ true }
     // The tokens of the spelling are those of the parts.
-    ensures tokens { (parts : Parts)
+    ensures tokens { (parts : VersionParts)
         → are_version_parts parts ≡ true → tokens (spelling parts) ≡ tokens_of parts }
 {}
 

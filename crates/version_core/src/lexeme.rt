@@ -109,10 +109,10 @@ fn next_lexeme<'a>(last: Class, text: &'a [u8]) -> Lexeme<'a>
     match *mark {
         b'.' if last.is_component() => component(leading_digits(rest)),
         b'a'..=b'z' if last.is_component() => lexeme_of_number(Class::Letter, u64::from(*mark), 1),
-        b'_' if last.is_before_hash() => suffix(leading_letters(rest)),
+        b'_' if last.is_allowed_before_suffix_or_hash() => suffix(leading_letters(rest)),
         b'0'..=b'9' if last.is_suffix() => number(Class::SuffixNumber, 0, leading_digits(text)),
-        b'~' if last.is_before_hash() => hash(text),
-        b'-' if last.is_before_revision() => revision(rest),
+        b'~' if last.is_allowed_before_suffix_or_hash() => hash(text),
+        b'-' if last.is_allowed_before_revision() => revision(rest),
         _ => stray_lexeme(),
     }
 }

@@ -3,7 +3,7 @@
 //! its tokens", what a fuzzy match allows below "An operator has four bits".
 
 ghost use Rattle.std.specs.Prelude.{◌≡◌, ◌<◌, Some, false, [], ◌∷◌, drop, if◌then◌else◌};
-ghost use Rattle.version_core.specs.Token.{is_before_hash, is_before_revision, is_component, is_suffix};
+ghost use Rattle.version_core.specs.Token.{is_allowed_before_suffix_or_hash, is_allowed_before_revision, is_component, is_suffix};
 ghost use Rattle.version_core.specs.Order.{class_rank, is_last_token_class, token_cmp, tokens, tokens_after_class_skipping_bytes};
 ghost use Rattle.version_core.specs.Matching.{fits};
 ghost use Rattle.version_core.specs.Reading.{bytes_left, token_view, tokens_left, unread_len};
@@ -66,8 +66,8 @@ impl Class {
     }
 
     /// Whether a suffix or a hash may follow a token of this class.
-    pub fn is_before_hash(self) -> bool
-        ensures { result ≡ is_before_hash self }
+    pub fn is_allowed_before_suffix_or_hash(self) -> bool
+        ensures { result ≡ is_allowed_before_suffix_or_hash self }
     {
         match self {
             Class::Letter | Class::SuffixNumber => true,
@@ -76,12 +76,12 @@ impl Class {
     }
 
     /// Whether a revision may follow a token of this class.
-    pub fn is_before_revision(self) -> bool
-        ensures { result ≡ is_before_revision self }
+    pub fn is_allowed_before_revision(self) -> bool
+        ensures { result ≡ is_allowed_before_revision self }
     {
         match self {
             Class::Hash => true,
-            class => class.is_before_hash(),
+            class => class.is_allowed_before_suffix_or_hash(),
         }
     }
 }

@@ -16,7 +16,7 @@ use Rattle.words_core.specs.declared.options.Meaning.TheVariants.{Flag as Plain}
 use Rattle.words_core.specs.declared.reading.AppletSite.{AppletSite}
 use Rattle.words_core.specs.declared.reading.OptionState.{OptionState}
 use Rattle.words_core.specs.declared.reading.Start.{Start}
-use Rattle.words_core.specs.Grammar.{applet_site, spelled_command_from_start, spelled_command, command_from_reading_parts, flags_with_early_options, option_state_at_start, is_double_dash, is_option, start_of_command_line, operands_of, option_reading, reading_after_applet, words_reading_from_parts, applet_site_of_word, applet_site_after_double_dash, applet_site_from_parts, start_from_parts, start_after_site, start_with_early_flags, command_of_reading, flags_with_meaning, flags_with_option_word, flags_with_option}
+use Rattle.words_core.specs.Grammar.{applet_site, spelled_command_by_start, spelled_command, command_from_end_place_and_reading, flags_with_early_options, option_state_at_start, is_double_dash, is_option, start_of_command_line, words_as_operands_from_place, reading_of_words_from_place, reading_of_rest_of_command_words, words_reading_from_parts, applet_site_of_word, applet_site_after_double_dash, applet_site_from_parts, start_from_parts, start_by_applet_site, start_with_early_flags, command_of_reading_with_end_place, flags_with_meaning, flags_with_option_word, flags_with_option}
 use Rattle.words_core.specs.Kinds.{can_info_kind_follow}
 use Rattle.words_core.specs.Options.{OptionSpec, applets, common_options, early_option_words, is_early_option_word, option_of_word, options_of}
 use Rattle.words_core.specs.Stuck.{is_stuck_by, are_options_of}
@@ -127,7 +127,7 @@ one_good state place end = judged_good Del (words_reading_from_parts state (oper
 module _ (applet : Applet) (named : List ℕ) (operands : List (List ℕ))
     (here : (place : ℕ) → applet_site place (named ∷ operands) ≡ Ok (applet_site_from_parts false place applet))
     (after_end : (place : ℕ) → applet_site_after_double_dash place (named ∷ operands) ≡ Ok (applet_site_from_parts true place applet))
-    (texts : AreTexts operands) (good : (state : OptionState) (place : ℕ) → IsJudgedGood applet (words_reading_from_parts state (operands_of place operands) None)) where
+    (texts : AreTexts operands) (good : (state : OptionState) (place : ℕ) → IsJudgedGood applet (words_reading_from_parts state (words_as_operands_from_place place operands) None)) where
   abbrev more : List (List ℕ)
   more = named ∷ operands
 
@@ -156,12 +156,12 @@ module _ (applet : Applet) (named : List ℕ) (operands : List (List ℕ))
         ] refl
       ] refl
 
-  from_named : (start : Start) (words : List (List ℕ)) → start.applet ≡ applet → start.read ≡ 1 + length words → reading_after_applet start (words ++ more) ≡ words_reading_from_parts (option_state_at_start start.flags) (operands_of (start.read + 1) operands) None
-  unfolding reading_after_applet
+  from_named : (start : Start) (words : List (List ℕ)) → start.applet ≡ applet → start.read ≡ 1 + length words → reading_of_rest_of_command_words start (words ++ more) ≡ words_reading_from_parts (option_state_at_start start.flags) (words_as_operands_from_place (start.read + 1) operands) None
+  unfolding reading_of_rest_of_command_words
   from_named start words v r =
-      subst (λ left. (if start.ended then words_reading_from_parts (option_state_at_start start.flags) (operands_of (start.read + 1) left) None else option_reading (options_of start.applet) (option_state_at_start start.flags) (start.read + 1) left) ≡ words_reading_from_parts (option_state_at_start start.flags) (operands_of (start.read + 1) operands) None)
+      subst (λ left. (if start.ended then words_reading_from_parts (option_state_at_start start.flags) (words_as_operands_from_place (start.read + 1) left) None else reading_of_words_from_place (options_of start.applet) (option_state_at_start start.flags) (start.read + 1) left) ≡ words_reading_from_parts (option_state_at_start start.flags) (words_as_operands_from_place (start.read + 1) operands) None)
       (sym (ap (λ k. drop k (words ++ more)) r ∙ named_after words named operands))
-      (elim start.ended as (λ b. (if b then words_reading_from_parts (option_state_at_start start.flags) (operands_of (start.read + 1) operands) None else option_reading (options_of start.applet) (option_state_at_start start.flags) (start.read + 1) operands) ≡ words_reading_from_parts (option_state_at_start start.flags) (operands_of (start.read + 1) operands) None) [
+      (elim start.ended as (λ b. (if b then words_reading_from_parts (option_state_at_start start.flags) (words_as_operands_from_place (start.read + 1) operands) None else reading_of_words_from_place (options_of start.applet) (option_state_at_start start.flags) (start.read + 1) operands) ≡ words_reading_from_parts (option_state_at_start start.flags) (words_as_operands_from_place (start.read + 1) operands) None) [
         | true ↦ refl
         | false ↦ texts (options_of start.applet) (option_state_at_start start.flags) (start.read + 1) refl
       ])
@@ -176,15 +176,15 @@ module _ (applet : Applet) (named : List ℕ) (operands : List (List ℕ))
       let found = sought 1 words h in
       let site : AppletSite = applet_site_from_parts found.0 (1 + length words) applet in
       let start : Start = start_from_parts site flags.0 in
-      let reading = words_reading_from_parts (option_state_at_start flags.0) (operands_of (1 + length words + 1) operands) None in
+      let reading = words_reading_from_parts (option_state_at_start flags.0) (words_as_operands_from_place (1 + length words + 1) operands) None in
       let before : 1 + length words - 1 ≡ length words = omega arith in
       let early : flags_with_early_options (options_of applet) no_flags 1 (take (1 + length words - 1) (words ++ more)) ≡ Ok flags.0 =
       ap (λ n. flags_with_early_options (options_of applet) no_flags 1 (take n (words ++ more))) before
       ∙ (ap (flags_with_early_options (options_of applet) no_flags 1) (take_stays (length words) words more (omega arith) ∙ take_all words) ∙ flags.1) in
-      let is : start_of_command_line (words ++ more) ≡ Ok start = ap (start_after_site (words ++ more)) found.1 ∙ ap (start_with_early_flags site) early in (
+      let is : start_of_command_line (words ++ more) ≡ Ok start = ap (start_by_applet_site (words ++ more)) found.1 ∙ ap (start_with_early_flags site) early in (
         more,
-        command_from_reading_parts (length (words ++ more) + 1) applet reading,
-        ap (spelled_command_from_start (words ++ more)) is ∙ (ap (command_of_reading (length (words ++ more) + 1) applet) (from_named start words refl refl) ∙ good (option_state_at_start flags.0) (1 + length words + 1) (length (words ++ more) + 1)),
+        command_from_end_place_and_reading (length (words ++ more) + 1) applet reading,
+        ap (spelled_command_by_start (words ++ more)) is ∙ (ap (command_of_reading_with_end_place (length (words ++ more) + 1) applet) (from_named start words refl refl) ∙ good (option_state_at_start flags.0) (1 + length words + 1) (length (words ++ more) + 1)),
       )
 
 add_here : (place : ℕ) → applet_site place (codes "add" ∷ []) ≡ Ok (applet_site_from_parts false place Add)
@@ -213,7 +213,7 @@ applet_completed words h k =
 -- whether words can become no line: no applet has all the options before it, or they are stuck behind it
 abbrev pub line_stuck_by : List (List ℕ) → Result AppletSite ℕ → Bool
 line_stuck_by words (Err place) = not (list_any (are_options_of words) applets)
-line_stuck_by words (Ok site) = is_stuck_by words (start_after_site words (Ok site))
+line_stuck_by words (Ok site) = is_stuck_by words (start_by_applet_site words (Ok site))
 
 unfoldable pub line_stuck : List (List ℕ) → Bool
 line_stuck words = line_stuck_by words (applet_site 1 words)
@@ -223,11 +223,11 @@ unfolding spelled_command line_stuck
 completed_unless words k c =
     elim (applet_site 1 words) as (λ s. applet_site 1 words ≡ s → line_stuck_by words s ≡ false → CanBeCompleted words) [
       | Err at ↦ λ s k.
-          (let none : Err at ≡ Err (length words + 1) = sym (ap (λ r. spelled_command_from_start words (start_after_site words r)) s) ∙ c in
+          (let none : Err at ≡ Err (length words + 1) = sym (ap (λ r. spelled_command_by_start words (start_by_applet_site words r)) s) ∙ c in
           let same : at ≡ length words + 1 = cc in
           let is : at ≡ 1 + length words = omega arith in
           applet_completed words (s ∙ ap Err is) (is_so (list_any (are_options_of words) applets) k))
-      | Ok site ↦ λ s k. by_start site s (start_of_command_line words) refl (ap (λ r. is_stuck_by words (start_after_site words r)) s ∙ k)
+      | Ok site ↦ λ s k. by_start site s (start_of_command_line words) refl (ap (λ r. is_stuck_by words (start_by_applet_site words r)) s ∙ k)
     ] refl k
   where
     is_so : (b : Bool) → not b ≡ false → b ≡ true
@@ -235,9 +235,9 @@ completed_unless words k c =
     is_so false h = sym h
 
     by_start : (site : AppletSite) → applet_site 1 words ≡ Ok site → (r : Result Start ℕ) → start_of_command_line words ≡ r → is_stuck_by words (start_of_command_line words) ≡ false → CanBeCompleted words
-    by_start site found (Ok start) s k = completed_from words start (sym (ap (is_stuck_by words) s) ∙ k) s (sym (ap (spelled_command_from_start words) s) ∙ c)
+    by_start site found (Ok start) s k = completed_from words start (sym (ap (is_stuck_by words) s) ∙ k) s (sym (ap (spelled_command_by_start words) s) ∙ c)
     by_start site found (Err at) s k =
-        let none : Err at ≡ Err (length words + 1) = sym (ap (spelled_command_from_start words) s) ∙ c in
+        let none : Err at ≡ Err (length words + 1) = sym (ap (spelled_command_by_start words) s) ∙ c in
         let same : at ≡ length words + 1 = cc in
         elim (no_start words at s) as (λ _. CanBeCompleted words) [
           | inl e ↦ absurd (let both : Ok site ≡ Err at = sym found ∙ e in cc)

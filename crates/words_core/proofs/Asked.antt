@@ -15,7 +15,7 @@ use Rattle.words_core.specs.declared.next.NextWord.{NextWord}
 use Rattle.words_core.specs.declared.next.NextWord.TheVariants.{OptionOrCommand, Command as CommandAlone, OptionOrOperand, Value as NextValue, Operand as OperandAlone, Nothing}
 use Rattle.words_core.specs.declared.reading.AppletSite.{AppletSite}
 use Rattle.words_core.specs.declared.reading.OptionState.{OptionState}
-use Rattle.words_core.specs.Grammar.{applet_site, attached_value, is_double_dash, is_option, is_option_or_value, next_word_after_command, next_word_after_option, next_word, next_word_after_words, operands_of, option_name, option_reading, or_err_at, or_stop_at_unread_word, words_reading_from_parts, awaited_rule, value_rule_unless_attached, applet_site_of_word, applet_site_after_double_dash, applet_site_from_parts, can_be_option, state_with_meaning, with_operand, with_option_or_value_word, with_word_as_option_or_value}
+use Rattle.words_core.specs.Grammar.{applet_site, attached_value, is_double_dash, is_option, is_option_or_value, next_word_after_command, next_word_after_option, next_word, next_word_after_words, words_as_operands_from_place, option_name, reading_of_words_from_place, or_err_at, or_stop_at_unread_word, words_reading_from_parts, awaited_rule, value_rule_unless_attached, applet_site_of_word, applet_site_after_double_dash, applet_site_from_parts, can_be_option, state_with_meaning, with_operand_in_front, with_option_or_value_word, with_word_as_option_or_value}
 use Rattle.words_core.specs.Options.{OptionSpec, applet_of, applet_of_help_or_version_option, common_options, early_option_words, is_early_option_word, option_of_word, options_of}
 use Rattle.words_core.specs.Stuck.{have_options_ended}
 use Rattle.words_core.proofs.GoneOn.{none_is, not_option}
@@ -247,19 +247,19 @@ next_taken applet state more place word t w = by_rule state.awaiting refl t w
         ∙ ap (next_word_after_option applet) (ap (value_rule_unless_attached (attached_value word)) (rule_at_is options word found is) ∙ says.awaiting)))
 
 -- where a value is awaited, no option can follow
-pub awaited_next : (applet : Applet) (state : OptionState) (place : ℕ) (words : List (List ℕ)) (rule : ValueRule) → (option_reading (options_of applet) state place words).state.awaiting ≡ Some rule → (option_reading (options_of applet) state place words).unread ≡ Some (place + length words) → next_word_after_words (next_word_after_option applet state.awaiting) words ≡ NextValue applet rule
+pub awaited_next : (applet : Applet) (state : OptionState) (place : ℕ) (words : List (List ℕ)) (rule : ValueRule) → (reading_of_words_from_place (options_of applet) state place words).state.awaiting ≡ Some rule → (reading_of_words_from_place (options_of applet) state place words).unread ≡ Some (place + length words) → next_word_after_words (next_word_after_option applet state.awaiting) words ≡ NextValue applet rule
 awaited_next applet state place [] rule a u = ap (next_word_after_option applet) a
 awaited_next applet state place (word ∷ words) rule a u =
     let next : place + length (word ∷ words) ≡ place + 1 + length words = omega arith in
-    elim (is_option_or_value state word) as (λ b. is_option_or_value state word ≡ b → (if b then or_stop_at_unread_word state place (λ m. option_reading (options_of applet) m (place + 1) words) (with_option_or_value_word (options_of applet) state place word) else if is_double_dash word then words_reading_from_parts state (operands_of (place + 1) words) None else with_operand (operand_at place word) (option_reading (options_of applet) state (place + 1) words)).state.awaiting ≡ Some rule → (if b then or_stop_at_unread_word state place (λ m. option_reading (options_of applet) m (place + 1) words) (with_option_or_value_word (options_of applet) state place word) else if is_double_dash word then words_reading_from_parts state (operands_of (place + 1) words) None else with_operand (operand_at place word) (option_reading (options_of applet) state (place + 1) words)).unread ≡ Some (place + length (word ∷ words)) → next_word_after_words (next_word (next_word_after_option applet state.awaiting) word) words ≡ NextValue applet rule) [
-      | true ↦ λ t. elim (with_option_or_value_word (options_of applet) state place word) as (λ w. with_option_or_value_word (options_of applet) state place word ≡ w → (or_stop_at_unread_word state place (λ m. option_reading (options_of applet) m (place + 1) words) w).state.awaiting ≡ Some rule → (or_stop_at_unread_word state place (λ m. option_reading (options_of applet) m (place + 1) words) w).unread ≡ Some (place + length (word ∷ words)) → next_word_after_words (next_word (next_word_after_option applet state.awaiting) word) words ≡ NextValue applet rule) [
+    elim (is_option_or_value state word) as (λ b. is_option_or_value state word ≡ b → (if b then or_stop_at_unread_word state place (λ m. reading_of_words_from_place (options_of applet) m (place + 1) words) (with_option_or_value_word (options_of applet) state place word) else if is_double_dash word then words_reading_from_parts state (words_as_operands_from_place (place + 1) words) None else with_operand_in_front (operand_at place word) (reading_of_words_from_place (options_of applet) state (place + 1) words)).state.awaiting ≡ Some rule → (if b then or_stop_at_unread_word state place (λ m. reading_of_words_from_place (options_of applet) m (place + 1) words) (with_option_or_value_word (options_of applet) state place word) else if is_double_dash word then words_reading_from_parts state (words_as_operands_from_place (place + 1) words) None else with_operand_in_front (operand_at place word) (reading_of_words_from_place (options_of applet) state (place + 1) words)).unread ≡ Some (place + length (word ∷ words)) → next_word_after_words (next_word (next_word_after_option applet state.awaiting) word) words ≡ NextValue applet rule) [
+      | true ↦ λ t. elim (with_option_or_value_word (options_of applet) state place word) as (λ w. with_option_or_value_word (options_of applet) state place word ≡ w → (or_stop_at_unread_word state place (λ m. reading_of_words_from_place (options_of applet) m (place + 1) words) w).state.awaiting ≡ Some rule → (or_stop_at_unread_word state place (λ m. reading_of_words_from_place (options_of applet) m (place + 1) words) w).unread ≡ Some (place + length (word ∷ words)) → next_word_after_words (next_word (next_word_after_option applet state.awaiting) word) words ≡ NextValue applet rule) [
         | None ↦ λ w a (u : Some place ≡ Some (place + length (word ∷ words))). absurd (let same : place ≡ place + length (word ∷ words) = same_Some place (place + length (word ∷ words)) u in omega arith)
         | Some g ↦ λ w a u. ap (λ n. next_word_after_words n words) (next_taken applet state g place word t w) ∙ awaited_next applet g (place + 1) words rule a (u ∙ ap Some next)
       ] refl
       | false ↦ λ t.
           let parts = or_parts (is_some state.awaiting) (is_option word && not (is_double_dash word)) t in
           let none : state.awaiting ≡ None = none_is state.awaiting parts.0 in
-          elim (is_double_dash word) as (λ b. is_double_dash word ≡ b → (if b then words_reading_from_parts state (operands_of (place + 1) words) None else with_operand (operand_at place word) (option_reading (options_of applet) state (place + 1) words)).state.awaiting ≡ Some rule → (if b then words_reading_from_parts state (operands_of (place + 1) words) None else with_operand (operand_at place word) (option_reading (options_of applet) state (place + 1) words)).unread ≡ Some (place + length (word ∷ words)) → next_word_after_words (next_word (next_word_after_option applet state.awaiting) word) words ≡ NextValue applet rule) [
+          elim (is_double_dash word) as (λ b. is_double_dash word ≡ b → (if b then words_reading_from_parts state (words_as_operands_from_place (place + 1) words) None else with_operand_in_front (operand_at place word) (reading_of_words_from_place (options_of applet) state (place + 1) words)).state.awaiting ≡ Some rule → (if b then words_reading_from_parts state (words_as_operands_from_place (place + 1) words) None else with_operand_in_front (operand_at place word) (reading_of_words_from_place (options_of applet) state (place + 1) words)).unread ≡ Some (place + length (word ∷ words)) → next_word_after_words (next_word (next_word_after_option applet state.awaiting) word) words ≡ NextValue applet rule) [
             | true ↦ λ e a u. absurd (none-some (place + length (word ∷ words)) u)
             | false ↦ λ e a u.
                 ap (λ o. next_word_after_words (next_word (next_word_after_option applet o) word) words) none
@@ -270,7 +270,7 @@ awaited_next applet state place (word ∷ words) rule a u =
     ] refl a u
 
 -- a word that asks, where a value is not awaited, cannot be read
-pub asks_now : (applet : Applet) (state : OptionState) (place : ℕ) (word : List ℕ) (after : List (List ℕ)) → HasNoMeaning word → state.awaiting ≡ None → option_reading (options_of applet) state place (word ∷ after) ≡ words_reading_from_parts state [] (Some place)
+pub asks_now : (applet : Applet) (state : OptionState) (place : ℕ) (word : List ℕ) (after : List (List ℕ)) → HasNoMeaning word → state.awaiting ≡ None → reading_of_words_from_place (options_of applet) state place (word ∷ after) ≡ words_reading_from_parts state [] (Some place)
 asks_now applet state place word after m a =
     step_taken (options_of applet) state place word after None (option_taken state word a m.end m.option)
     (ap (with_word_as_option_or_value (options_of applet) state place word) a ∙ rw (m.spelled applet) refl)

@@ -15,7 +15,7 @@ use Rattle.command_core.specs.declared.operands.Operand.{Operand}
 use Rattle.command_core.specs.Operands.{operand_at}
 use Rattle.words_core.specs.declared.reading.AppletSite.{AppletSite}
 use Rattle.words_core.specs.Asked.{IsHelpOrVersionAskedBy}
-use Rattle.words_core.specs.Grammar.{applet_site, help_or_version_option_at, help_or_version_command, help_or_version_or_err, spelled_command_from_start, command_of, spelled_command, start_of_command_line, next_word_of_command_line, spelled_command_or_help_or_version, can_be_option, help_topic_operands}
+use Rattle.words_core.specs.Grammar.{applet_site, help_or_version_option_at, help_or_version_command, help_or_version_or_err, spelled_command_by_start, command_of, spelled_command, start_of_command_line, next_word_of_command_line, spelled_command_or_help_or_version, can_be_option, help_topic_operands}
 use Rattle.words_core.specs.Kinds.{can_info_kind_follow}
 use Rattle.words_core.specs.Lines.{AreWordsOfCommand}
 use Rattle.words_core.specs.Options.{applet_word, applet_of_help_or_version_option}
@@ -233,10 +233,10 @@ asked_start words place applet e a n =
     first = asked_first words place applet e parts
 
     no_applet : (at : ℕ) → start_of_command_line before ≡ Err at → (applet_site 1 before ≡ Err at) ⊎ IsForeign before at → is_ok (start_of_command_line words) ≡ true
-    no_applet at s (inr f) = absurd (let near = (foreign_between before at f).1 in let far = first.fine at (ap (spelled_command_from_start before) s) in omega (arith, near, far))
+    no_applet at s (inr f) = absurd (let near = (foreign_between before at f).1 in let far = first.fine at (ap (spelled_command_by_start before) s) in omega (arith, near, far))
     no_applet at s (inl none) =
-        let far = first.fine at (ap (spelled_command_from_start before) s) in
-        let between = usage_between before at (ap (spelled_command_from_start before) s) in
+        let far = first.fine at (ap (spelled_command_by_start before) s) in
+        let between = usage_between before at (ap (spelled_command_by_start before) s) in
         let is : at ≡ 1 + length before = omega (arith, far, between.1) in
         let site : applet_site 1 words ≡ Err (1 + length before) = ap (applet_site 1) parts.whole ∙ asks_first 1 before parts.after parts.word (asking parts.word applet parts.asks) parts.option (none ∙ ap Err is) in
         absurd (false≢true (sym (ap is_ok site) ∙ n))

@@ -15,7 +15,7 @@ use Rattle.command_core.specs.Operands.{first_refused_operand}
 use Rattle.words_core.specs.declared.next.NextWord.TheVariants.{OptionOrOperand, Operand as OperandAlone, Value as NextValue}
 use Rattle.words_core.specs.declared.reading.Reading.{Reading}
 use Rattle.words_core.specs.declared.reading.Start.{Start}
-use Rattle.words_core.specs.Grammar.{help_or_version_option_at, spelled_command_from_start, option_state_at_start, spelled_command, start_of_command_line, next_word_of_command_line, next_word_after_words, operands_of, option_reading, reading_after_applet, words_reading_from_parts, place_of_refused_operand, start_after_site, can_be_option}
+use Rattle.words_core.specs.Grammar.{help_or_version_option_at, spelled_command_by_start, option_state_at_start, spelled_command, start_of_command_line, next_word_of_command_line, next_word_after_words, words_as_operands_from_place, reading_of_words_from_place, reading_of_rest_of_command_words, words_reading_from_parts, place_of_refused_operand, start_by_applet_site, can_be_option}
 use Rattle.words_core.specs.Options.{OptionSpec, applet_of_help_or_version_option, options_of}
 use Rattle.words_core.specs.Stuck.{have_options_ended}
 use Rattle.words_core.proofs.Asked.{HasNoMeaning, asks_first, asks_now, awaited_next, ended_alone, found_next, next_at, next_behind, operand_stays}
@@ -54,12 +54,12 @@ not_ended words start s t =
     ] refl
 
 -- where a value is awaited behind the words, no option can follow
-pub awaited_after : (words : List (List ℕ)) (start : Start) (rule : ValueRule) → start.read ≤ length words → (reading_after_applet start words).state.awaiting ≡ Some rule → (reading_after_applet start words).unread ≡ Some (length words + 1) → next_word_after_words (if start.ended then OperandAlone start.applet else OptionOrOperand start.applet) (drop start.read words) ≡ NextValue start.applet rule
-unfolding reading_after_applet
+pub awaited_after : (words : List (List ℕ)) (start : Start) (rule : ValueRule) → start.read ≤ length words → (reading_of_rest_of_command_words start words).state.awaiting ≡ Some rule → (reading_of_rest_of_command_words start words).unread ≡ Some (length words + 1) → next_word_after_words (if start.ended then OperandAlone start.applet else OptionOrOperand start.applet) (drop start.read words) ≡ NextValue start.applet rule
+unfolding reading_of_rest_of_command_words
 awaited_after words start rule l a u =
     let left = drop start.read words in
     let ends : length words + 1 ≡ start.read + 1 + length (drop start.read words) = omega (arith, length-drop start.read words) in
-    elim start.ended as (λ b. (if b then words_reading_from_parts (option_state_at_start start.flags) (operands_of (start.read + 1) left) None else option_reading (options_of start.applet) (option_state_at_start start.flags) (start.read + 1) left).state.awaiting ≡ Some rule → (if b then words_reading_from_parts (option_state_at_start start.flags) (operands_of (start.read + 1) left) None else option_reading (options_of start.applet) (option_state_at_start start.flags) (start.read + 1) left).unread ≡ Some (length words + 1) → next_word_after_words (if b then OperandAlone start.applet else OptionOrOperand start.applet) (drop start.read words) ≡ NextValue start.applet rule) [
+    elim start.ended as (λ b. (if b then words_reading_from_parts (option_state_at_start start.flags) (words_as_operands_from_place (start.read + 1) left) None else reading_of_words_from_place (options_of start.applet) (option_state_at_start start.flags) (start.read + 1) left).state.awaiting ≡ Some rule → (if b then words_reading_from_parts (option_state_at_start start.flags) (words_as_operands_from_place (start.read + 1) left) None else reading_of_words_from_place (options_of start.applet) (option_state_at_start start.flags) (start.read + 1) left).unread ≡ Some (length words + 1) → next_word_after_words (if b then OperandAlone start.applet else OptionOrOperand start.applet) (drop start.read words) ≡ NextValue start.applet rule) [
       | true ↦ λ a u. absurd (none-some (length words + 1) u)
       | false ↦ λ a u. awaited_next start.applet (option_state_at_start start.flags) (start.read + 1) left rule a (u ∙ ap Some ends)
     ] a u
@@ -88,7 +88,7 @@ first_near low end (Some rule) operands at p l =
       | Some q ↦ λ f. (q, refl, (refused_between rule 0 low end q operands p f).1)
     ] refl
 
-asked_in : (words after : List (List ℕ)) (start : Start) (word : List ℕ) → HasNoMeaning word → start_of_command_line words ≡ Ok start → can_be_option (next_word_of_command_line words) ≡ true → IsAskedIn (length words + 1) start.applet (reading_after_applet start words) (reading_after_applet start (words ++ (word ∷ after)))
+asked_in : (words after : List (List ℕ)) (start : Start) (word : List ℕ) → HasNoMeaning word → start_of_command_line words ≡ Ok start → can_be_option (next_word_of_command_line words) ≡ true → IsAskedIn (length words + 1) start.applet (reading_of_rest_of_command_words start words) (reading_of_rest_of_command_words start (words ++ (word ∷ after)))
 asked_in words after start word m s t = by_going (from_going start words low)
   where
     end : ℕ
@@ -98,7 +98,7 @@ asked_in words after start word m s t = by_going (from_going start words low)
     options = options_of start.applet
 
     reading : Reading
-    reading = reading_after_applet start words
+    reading = reading_of_rest_of_command_words start words
 
     ended : Bool
     ended = start.ended || have_options_ended options None (drop start.read words)
@@ -112,7 +112,7 @@ asked_in words after start word m s t = by_going (from_going start words low)
     placed : AllBetween (start.read + 1) end reading.operands
     placed = (from_placed start words low).operands
 
-    by_awaiting : (awaiting : Option ValueRule) → reading.state.awaiting ≡ awaiting → reading.unread ≡ option_map (λ (rule : ValueRule). end) awaiting → ((more : List (List ℕ)) → reading_after_applet start (words ++ more) ≡ behind reading.operands (option_reading options reading.state end more)) → IsAskedIn end start.applet reading (reading_after_applet start (words ++ (word ∷ after)))
+    by_awaiting : (awaiting : Option ValueRule) → reading.state.awaiting ≡ awaiting → reading.unread ≡ option_map (λ (rule : ValueRule). end) awaiting → ((more : List (List ℕ)) → reading_of_rest_of_command_words start (words ++ more) ≡ behind reading.operands (reading_of_words_from_place options reading.state end more)) → IsAskedIn end start.applet reading (reading_of_rest_of_command_words start (words ++ (word ∷ after)))
     by_awaiting None a u on = inr (
       u,
       on (word ∷ after)
@@ -121,7 +121,7 @@ asked_in words after start word m s t = by_going (from_going start words low)
     )
     by_awaiting (Some rule) a u on = absurd (false≢true (sym (ap can_be_option (next_of_start words start s ∙ awaited_after words start rule low a u)) ∙ t))
 
-    by_going : IsRemovedPackage options end ended reading (λ more. reading_after_applet start (words ++ more)) → IsAskedIn end start.applet reading (reading_after_applet start (words ++ (word ∷ after)))
+    by_going : IsRemovedPackage options end ended reading (λ more. reading_of_rest_of_command_words start (words ++ more)) → IsAskedIn end start.applet reading (reading_of_rest_of_command_words start (words ++ (word ∷ after)))
     by_going (inl stopped) =
         let bad = first_near (start.read + 1) end (operand_rule start.applet reading.state.flags) reading.operands stopped.0 placed stopped.2 in
         inl ((bad.0, ap (option_or (place_of_refused_operand (operand_rule start.applet reading.state.flags) reading.operands)) stopped.1 ∙ bad.1, bad.2), stopped.3 (word ∷ after))
@@ -155,19 +155,19 @@ asked_after before after word m t =
     all = before ++ (word ∷ after)
 
     fails : (at : ℕ) → start_of_command_line before ≡ Err at → spelled_command before ≡ Err at
-    fails at s = ap (spelled_command_from_start before) s
+    fails at s = ap (spelled_command_by_start before) s
 
     no_applet : (at : ℕ) → start_of_command_line before ≡ Err at → (at < length before + 1) ⊎ (length before + 1 ≤ at) → IsAskedAfter before all
     no_applet at s (inl less) =
         let low : at ≤ length before = omega (arith, less) in
-        inl ((at, fails at s, low), ap (spelled_command_from_start all) (no_start_stays before (word ∷ after) at s low))
+        inl ((at, fails at s, low), ap (spelled_command_by_start all) (no_start_stays before (word ∷ after) at s low))
     no_applet at s (inr more) =
         let between = usage_between before at (fails at s) in
         let is : at ≡ 1 + length before = omega (arith, between.1, more) in
         elim (no_start before at s) as (λ _. IsAskedAfter before all) [
           | inl none ↦ inr (
             λ place e. (let same : Err at ≡ Err place = sym (fails at s) ∙ e in let here : at ≡ place = cc in omega (arith, is)),
-            ap (λ r. spelled_command_from_start all (start_after_site all r)) (asks_first 1 before after word m t (none ∙ ap Err is)) ∙ (let same : 1 + length before ≡ length before + 1 = omega arith in ap Err same),
+            ap (λ r. spelled_command_by_start all (start_by_applet_site all r)) (asks_first 1 before after word m t (none ∙ ap Err is)) ∙ (let same : 1 + length before ≡ length before + 1 = omega arith in ap Err same),
           )
           | inr f ↦ absurd (let far = foreign_between before at f in omega (arith, far.1, more))
         ]
@@ -176,43 +176,43 @@ asked_after before after word m t =
     refused_near None low end at operands p e = absurd (none-some at e)
     refused_near (Some rule) low end at operands p e = (refused_between rule 0 low end at operands p e).1
 
-    by_operands : (start : Start) → start_of_command_line before ≡ Ok start → (reading_after_applet start before).unread ≡ None → reading_after_applet start all ≡ words_reading_from_parts (reading_after_applet start before).state (reading_after_applet start before).operands (Some (length before + 1)) → (o : Option ℕ) → place_of_refused_operand (operand_rule start.applet (reading_after_applet start before).state.flags) (reading_after_applet start before).operands ≡ o → IsAskedAfter before all
+    by_operands : (start : Start) → start_of_command_line before ≡ Ok start → (reading_of_rest_of_command_words start before).unread ≡ None → reading_of_rest_of_command_words start all ≡ words_reading_from_parts (reading_of_rest_of_command_words start before).state (reading_of_rest_of_command_words start before).operands (Some (length before + 1)) → (o : Option ℕ) → place_of_refused_operand (operand_rule start.applet (reading_of_rest_of_command_words start before).state.flags) (reading_of_rest_of_command_words start before).operands ≡ o → IsAskedAfter before all
     by_operands start s u l None r =
         let known : IsPlain start (1 + length before) = start_known before start s in
-        let longer : option_or (place_of_refused_operand (operand_rule start.applet (reading_after_applet start all).state.flags) (reading_after_applet start all).operands) (reading_after_applet start all).unread ≡ Some (length before + 1) =
+        let longer : option_or (place_of_refused_operand (operand_rule start.applet (reading_of_rest_of_command_words start all).state.flags) (reading_of_rest_of_command_words start all).operands) (reading_of_rest_of_command_words start all).unread ≡ Some (length before + 1) =
         ap (λ (x : Reading). option_or (place_of_refused_operand (operand_rule start.applet x.state.flags) x.operands) x.unread) l ∙ ap (λ o. option_or o (Some (length before + 1))) r in
         inr (
-          λ place e. far place (judged_at start.applet (reading_after_applet start before) (length before + 1) place (sym (ap (spelled_command_from_start before) s) ∙ e)),
-          ap (spelled_command_from_start all) (start_stays before (word ∷ after) start s) ∙ judged_bad start.applet (reading_after_applet start all) (length all + 1) (length before + 1) longer,
+          λ place e. far place (judged_at start.applet (reading_of_rest_of_command_words start before) (length before + 1) place (sym (ap (spelled_command_by_start before) s) ∙ e)),
+          ap (spelled_command_by_start all) (start_stays before (word ∷ after) start s) ∙ judged_bad start.applet (reading_of_rest_of_command_words start all) (length all + 1) (length before + 1) longer,
         )
       where
-        nothing : option_or (place_of_refused_operand (operand_rule start.applet (reading_after_applet start before).state.flags) (reading_after_applet start before).operands) (reading_after_applet start before).unread ≡ None
-        nothing = ap (λ o. option_or o (reading_after_applet start before).unread) r ∙ u
+        nothing : option_or (place_of_refused_operand (operand_rule start.applet (reading_of_rest_of_command_words start before).state.flags) (reading_of_rest_of_command_words start before).operands) (reading_of_rest_of_command_words start before).unread ≡ None
+        nothing = ap (λ o. option_or o (reading_of_rest_of_command_words start before).unread) r ∙ u
 
-        far : (place : ℕ) → IsJudgedAt (length before + 1) (option_or (place_of_refused_operand (operand_rule start.applet (reading_after_applet start before).state.flags) (reading_after_applet start before).operands) (reading_after_applet start before).unread) place → length before < place
+        far : (place : ℕ) → IsJudgedAt (length before + 1) (option_or (place_of_refused_operand (operand_rule start.applet (reading_of_rest_of_command_words start before).state.flags) (reading_of_rest_of_command_words start before).operands) (reading_of_rest_of_command_words start before).unread) place → length before < place
         far place (inl here) = absurd (none-some place (sym nothing ∙ here))
         far place (inr end) = omega (arith, end.1)
     by_operands start s u l (Some at) r =
         let known : IsPlain start (1 + length before) = start_known before start s in
-        let placed : AllBetween (start.read + 1) (length before + 1) (reading_after_applet start before).operands = (from_placed start before (omega (arith, known.read))).operands in
-        let near : at < length before + 1 = refused_near (operand_rule start.applet (reading_after_applet start before).state.flags) (start.read + 1) (length before + 1) at (reading_after_applet start before).operands placed r in
-        let longer : option_or (place_of_refused_operand (operand_rule start.applet (reading_after_applet start all).state.flags) (reading_after_applet start all).operands) (reading_after_applet start all).unread ≡ Some at =
+        let placed : AllBetween (start.read + 1) (length before + 1) (reading_of_rest_of_command_words start before).operands = (from_placed start before (omega (arith, known.read))).operands in
+        let near : at < length before + 1 = refused_near (operand_rule start.applet (reading_of_rest_of_command_words start before).state.flags) (start.read + 1) (length before + 1) at (reading_of_rest_of_command_words start before).operands placed r in
+        let longer : option_or (place_of_refused_operand (operand_rule start.applet (reading_of_rest_of_command_words start all).state.flags) (reading_of_rest_of_command_words start all).operands) (reading_of_rest_of_command_words start all).unread ≡ Some at =
         ap (λ (x : Reading). option_or (place_of_refused_operand (operand_rule start.applet x.state.flags) x.operands) x.unread) l ∙ ap (λ o. option_or o (Some (length before + 1))) r in
         inl (
-          (at, ap (spelled_command_from_start before) s ∙ judged_bad start.applet (reading_after_applet start before) (length before + 1) at (ap (λ o. option_or o (reading_after_applet start before).unread) r), omega (arith, near)),
-          ap (spelled_command_from_start all) (start_stays before (word ∷ after) start s) ∙ judged_bad start.applet (reading_after_applet start all) (length all + 1) at longer,
+          (at, ap (spelled_command_by_start before) s ∙ judged_bad start.applet (reading_of_rest_of_command_words start before) (length before + 1) at (ap (λ o. option_or o (reading_of_rest_of_command_words start before).unread) r), omega (arith, near)),
+          ap (spelled_command_by_start all) (start_stays before (word ∷ after) start s) ∙ judged_bad start.applet (reading_of_rest_of_command_words start all) (length all + 1) at longer,
         )
 
-    by_reading : (start : Start) → start_of_command_line before ≡ Ok start → IsAskedIn (length before + 1) start.applet (reading_after_applet start before) (reading_after_applet start all) → IsAskedAfter before all
+    by_reading : (start : Start) → start_of_command_line before ≡ Ok start → IsAskedIn (length before + 1) start.applet (reading_of_rest_of_command_words start before) (reading_of_rest_of_command_words start all) → IsAskedAfter before all
     by_reading start s (inl same) =
         let bad = same.0 in
-        let longer : option_or (place_of_refused_operand (operand_rule start.applet (reading_after_applet start all).state.flags) (reading_after_applet start all).operands) (reading_after_applet start all).unread ≡ Some bad.0 =
+        let longer : option_or (place_of_refused_operand (operand_rule start.applet (reading_of_rest_of_command_words start all).state.flags) (reading_of_rest_of_command_words start all).operands) (reading_of_rest_of_command_words start all).unread ≡ Some bad.0 =
         ap (λ (r : Reading). option_or (place_of_refused_operand (operand_rule start.applet r.state.flags) r.operands) r.unread) same.1 ∙ bad.1 in
         inl (
-          (bad.0, ap (spelled_command_from_start before) s ∙ judged_bad start.applet (reading_after_applet start before) (length before + 1) bad.0 bad.1, omega (arith, bad.2)),
-          ap (spelled_command_from_start all) (start_stays before (word ∷ after) start s) ∙ judged_bad start.applet (reading_after_applet start all) (length all + 1) bad.0 longer,
+          (bad.0, ap (spelled_command_by_start before) s ∙ judged_bad start.applet (reading_of_rest_of_command_words start before) (length before + 1) bad.0 bad.1, omega (arith, bad.2)),
+          ap (spelled_command_by_start all) (start_stays before (word ∷ after) start s) ∙ judged_bad start.applet (reading_of_rest_of_command_words start all) (length all + 1) bad.0 longer,
         )
-    by_reading start s (inr free) = by_operands start s free.0 free.1 (place_of_refused_operand (operand_rule start.applet (reading_after_applet start before).state.flags) (reading_after_applet start before).operands) refl
+    by_reading start s (inr free) = by_operands start s free.0 free.1 (place_of_refused_operand (operand_rule start.applet (reading_of_rest_of_command_words start before).state.flags) (reading_of_rest_of_command_words start before).operands) refl
 
 -- ---- where a word asks
 

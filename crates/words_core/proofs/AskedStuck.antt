@@ -16,9 +16,9 @@ use Rattle.words_core.specs.declared.next.NextWord.TheVariants.{OptionOrCommand,
 use Rattle.words_core.specs.declared.reading.AppletSite.{AppletSite}
 use Rattle.words_core.specs.declared.reading.Reading.{Reading}
 use Rattle.words_core.specs.declared.reading.Start.{Start}
-use Rattle.words_core.specs.Grammar.{applet_site, help_or_version_option_at, help_or_version_command, spelled_command_from_start, command_of, is_double_dash, is_option, spelled_command, start_of_command_line, next_word_of_command_line, next_word_after_words, option_reading, reading_after_applet, words_reading_from_parts, place_of_refused_operand, applet_site_after_double_dash, start_after_site, can_be_option}
+use Rattle.words_core.specs.Grammar.{applet_site, help_or_version_option_at, help_or_version_command, spelled_command_by_start, command_of, is_double_dash, is_option, spelled_command, start_of_command_line, next_word_of_command_line, next_word_after_words, reading_of_words_from_place, reading_of_rest_of_command_words, words_reading_from_parts, place_of_refused_operand, applet_site_after_double_dash, start_by_applet_site, can_be_option}
 use Rattle.words_core.specs.Options.{OptionSpec, applets, is_early_option_word, options_of}
-use Rattle.words_core.specs.Stuck.{are_words_without_completion, are_stuck_by, awaits_impossible_value, have_options_ended, is_stuck_by, is_required_option_missing, are_options_of}
+use Rattle.words_core.specs.Stuck.{is_command_line_stuck, are_stuck_by, awaits_impossible_value, have_options_ended, is_stuck_by, is_required_option_missing, are_options_of}
 use Rattle.words_core.proofs.AppletCompleted.{line_stuck, line_stuck_by, usage_is_first}
 use Rattle.words_core.proofs.Asked.{alone_stays, asking, next_append, next_early, next_end, operand_stays}
 use Rattle.words_core.proofs.AskedLaws.{asked_command_is, asked_made, asked_stays, line_is, offends_unasked, same_fault, unasked_is}
@@ -78,8 +78,8 @@ asks_help words e n = (
   }),
 )
 
-pub completed_words : (words : List (List ℕ)) (place : ℕ) → not (are_words_without_completion (take (place - 1) words)) ≡ true → command_of words ≡ Err place → CanBeCommand (take (place - 1) words)
-unfolding are_words_without_completion line_stuck spelled_command
+pub completed_words : (words : List (List ℕ)) (place : ℕ) → not (is_command_line_stuck (take (place - 1) words)) ≡ true → command_of words ≡ Err place → CanBeCommand (take (place - 1) words)
+unfolding is_command_line_stuck line_stuck spelled_command
 completed_words words place n c =
     elim (command_of before) as (λ r. command_of before ≡ r → not (not (is_ok r) && are_stuck_by before (applet_site 1 before)) ≡ true → CanBeCommand before) [
       | Ok command ↦ λ e n. ([], command, ap command_of (append-nil before) ∙ e)
@@ -104,12 +104,12 @@ completed_words words place n c =
     -- no applet is found before the end
     no_applet : (at : ℕ) → applet_site 1 before ≡ Err at → (at < 1 + length before) ⊎ (1 + length before ≤ at) → list_any is_double_dash before ≡ false → CanBeCommand before
     no_applet at s (inl less) f =
-        absurd (let same : Err at ≡ Err place = sym (ap (spelled_command_from_start (before ++ drop (place - 1) words)) (no_start_stays before (drop (place - 1) words) at (ap (start_after_site before) s) (omega (arith, less)))) ∙ whole in let is : at ≡ place = cc in omega (arith, less, size, bounds.0))
+        absurd (let same : Err at ≡ Err place = sym (ap (spelled_command_by_start (before ++ drop (place - 1) words)) (no_start_stays before (drop (place - 1) words) at (ap (start_by_applet_site before) s) (omega (arith, less)))) ∙ whole in let is : at ≡ place = cc in omega (arith, less, size, bounds.0))
     no_applet at s (inr more) f =
         let between : IsBetween 1 (length before + 2) at = subst (λ r. IsSearched 1 (length before + 2) r) s (site_searched 1 1 (length before + 2) before (omega arith) (omega arith)) in
         let is : at ≡ 1 + length before = omega (arith, between.1, more) in
         let end : 1 + length before ≡ length before + 1 = omega arith in
-        asks_help before (ap (λ r. spelled_command_from_start before (start_after_site before r)) s ∙ ap Err (is ∙ end))
+        asks_help before (ap (λ r. spelled_command_by_start before (start_by_applet_site before r)) s ∙ ap Err (is ∙ end))
         (first_next 1 before (s ∙ ap Err is) ∙ ap (λ b. if b then CommandAlone else OptionOrCommand) f)
 
     by_site : (r : Result AppletSite ℕ) → applet_site 1 before ≡ r → line_stuck_by before r ≡ true → are_stuck_by before r ≡ false → CanBeCommand before
@@ -158,7 +158,7 @@ module _ (words more : List (List ℕ)) (place : ℕ) (applet : Applet) (offends
   unfolding spelled_command
   no_applet at s e l (inl less) =
       let low = (usage_between (words ++ more) place offends).0 in
-      let same : Err at ≡ Err place = sym (ap (spelled_command_from_start (words ++ more)) (no_start_stays words more at (ap (start_after_site words) s) (omega (arith, less)))) ∙ offends in
+      let same : Err at ≡ Err place = sym (ap (spelled_command_by_start (words ++ more)) (no_start_stays words more at (ap (start_by_applet_site words) s) (omega (arith, less)))) ∙ offends in
       let is : at ≡ place = cc in omega (arith, less, l, low)
   no_applet at s e l (inr high) =
       let between : IsBetween 1 (length words + 2) at = subst (λ r. IsSearched 1 (length words + 2) r) s (site_searched 1 1 (length words + 2) words (omega arith) (omega arith)) in
@@ -170,12 +170,12 @@ module _ (words more : List (List ℕ)) (place : ℕ) (applet : Applet) (offends
   ended start s e l = false≢true (sym (ap (λ n. can_be_option (next_word_after_words n later)) (ended_next words start s e) ∙ ap can_be_option (operand_stays start.applet later)) ∙ option l)
 
   -- what was read of all words offends at the place
-  judged : (start : Start) (at : ℕ) → start_of_command_line words ≡ Ok start → option_or (place_of_refused_operand (operand_rule start.applet (reading_after_applet start (words ++ more)).state.flags) (reading_after_applet start (words ++ more)).operands) (reading_after_applet start (words ++ more)).unread ≡ Some at → at ≡ place
+  judged : (start : Start) (at : ℕ) → start_of_command_line words ≡ Ok start → option_or (place_of_refused_operand (operand_rule start.applet (reading_of_rest_of_command_words start (words ++ more)).state.flags) (reading_of_rest_of_command_words start (words ++ more)).operands) (reading_of_rest_of_command_words start (words ++ more)).unread ≡ Some at → at ≡ place
   unfolding spelled_command
   judged start at s first =
-      let same : Err at ≡ Err place = sym (ap (spelled_command_from_start (words ++ more)) (start_stays words more start s) ∙ judged_bad start.applet (reading_after_applet start (words ++ more)) (length (words ++ more) + 1) at first) ∙ offends in cc
+      let same : Err at ≡ Err place = sym (ap (spelled_command_by_start (words ++ more)) (start_stays words more start s) ∙ judged_bad start.applet (reading_of_rest_of_command_words start (words ++ more)) (length (words ++ more) + 1) at first) ∙ offends in cc
 
-  awaits : (start : Start) → start_of_command_line words ≡ Ok start → awaits_impossible_value (reading_after_applet start words).state.awaiting (reading_after_applet start words).state.values ≡ true → length words ≤ place - 1 → ⊥
+  awaits : (start : Start) → start_of_command_line words ≡ Ok start → awaits_impossible_value (reading_of_rest_of_command_words start words).state.awaiting (reading_of_rest_of_command_words start words).state.values ≡ true → length words ≤ place - 1 → ⊥
   awaits start s w l = by_going (from_going start words low)
     where
       end : ℕ
@@ -185,7 +185,7 @@ module _ (words more : List (List ℕ)) (place : ℕ) (applet : Applet) (offends
       options = options_of start.applet
 
       reading : Reading
-      reading = reading_after_applet start words
+      reading = reading_of_rest_of_command_words start words
 
       known : IsPlain start (1 + length words)
       known = start_known words start s
@@ -199,7 +199,7 @@ module _ (words more : List (List ℕ)) (place : ℕ) (applet : Applet) (offends
       rule : Option OperandRule
       rule = operand_rule start.applet reading.state.flags
 
-      near : (at : ℕ) → reading_after_applet start (words ++ more) ≡ words_reading_from_parts reading.state reading.operands (Some at) → at ≤ end → (p : ℕ) × (p ≡ place) × (p ≤ end)
+      near : (at : ℕ) → reading_of_rest_of_command_words start (words ++ more) ≡ words_reading_from_parts reading.state reading.operands (Some at) → at ≤ end → (p : ℕ) × (p ≡ place) × (p ≤ end)
       near at same h = (
         first.0,
         judged start first.0 s (ap (λ (r : Reading). option_or (place_of_refused_operand (operand_rule start.applet r.state.flags) r.operands) r.unread) same ∙ first.1),
@@ -215,7 +215,7 @@ module _ (words more : List (List ℕ)) (place : ℕ) (applet : Applet) (offends
           first : (p : ℕ) × (option_or (place_of_refused_operand rule reading.operands) (Some at) ≡ Some p) × (p < end + 1)
           first = first_near (start.read + 1) (end + 1) rule reading.operands at far wide
 
-      stopped : (at : ℕ) → reading.unread ≡ Some at → at < end → reading_after_applet start (words ++ more) ≡ reading → ⊥
+      stopped : (at : ℕ) → reading.unread ≡ Some at → at < end → reading_of_rest_of_command_words start (words ++ more) ≡ reading → ⊥
       stopped at u h same =
           let first = first_near (start.read + 1) end rule reading.operands at placed h in
           let is : first.0 ≡ place = judged start first.0 s (ap (λ (r : Reading). option_or (place_of_refused_operand (operand_rule start.applet r.state.flags) r.operands) r.unread) same ∙ (ap (option_or (place_of_refused_operand rule reading.operands)) u ∙ first.1)) in
@@ -223,10 +223,10 @@ module _ (words more : List (List ℕ)) (place : ℕ) (applet : Applet) (offends
           let start_low = (usage_between (words ++ more) place offends).0 in
           omega (arith, is, bound, l, start_low)
 
-      by_rule : (awaiting : Option ValueRule) → reading.state.awaiting ≡ awaiting → awaits_impossible_value awaiting reading.state.values ≡ true → reading.unread ≡ option_map (λ (r : ValueRule). end) awaiting → ((rest : List (List ℕ)) → reading_after_applet start (words ++ rest) ≡ behind reading.operands (option_reading options reading.state end rest)) → ⊥
+      by_rule : (awaiting : Option ValueRule) → reading.state.awaiting ≡ awaiting → awaits_impossible_value awaiting reading.state.values ≡ true → reading.unread ≡ option_map (λ (r : ValueRule). end) awaiting → ((rest : List (List ℕ)) → reading_of_rest_of_command_words start (words ++ rest) ≡ behind reading.operands (reading_of_words_from_place options reading.state end rest)) → ⊥
       by_rule None a w u on = false≢true w
       by_rule (Some value) a w u on =
-          let same : reading_after_applet start (words ++ more) ≡ words_reading_from_parts reading.state reading.operands (Some end) =
+          let same : reading_of_rest_of_command_words start (words ++ more) ≡ words_reading_from_parts reading.state reading.operands (Some end) =
           on more ∙ (ap (behind reading.operands) (awaited_whole options reading.state end value more a w) ∙ ap (λ os. words_reading_from_parts reading.state os (Some end)) (append-nil reading.operands)) in
           let p = near end same (omega arith) in
           let is = p.1 in
@@ -235,7 +235,7 @@ module _ (words more : List (List ℕ)) (place : ℕ) (applet : Applet) (offends
           let next : next_word_of_command_line words ≡ NextValue start.applet value = next_of_start words start s ∙ awaited_after words start value low a u in
           false≢true (sym (ap (λ k. can_be_option (next_word_after_words (next_word_of_command_line words) (take k more))) none ∙ ap can_be_option next) ∙ option l)
 
-      by_going : IsRemovedPackage options end (start.ended || have_options_ended options None (drop start.read words)) reading (λ rest. reading_after_applet start (words ++ rest)) → ⊥
+      by_going : IsRemovedPackage options end (start.ended || have_options_ended options None (drop start.read words)) reading (λ rest. reading_of_rest_of_command_words start (words ++ rest)) → ⊥
       by_going (inl stop) = stopped stop.0 stop.1 stop.2 (stop.3 more)
       by_going (inr (inl on)) = by_rule reading.state.awaiting refl w on.unread on.goes_on
       by_going (inr (inr off)) = false≢true (sym (ap (λ o. awaits_impossible_value o reading.state.values) off.awaiting) ∙ w)
@@ -244,21 +244,21 @@ module _ (words more : List (List ℕ)) (place : ℕ) (applet : Applet) (offends
   by_start (Err at) s k l = false≢true k
   by_start (Ok start) s k l =
       let over : Bool = start.ended || have_options_ended (options_of start.applet) None (drop start.read words) in
-      elim (or_cases (over && is_required_option_missing start.applet (reading_after_applet start words).state) (awaits_impossible_value (reading_after_applet start words).state.awaiting (reading_after_applet start words).state.values) k) as (λ _. ⊥) [
-        | inl both ↦ ended start s (and_parts over (is_required_option_missing start.applet (reading_after_applet start words).state) both).0 l
+      elim (or_cases (over && is_required_option_missing start.applet (reading_of_rest_of_command_words start words).state) (awaits_impossible_value (reading_of_rest_of_command_words start words).state.awaiting (reading_of_rest_of_command_words start words).state.values) k) as (λ _. ⊥) [
+        | inl both ↦ ended start s (and_parts over (is_required_option_missing start.applet (reading_of_rest_of_command_words start words).state) both).0 l
         | inr none ↦ awaits start s none l
       ]
 
   by_site : (r : Result AppletSite ℕ) → applet_site 1 words ≡ r → are_stuck_by words r ≡ true → length words ≤ place - 1 → ⊥
   by_site (Err at) s k l = no_applet at s (and_parts (list_any is_double_dash words) (not (list_any (are_options_of words) applets)) k).0 l (cases_lt at (1 + length words))
-  by_site (Ok site) s k l = by_start (start_of_command_line words) refl (ap (λ r. is_stuck_by words (start_after_site words r)) s ∙ k) l
+  by_site (Ok site) s k l = by_start (start_of_command_line words) refl (ap (λ r. is_stuck_by words (start_by_applet_site words r)) s ∙ k) l
 
   none_asks : not (is_ok (command_of words)) ≡ true → are_stuck_by words (applet_site 1 words) ≡ true → (place - 1 < length words) ⊎ (length words ≤ place - 1) → ⊥
   none_asks n k (inl less) = false≢true (sym (ap (λ r. not (is_ok r)) (within less)) ∙ n)
   none_asks n k (inr more) = by_site (applet_site 1 words) refl k more
 
-pub stuck_words : (words more : List (List ℕ)) → are_words_without_completion words ≡ true → (place : ℕ) × (command_of (words ++ more) ≡ Err place)
-unfolding are_words_without_completion
+pub stuck_words : (words more : List (List ℕ)) → is_command_line_stuck words ≡ true → (place : ℕ) × (command_of (words ++ more) ≡ Err place)
+unfolding is_command_line_stuck
 stuck_words words more k =
     let both = and_parts (not (is_ok (command_of words))) (are_stuck_by words (applet_site 1 words)) k in
     let bad = stuck_stay words more both.1 in

@@ -11,14 +11,14 @@ use Rattle.command_core.specs.declared.command.Applet.TheVariants.{Add, Del, Fix
 use Rattle.command_core.specs.declared.command.Flags.{Flags}
 use Rattle.command_core.specs.declared.values.OptionValue.{OptionValue}
 use Rattle.command_core.specs.declared.values.ValueRule.{ValueRule}
-use Rattle.command_core.specs.Sound.{may_have_flags, value_rules, may_both_be_given, are_allowed_values, are_exclusive_values, is_allowed_value, rule_for}
+use Rattle.command_core.specs.Sound.{may_have_flags, value_rules, may_both_be_given, are_allowed_values, are_exclusive_values, is_allowed_value, value_rule_of_letter}
 use Rattle.command_core.specs.Operands.{operand_at}
 use Rattle.command_core.specs.Values.{excludes, is_excluded_by_earlier_value, is_given, is_single_and_given, is_value_of_kind, option_value_from_place_and_letter}
 use Rattle.words_core.specs.declared.options.Meaning.{Meaning}
 use Rattle.words_core.specs.declared.options.Meaning.TheVariants.{Flag as Plain, Kind, Value}
 use Rattle.words_core.specs.declared.reading.OptionState.{OptionState}
 use Rattle.words_core.specs.declared.reading.Start.{Start}
-use Rattle.words_core.specs.Grammar.{option_state_at_start, attached_value, is_double_dash, is_option_or_value, operands_of, option_name, option_reading, or_stop_at_unread_word, reading_after_applet, words_reading_from_parts, option_state_from_parts, with_flags_if_some, with_value_or_awaited, flags_with_meaning, state_with_meaning, with_operand, with_value_option, flags_with_option, with_option_word, with_option_value, with_option_or_value_word, with_word_as_option_or_value}
+use Rattle.words_core.specs.Grammar.{option_state_at_start, attached_value, is_double_dash, is_option_or_value, words_as_operands_from_place, option_name, reading_of_words_from_place, or_stop_at_unread_word, reading_of_rest_of_command_words, words_reading_from_parts, option_state_from_parts, with_flags_if_some, with_value_or_awaited, flags_with_meaning, state_with_meaning, with_operand_in_front, with_value_option, flags_with_option, with_option_word, with_option_value, with_option_or_value_word, with_word_as_option_or_value}
 use Rattle.words_core.specs.Options.{OptionSpec, common_options, option_of_word, options_of}
 use Rattle.words_core.specs.Steps.{IsSoundReading}
 use Rattle.words_core.proofs.KindsKept.{IsPlain, find_passes, options_kept, pass_or_none}
@@ -27,7 +27,7 @@ use Rattle.words_core.proofs.KindsKept.{IsPlain, find_passes, options_kept, pass
 abbrev pub IsOwn : Applet → Meaning → Type 0
 IsOwn applet (Plain flag) = Unit {0}
 IsOwn applet (Kind flag) = Unit {0}
-IsOwn applet (Value rule) = rule_for (value_rules applet) rule.letter ≡ Some rule
+IsOwn applet (Value rule) = value_rule_of_letter (value_rules applet) rule.letter ≡ Some rule
 
 abbrev pub AllOwn : Applet → List OptionSpec → Type 0
 AllOwn applet [] = Unit {0}
@@ -61,11 +61,11 @@ pub both_false : (a b c : Bool) → (a && (b || c)) ≡ false → ((a && b) ≡ 
 both_false true b c h = or_parts b c h
 both_false false b c h = (refl, refl)
 
-pub apart_by : (rules : List ValueRule) (rule : ValueRule) (w : OptionValue) (text : List ℕ) (place : ℕ) → rule_for rules rule.letter ≡ Some rule → (rule.single && (w.letter == rule.letter)) ≡ false → ((w.letter == rule.letter) && excludes rule.kind w.text text) ≡ false → may_both_be_given rules w (option_value_from_place_and_letter place rule.letter text) ≡ true
+pub apart_by : (rules : List ValueRule) (rule : ValueRule) (w : OptionValue) (text : List ℕ) (place : ℕ) → value_rule_of_letter rules rule.letter ≡ Some rule → (rule.single && (w.letter == rule.letter)) ≡ false → ((w.letter == rule.letter) && excludes rule.kind w.text text) ≡ false → may_both_be_given rules w (option_value_from_place_and_letter place rule.letter text) ≡ true
 apart_by rules rule w text place own spent excluded =
-    elim (w.letter == rule.letter) as (λ b. (w.letter == rule.letter) ≡ b → (rule.single && b) ≡ false → (b && excludes rule.kind w.text text) ≡ false → not (b && are_exclusive_values (rule_for rules w.letter) w.text text) ≡ true) [
+    elim (w.letter == rule.letter) as (λ b. (w.letter == rule.letter) ≡ b → (rule.single && b) ≡ false → (b && excludes rule.kind w.text text) ≡ false → not (b && are_exclusive_values (value_rule_of_letter rules w.letter) w.text text) ≡ true) [
       | true ↦ λ e s x.
-          let found : rule_for rules w.letter ≡ Some rule = ap (rule_for rules) (eqb-true w.letter rule.letter e) ∙ own in
+          let found : value_rule_of_letter rules w.letter ≡ Some rule = ap (value_rule_of_letter rules) (eqb-true w.letter rule.letter e) ∙ own in
           let single : rule.single ≡ false = alone rule.single s in
           let none : excludes rule.kind w.text text ≡ false = x in
           rw found (rw single (rw none refl))
@@ -76,30 +76,30 @@ apart_by rules rule w text place own spent excluded =
     alone true h = h
     alone false h = h
 
-pub values_push : (rules : List ValueRule) (rule : ValueRule) (text : List ℕ) (place : ℕ) (values : List OptionValue) → rule_for rules rule.letter ≡ Some rule → is_value_of_kind rule.kind text ≡ true → is_single_and_given rule values ≡ false → is_excluded_by_earlier_value rule text values ≡ false → are_allowed_values rules values ≡ true → are_allowed_values rules (values ++ (option_value_from_place_and_letter place rule.letter text ∷ [])) ≡ true
+pub values_push : (rules : List ValueRule) (rule : ValueRule) (text : List ℕ) (place : ℕ) (values : List OptionValue) → value_rule_of_letter rules rule.letter ≡ Some rule → is_value_of_kind rule.kind text ≡ true → is_single_and_given rule values ≡ false → is_excluded_by_earlier_value rule text values ≡ false → are_allowed_values rules values ≡ true → are_allowed_values rules (values ++ (option_value_from_place_and_letter place rule.letter text ∷ [])) ≡ true
 values_push rules rule text place [] own good spent excluded are = rw own (rw good refl)
 values_push rules rule text place (w ∷ ws) own good spent excluded are =
     let first = both_false rule.single (w.letter == rule.letter) (is_given rule.letter ws) spent in
     let others = or_parts ((w.letter == rule.letter) && excludes rule.kind w.text text) (is_excluded_by_earlier_value rule text ws) excluded in
-    let parts = and_parts (is_allowed_value (rule_for rules w.letter) w.text && list_all (may_both_be_given rules w) ws) (are_allowed_values rules ws) are in
-    let both = and_parts (is_allowed_value (rule_for rules w.letter) w.text) (list_all (may_both_be_given rules w) ws) parts.0 in
+    let parts = and_parts (is_allowed_value (value_rule_of_letter rules w.letter) w.text && list_all (may_both_be_given rules w) ws) (are_allowed_values rules ws) are in
+    let both = and_parts (is_allowed_value (value_rule_of_letter rules w.letter) w.text) (list_all (may_both_be_given rules w) ws) parts.0 in
     let last : list_all (may_both_be_given rules w) (option_value_from_place_and_letter place rule.letter text ∷ []) ≡ true = and_from (may_both_be_given rules w (option_value_from_place_and_letter place rule.letter text)) true (apart_by rules rule w text place own first.0 others.0) refl in
     let all : list_all (may_both_be_given rules w) (ws ++ (option_value_from_place_and_letter place rule.letter text ∷ [])) ≡ true = list_all-append (may_both_be_given rules w) ws (option_value_from_place_and_letter place rule.letter text ∷ []) ∙ and_from (list_all (may_both_be_given rules w) ws) _ both.1 last in
-    and_from (is_allowed_value (rule_for rules w.letter) w.text && list_all (may_both_be_given rules w) (ws ++ (option_value_from_place_and_letter place rule.letter text ∷ []))) _
-    (and_from (is_allowed_value (rule_for rules w.letter) w.text) _ both.0 all)
+    and_from (is_allowed_value (value_rule_of_letter rules w.letter) w.text && list_all (may_both_be_given rules w) (ws ++ (option_value_from_place_and_letter place rule.letter text ∷ []))) _
+    (and_from (is_allowed_value (value_rule_of_letter rules w.letter) w.text) _ both.0 all)
     (values_push rules rule text place ws own good first.1 others.1 parts.1)
 
 -- an option that awaits its value is the applet's, and may stand
 abbrev pub IsAwaited : Applet → List OptionValue → Option ValueRule → Type 0
 IsAwaited applet values None = Unit {0}
-IsAwaited applet values (Some rule) = (rule_for (value_rules applet) rule.letter ≡ Some rule) × (is_single_and_given rule values ≡ false)
+IsAwaited applet values (Some rule) = (value_rule_of_letter (value_rules applet) rule.letter ≡ Some rule) × (is_single_and_given rule values ≡ false)
 
 pub record IsGood (applet : Applet) (state : OptionState) : Type 0 where
   pub flags : may_have_flags applet state.flags ≡ true
   pub values : are_allowed_values (value_rules applet) state.values ≡ true
   pub awaiting : IsAwaited applet state.values state.awaiting
 
-pub value_good : (applet : Applet) (state more : OptionState) (place : ℕ) (text : List ℕ) (rule : ValueRule) → IsGood applet state → rule_for (value_rules applet) rule.letter ≡ Some rule → is_single_and_given rule state.values ≡ false → with_option_value state place text rule ≡ Some more → IsGood applet more
+pub value_good : (applet : Applet) (state more : OptionState) (place : ℕ) (text : List ℕ) (rule : ValueRule) → IsGood applet state → value_rule_of_letter (value_rules applet) rule.letter ≡ Some rule → is_single_and_given rule state.values ≡ false → with_option_value state place text rule ≡ Some more → IsGood applet more
 value_good applet state more place text rule good own spent w =
     elim (is_value_of_kind rule.kind text) as (λ b. is_value_of_kind rule.kind text ≡ b → (if b && not (is_excluded_by_earlier_value rule text state.values) then Some (option_state_from_parts state.flags (state.values ++ (option_value_from_place_and_letter place rule.letter text ∷ [])) None) else None) ≡ Some more → IsGood applet more) [
       | false ↦ λ v (h : None ≡ Some more). absurd (none-some more h)
@@ -113,7 +113,7 @@ value_good applet state more place text rule good own spent w =
       ] refl
     ] refl w
 
-pub rule_good : (applet : Applet) (state more : OptionState) (place : ℕ) (held : Option (List ℕ)) (rule : ValueRule) → IsGood applet state → rule_for (value_rules applet) rule.letter ≡ Some rule → with_value_option state place held rule ≡ Some more → IsGood applet more
+pub rule_good : (applet : Applet) (state more : OptionState) (place : ℕ) (held : Option (List ℕ)) (rule : ValueRule) → IsGood applet state → value_rule_of_letter (value_rules applet) rule.letter ≡ Some rule → with_value_option state place held rule ≡ Some more → IsGood applet more
 rule_good applet state more place held rule good own w =
     elim (is_single_and_given rule state.values) as (λ b. is_single_and_given rule state.values ≡ b → (if b then None else with_value_or_awaited state place rule held) ≡ Some more → IsGood applet more) [
       | true ↦ λ s (h : None ≡ Some more). absurd (none-some more h)
@@ -153,25 +153,25 @@ word_good applet state more place word good w = by_rule state.awaiting refl w
         let awaited : IsAwaited applet state.values (Some rule) = subst (λ o. IsAwaited applet state.values o) a good.awaiting in
         value_good applet state more place word rule good awaited.0 awaited.1 h
 
-pub reading_good : (applet : Applet) (state : OptionState) (place : ℕ) (words : List (List ℕ)) → IsGood applet state → IsGood applet (option_reading (options_of applet) state place words).state
+pub reading_good : (applet : Applet) (state : OptionState) (place : ℕ) (words : List (List ℕ)) → IsGood applet state → IsGood applet (reading_of_words_from_place (options_of applet) state place words).state
 reading_good applet state place [] good = good
 reading_good applet state place (word ∷ words) good =
-    elim (is_option_or_value state word) as (λ b. IsGood applet (if b then or_stop_at_unread_word state place (λ more. option_reading (options_of applet) more (place + 1) words) (with_option_or_value_word (options_of applet) state place word) else if is_double_dash word then words_reading_from_parts state (operands_of (place + 1) words) None else with_operand (operand_at place word) (option_reading (options_of applet) state (place + 1) words)).state) [
-      | true ↦ elim (with_option_or_value_word (options_of applet) state place word) as (λ o. with_option_or_value_word (options_of applet) state place word ≡ o → IsGood applet (or_stop_at_unread_word state place (λ more. option_reading (options_of applet) more (place + 1) words) o).state) [
+    elim (is_option_or_value state word) as (λ b. IsGood applet (if b then or_stop_at_unread_word state place (λ more. reading_of_words_from_place (options_of applet) more (place + 1) words) (with_option_or_value_word (options_of applet) state place word) else if is_double_dash word then words_reading_from_parts state (words_as_operands_from_place (place + 1) words) None else with_operand_in_front (operand_at place word) (reading_of_words_from_place (options_of applet) state (place + 1) words)).state) [
+      | true ↦ elim (with_option_or_value_word (options_of applet) state place word) as (λ o. with_option_or_value_word (options_of applet) state place word ≡ o → IsGood applet (or_stop_at_unread_word state place (λ more. reading_of_words_from_place (options_of applet) more (place + 1) words) o).state) [
         | None ↦ λ w. good
         | Some more ↦ λ w. reading_good applet more (place + 1) words (word_good applet state more place word good w)
       ] refl
-      | false ↦ elim (is_double_dash word) as (λ b. IsGood applet (if b then words_reading_from_parts state (operands_of (place + 1) words) None else with_operand (operand_at place word) (option_reading (options_of applet) state (place + 1) words)).state) [
+      | false ↦ elim (is_double_dash word) as (λ b. IsGood applet (if b then words_reading_from_parts state (words_as_operands_from_place (place + 1) words) None else with_operand_in_front (operand_at place word) (reading_of_words_from_place (options_of applet) state (place + 1) words)).state) [
         | true ↦ good
         | false ↦ reading_good applet state (place + 1) words good
       ]
     ]
 
 -- what is read behind the applet
-pub from_good : (start : Start) (behind : ℕ) (words : List (List ℕ)) → IsPlain start behind → IsGood start.applet (reading_after_applet start words).state
-unfolding reading_after_applet
+pub from_good : (start : Start) (behind : ℕ) (words : List (List ℕ)) → IsPlain start behind → IsGood start.applet (reading_of_rest_of_command_words start words).state
+unfolding reading_of_rest_of_command_words
 from_good start behind words p =
-    elim start.ended as (λ b. IsGood start.applet (if b then words_reading_from_parts (option_state_at_start start.flags) (operands_of (start.read + 1) (drop start.read words)) None else option_reading (options_of start.applet) (option_state_at_start start.flags) (start.read + 1) (drop start.read words)).state) [
+    elim start.ended as (λ b. IsGood start.applet (if b then words_reading_from_parts (option_state_at_start start.flags) (words_as_operands_from_place (start.read + 1) (drop start.read words)) None else reading_of_words_from_place (options_of start.applet) (option_state_at_start start.flags) (start.read + 1) (drop start.read words)).state) [
       | true ↦ first
       | false ↦ reading_good start.applet (option_state_at_start start.flags) (start.read + 1) (drop start.read words) first
     ]
@@ -183,5 +183,5 @@ from_good start behind words p =
       awaiting = tt;
     }
 
-pub from_kept : (start : Start) (behind : ℕ) (words : List (List ℕ)) → IsPlain start behind → IsSoundReading start.applet (reading_after_applet start words)
+pub from_kept : (start : Start) (behind : ℕ) (words : List (List ℕ)) → IsPlain start behind → IsSoundReading start.applet (reading_of_rest_of_command_words start words)
 from_kept start behind words p = let good = from_good start behind words p in (good.flags, good.values)

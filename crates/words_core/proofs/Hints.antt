@@ -14,7 +14,7 @@ use Rattle.words_core.specs.declared.options.Meaning.{Meaning}
 use Rattle.words_core.specs.declared.options.Meaning.TheVariants.{Flag as Plain, Kind, Value}
 use Rattle.words_core.specs.declared.reading.OptionState.{OptionState}
 use Rattle.words_core.specs.declared.reading.Reading.{Reading}
-use Rattle.words_core.specs.Grammar.{attached_value, is_double_dash, is_option, option_name, option_reading, value_rule_of_meaning, option_state_from_parts, flags_with_meaning, state_with_meaning, flags_with_option, with_option_or_value_word}
+use Rattle.words_core.specs.Grammar.{attached_value, is_double_dash, is_option, option_name, reading_of_words_from_place, value_rule_of_meaning, option_state_from_parts, flags_with_meaning, state_with_meaning, flags_with_option, with_option_or_value_word}
 use Rattle.words_core.specs.Options.{OptionSpec, common_options, option_of_word, options_of}
 use Rattle.words_core.specs.Steps.{operands_depend_on_flags, flags_with_spelled_option, has_no_values, is_option_without_value}
 use Rattle.words_core.specs.Usage.{shown_byte, shown_bytes, texts_joined}
@@ -77,18 +77,18 @@ module _ (options : List OptionSpec) (flags : Flags) (words : List (List ℕ)) (
   abbrev state : OptionState
   state = option_state_from_parts flags [] None
 
-  pub flags_ended : is_double_dash word ≡ true → (option_reading options state (i + 1) (drop i words)).state.flags ≡ flags
+  pub flags_ended : is_double_dash word ≡ true → (reading_of_words_from_place options state (i + 1) (drop i words)).state.flags ≡ flags
   flags_ended e = ap (λ (r : Reading). r.state.flags) (reading_ended options state words i word at (end_kept state word refl e) e)
 
-  pub flags_operand : is_double_dash word ≡ false → is_option word ≡ false → (option_reading options state (i + 1) (drop i words)).state.flags ≡ (option_reading options state (i + 1 + 1) (drop (i + 1) words)).state.flags
+  pub flags_operand : is_double_dash word ≡ false → is_option word ≡ false → (reading_of_words_from_place options state (i + 1) (drop i words)).state.flags ≡ (reading_of_words_from_place options state (i + 1 + 1) (drop (i + 1) words)).state.flags
   flags_operand e o = ap (λ (r : Reading). r.state.flags) (reading_operand options state words i word at (rw o refl) e)
 
-  pub flags_unread : list_all is_option_without_value options ≡ true → is_double_dash word ≡ false → is_option word ≡ true → flags_with_spelled_option options flags word ≡ None → (option_reading options state (i + 1) (drop i words)).state.flags ≡ flags
+  pub flags_unread : list_all is_option_without_value options ≡ true → is_double_dash word ≡ false → is_option word ≡ true → flags_with_spelled_option options flags word ≡ None → (reading_of_words_from_place options state (i + 1) (drop i words)).state.flags ≡ flags
   flags_unread p e o n =
       ap (λ (r : Reading). r.state.flags) (reading_more options state words i word None at (option_taken state word refl e o)
       (spelled_by options flags (i + 1) word p ∙ ap (option_map (λ m. option_state_from_parts m [] None)) n))
 
-  pub flags_taken : (more : Flags) → list_all is_option_without_value options ≡ true → is_double_dash word ≡ false → is_option word ≡ true → flags_with_spelled_option options flags word ≡ Some more → (option_reading options state (i + 1) (drop i words)).state.flags ≡ (option_reading options (option_state_from_parts more [] None) (i + 1 + 1) (drop (i + 1) words)).state.flags
+  pub flags_taken : (more : Flags) → list_all is_option_without_value options ≡ true → is_double_dash word ≡ false → is_option word ≡ true → flags_with_spelled_option options flags word ≡ Some more → (reading_of_words_from_place options state (i + 1) (drop i words)).state.flags ≡ (reading_of_words_from_place options (option_state_from_parts more [] None) (i + 1 + 1) (drop (i + 1) words)).state.flags
   flags_taken more p e o n =
       ap (λ (r : Reading). r.state.flags) (reading_more options state words i word (Some (option_state_from_parts more [] None)) at (option_taken state word refl e o)
       (spelled_by options flags (i + 1) word p ∙ ap (option_map (λ m. option_state_from_parts m [] None)) n))

@@ -19,7 +19,7 @@ use Rattle.command_core.specs.Flags.{has_command_kind_flag, with_flag}
 use Rattle.command_core.specs.Operands.{at_least, exactly, first_refused_operand, is_operand_of_kind}
 use Rattle.words_core.specs.declared.reading.Reading.{Reading}
 use Rattle.words_core.specs.declared.reading.Start.{Start}
-use Rattle.words_core.specs.Grammar.{spelled_command_from_start, spelled_command, command_from_reading_parts, attached_value, start_of_command_line, option_name, option_reading, reading_after_applet, words_reading_from_parts, place_of_refused_operand, option_state_from_parts, command_of_reading}
+use Rattle.words_core.specs.Grammar.{spelled_command_by_start, spelled_command, command_from_end_place_and_reading, attached_value, start_of_command_line, option_name, reading_of_words_from_place, reading_of_rest_of_command_words, words_reading_from_parts, place_of_refused_operand, option_state_from_parts, command_of_reading_with_end_place}
 use Rattle.words_core.specs.Kinds.{can_info_kind_follow, can_info_kind_follow_if_started, can_started_words_get_info_kind, is_info_applet}
 use Rattle.words_core.specs.Options.{common_options, options_of}
 use Rattle.words_core.specs.Stuck.{have_options_ended}
@@ -78,7 +78,7 @@ path_of flags operands at bad good = by_flags flags.who_owns (flags.installed ||
 
 -- ---- `-W` behind the words
 
-owner_read : (flags : Flags) (values : List OptionValue) (at : ℕ) → has_command_kind_flag flags ≡ false → option_reading (options_of Info) (option_state_from_parts flags values None) at (codes "-W" ∷ []) ≡ words_reading_from_parts (option_state_from_parts (with_flag WhoOwns flags) values None) [] None
+owner_read : (flags : Flags) (values : List OptionValue) (at : ℕ) → has_command_kind_flag flags ≡ false → reading_of_words_from_place (options_of Info) (option_state_from_parts flags values None) at (codes "-W" ∷ []) ≡ words_reading_from_parts (option_state_from_parts (with_flag WhoOwns flags) values None) [] None
 unfolding common_options options_of option_name attached_value
 owner_read flags values at k = rw k refl
 
@@ -111,13 +111,13 @@ none_before rule low end last place operands new unread placed far behind judged
     ] refl
 
 module _ (words rest : List (List ℕ)) (start : Start) (at place : ℕ) (known : IsPlain start (1 + length words)) (can : can_started_words_get_info_kind words start ≡ true) (found : start_of_command_line words ≡ Ok start)
-    (bad : command_of_reading (length words + 1) start.applet (reading_after_applet start words) ≡ Err at) (before : at ≤ length words)
-    (later : command_of_reading (length (words ++ rest) + 1) start.applet (reading_after_applet start (words ++ rest)) ≡ Err place) (far : length words + 1 ≤ place) (all : length words ≤ length (words ++ rest)) where
+    (bad : command_of_reading_with_end_place (length words + 1) start.applet (reading_of_rest_of_command_words start words) ≡ Err at) (before : at ≤ length words)
+    (later : command_of_reading_with_end_place (length (words ++ rest) + 1) start.applet (reading_of_rest_of_command_words start (words ++ rest)) ≡ Err place) (far : length words + 1 ≤ place) (all : length words ≤ length (words ++ rest)) where
   abbrev end : ℕ
   end = length words + 1
 
   abbrev reading : Reading
-  reading = reading_after_applet start words
+  reading = reading_of_rest_of_command_words start words
 
   abbrev over : Bool
   over = start.ended || have_options_ended (options_of start.applet) None (drop start.read words)
@@ -149,7 +149,7 @@ module _ (words rest : List (List ℕ)) (start : Start) (at place : ℕ) (known 
 
   refused : first_refused_operand (at_least 0 PackageName) 0 reading.operands ≡ Some at
   refused =
-      let judged : IsJudgedAt end (option_or (place_of_refused_operand (operand_rule Info reading.state.flags) reading.operands) reading.unread) at = judged_at Info reading end at (ap (λ (a : Applet). command_of_reading end a reading) (sym is) ∙ bad) in
+      let judged : IsJudgedAt end (option_or (place_of_refused_operand (operand_rule Info reading.state.flags) reading.operands) reading.unread) at = judged_at Info reading end at (ap (λ (a : Applet). command_of_reading_with_end_place end a reading) (sym is) ∙ bad) in
       elim judged as (λ _. first_refused_operand (at_least 0 PackageName) 0 reading.operands ≡ Some at) [
         | inl first ↦ by_first (first_refused_operand (at_least 0 PackageName) 0 reading.operands) (ap (λ o. option_or (first_refused_operand (at_least 0 PackageName) 0 reading.operands) o) (sym unread) ∙ (ap (λ (r : OperandRule). option_or (first_refused_operand r 0 reading.operands) reading.unread) (sym rule_is) ∙ first))
         | inr none ↦ absurd (omega (arith, none.1))
@@ -159,22 +159,22 @@ module _ (words rest : List (List ℕ)) (start : Start) (at place : ℕ) (known 
       by_first None h = absurd (none-some at h)
       by_first (Some x) h = h
 
-  module _ (goes_on : (more : List (List ℕ)) → reading_after_applet start (words ++ more) ≡ behind reading.operands (option_reading (options_of start.applet) reading.state end more)) where
+  module _ (goes_on : (more : List (List ℕ)) → reading_of_rest_of_command_words start (words ++ more) ≡ behind reading.operands (reading_of_words_from_place (options_of start.applet) reading.state end more)) where
     abbrev longer : Reading
-    longer = behind reading.operands (option_reading (options_of start.applet) reading.state end rest)
+    longer = behind reading.operands (reading_of_words_from_place (options_of start.applet) reading.state end rest)
 
     path : first_refused_operand (exactly 1 Path) 0 reading.operands ≡ None
     path =
         let last : ℕ = length (words ++ rest) + 1 in
-        let judged : IsJudgedAt last (option_or (place_of_refused_operand (operand_rule Info longer.state.flags) longer.operands) longer.unread) place = judged_at Info longer last place (ap (λ (a : Applet). command_of_reading last a longer) (sym is) ∙ (ap (command_of_reading last start.applet) (sym (goes_on rest)) ∙ later)) in
+        let judged : IsJudgedAt last (option_or (place_of_refused_operand (operand_rule Info longer.state.flags) longer.operands) longer.unread) place = judged_at Info longer last place (ap (λ (a : Applet). command_of_reading_with_end_place last a longer) (sym is) ∙ (ap (command_of_reading_with_end_place last start.applet) (sym (goes_on rest)) ∙ later)) in
         path_of longer.state.flags reading.operands at refused
-        (none_before (info_operand_rule longer.state.flags) (start.read + 1) end last place reading.operands (option_reading (options_of start.applet) reading.state end rest).operands longer.unread (from_placed start words low).operands far (omega (arith, all)) judged)
+        (none_before (info_operand_rule longer.state.flags) (start.read + 1) end last place reading.operands (reading_of_words_from_place (options_of start.applet) reading.state end rest).operands longer.unread (from_placed start words low).operands far (omega (arith, all)) judged)
 
-    owner : reading_after_applet start (words ++ (codes "-W" ∷ [])) ≡ behind reading.operands (words_reading_from_parts (option_state_from_parts (with_flag WhoOwns reading.state.flags) reading.state.values None) [] None)
+    owner : reading_of_rest_of_command_words start (words ++ (codes "-W" ∷ [])) ≡ behind reading.operands (words_reading_from_parts (option_state_from_parts (with_flag WhoOwns reading.state.flags) reading.state.values None) [] None)
     owner =
         goes_on (codes "-W" ∷ [])
-        ∙ (ap (λ (a : Applet). behind reading.operands (option_reading (options_of a) reading.state end (codes "-W" ∷ []))) is
-        ∙ (ap (λ o. behind reading.operands (option_reading (options_of Info) (option_state_from_parts reading.state.flags reading.state.values o) end (codes "-W" ∷ []))) (info_awaits words start known is)
+        ∙ (ap (λ (a : Applet). behind reading.operands (reading_of_words_from_place (options_of a) reading.state end (codes "-W" ∷ []))) is
+        ∙ (ap (λ o. behind reading.operands (reading_of_words_from_place (options_of Info) (option_state_from_parts reading.state.flags reading.state.values o) end (codes "-W" ∷ []))) (info_awaits words start known is)
         ∙ ap (behind reading.operands) (owner_read reading.state.flags reading.state.values end parts.1)))
 
     completed_on : CanBeCompleted words
@@ -183,14 +183,14 @@ module _ (words rest : List (List ℕ)) (start : Start) (at place : ℕ) (known 
         let last : ℕ = length (words ++ (codes "-W" ∷ [])) + 1 in
         let read : Reading = behind reading.operands (words_reading_from_parts (option_state_from_parts (with_flag WhoOwns reading.state.flags) reading.state.values None) [] None) in (
           codes "-W" ∷ [],
-          command_from_reading_parts last Info read,
-          ap (spelled_command_from_start (words ++ (codes "-W" ∷ []))) (start_stays words (codes "-W" ∷ []) start found)
-              ∙ (ap (command_of_reading last start.applet) owner
-              ∙ (ap (λ (a : Applet). command_of_reading last a read) is
+          command_from_end_place_and_reading last Info read,
+          ap (spelled_command_by_start (words ++ (codes "-W" ∷ []))) (start_stays words (codes "-W" ∷ []) start found)
+              ∙ (ap (command_of_reading_with_end_place last start.applet) owner
+              ∙ (ap (λ (a : Applet). command_of_reading_with_end_place last a read) is
               ∙ owner_good reading.state.flags reading.state.values reading.operands at refused path last)),
         )
 
-  by_going : IsRemovedPackage (options_of start.applet) end over reading (λ more. reading_after_applet start (words ++ more)) → CanBeCompleted words
+  by_going : IsRemovedPackage (options_of start.applet) end over reading (λ more. reading_of_rest_of_command_words start (words ++ more)) → CanBeCompleted words
   by_going (inl stopped) = absurd (none-some stopped.0 (sym unread ∙ stopped.1))
   by_going (inr (inl on)) = completed_on on.goes_on
   by_going (inr (inr off)) = absurd (false≢true (sym parts.3 ∙ off.over))
@@ -202,7 +202,7 @@ module _ (words rest : List (List ℕ)) (start : Start) (at place : ℕ) (known 
 pub kind_completes : (words rest : List (List ℕ)) (at place : ℕ) → can_info_kind_follow words ≡ true → spelled_command words ≡ Err at → at ≤ length words → spelled_command (words ++ rest) ≡ Err place → length words + 1 ≤ place → length words ≤ length (words ++ rest) → CanBeCompleted words
 unfolding spelled_command can_info_kind_follow
 kind_completes words rest at place can bad before later far all =
-    elim (start_of_command_line words) as (λ s. start_of_command_line words ≡ s → can_info_kind_follow_if_started words s ≡ true → spelled_command_from_start words s ≡ Err at → CanBeCompleted words) [
+    elim (start_of_command_line words) as (λ s. start_of_command_line words ≡ s → can_info_kind_follow_if_started words s ≡ true → spelled_command_by_start words s ≡ Err at → CanBeCompleted words) [
       | Err first ↦ λ s none bad. absurd (false≢true none)
-      | Ok start ↦ λ s can bad. kind_completes_from words rest start at place (start_known words start s) can s bad before (sym (ap (spelled_command_from_start (words ++ rest)) (start_stays words rest start s)) ∙ later) far all
+      | Ok start ↦ λ s can bad. kind_completes_from words rest start at place (start_known words start s) can s bad before (sym (ap (spelled_command_by_start (words ++ rest)) (start_stays words rest start s)) ∙ later) far all
     ] refl can bad

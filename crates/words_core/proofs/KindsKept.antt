@@ -18,7 +18,7 @@ use Rattle.words_core.specs.declared.options.Meaning.{Meaning}
 use Rattle.words_core.specs.declared.options.Meaning.TheVariants.{Flag as Plain, Kind, Value}
 use Rattle.words_core.specs.declared.reading.AppletSite.{AppletSite}
 use Rattle.words_core.specs.declared.reading.Start.{Start}
-use Rattle.words_core.specs.Grammar.{applet_site, flags_with_early_options, is_double_dash, is_option, start_of_command_line, or_err_at, applet_site_of_word, applet_site_after_double_dash, applet_site_from_parts, start_from_parts, start_after_site, start_with_early_flags, flags_with_meaning, flags_with_option_word, flags_with_option}
+use Rattle.words_core.specs.Grammar.{applet_site, flags_with_early_options, is_double_dash, is_option, start_of_command_line, or_err_at, applet_site_of_word, applet_site_after_double_dash, applet_site_from_parts, start_from_parts, start_by_applet_site, start_with_early_flags, flags_with_meaning, flags_with_option_word, flags_with_option}
 use Rattle.words_core.specs.Options.{OptionSpec, applet_of, common_options, is_early_option_word, option_of_word, options_of}
 
 -- ---- tests on lists
@@ -379,7 +379,7 @@ pub record IsStart (words : List (List ℕ)) (start : Start) : Type 0 where
 
 pub start_parts : (words : List (List ℕ)) (start : Start) → start_of_command_line words ≡ Ok start → IsStart words start
 start_parts words start e =
-    elim (applet_site 1 words) as (λ s. applet_site 1 words ≡ s → start_after_site words s ≡ Ok start → IsStart words start) [
+    elim (applet_site 1 words) as (λ s. applet_site 1 words ≡ s → start_by_applet_site words s ≡ Ok start → IsStart words start) [
       | Err place ↦ λ s (h : Err place ≡ Ok start). absurd (cc)
       | Ok site ↦ λ s h. by_flags site s (flags_with_early_options (options_of site.applet) no_flags 1 (take (site.read - 1) words)) refl h
     ] refl e

@@ -11,7 +11,7 @@ use Rattle.command_core.specs.declared.command.Flag.{Flag}
 use Rattle.command_core.specs.declared.command.Flags.{Flags}
 use Rattle.command_core.specs.declared.values.OptionValue.{OptionValue}
 use Rattle.command_core.specs.declared.values.ValueRule.{ValueRule}
-use Rattle.command_core.specs.Sound.{allowed_flags, may_have_flags, are_flags_allowed, has_at_most_one, may_both_be_given, are_allowed_values, are_exclusive_values, is_allowed_value, rule_for}
+use Rattle.command_core.specs.Sound.{allowed_flags, may_have_flags, are_flags_allowed, has_at_most_one, may_both_be_given, are_allowed_values, are_exclusive_values, is_allowed_value, value_rule_of_letter}
 use Rattle.command_core.specs.Flags.{has_flag, has_command_kind_flag, kinds, with_flag}
 use Rattle.command_core.specs.Values.{excludes, is_excluded_by_earlier_value, is_given, is_single_and_given, is_value_of_kind, option_value_from_place_and_letter}
 use Rattle.words_core.specs.declared.options.Meaning.{Meaning}
@@ -115,12 +115,12 @@ pub record Fits (rule : ValueRule) (text : List ℕ) (before : List OptionValue)
   pub good : is_value_of_kind rule.kind text ≡ true
   pub excluded : is_excluded_by_earlier_value rule text before ≡ false
 
-pub apart_back : (rules : List ValueRule) (rule : ValueRule) (w : OptionValue) (text : List ℕ) (place : ℕ) → rule_for rules rule.letter ≡ Some rule → may_both_be_given rules w (option_value_from_place_and_letter place rule.letter text) ≡ true → ((rule.single && (w.letter == rule.letter)) ≡ false) × (((w.letter == rule.letter) && excludes rule.kind w.text text) ≡ false)
+pub apart_back : (rules : List ValueRule) (rule : ValueRule) (w : OptionValue) (text : List ℕ) (place : ℕ) → value_rule_of_letter rules rule.letter ≡ Some rule → may_both_be_given rules w (option_value_from_place_and_letter place rule.letter text) ≡ true → ((rule.single && (w.letter == rule.letter)) ≡ false) × (((w.letter == rule.letter) && excludes rule.kind w.text text) ≡ false)
 apart_back rules rule w text place own apart =
-    elim (w.letter == rule.letter) as (λ b. (w.letter == rule.letter) ≡ b → not (b && are_exclusive_values (rule_for rules w.letter) w.text text) ≡ true → ((rule.single && b) ≡ false) × ((b && excludes rule.kind w.text text) ≡ false)) [
+    elim (w.letter == rule.letter) as (λ b. (w.letter == rule.letter) ≡ b → not (b && are_exclusive_values (value_rule_of_letter rules w.letter) w.text text) ≡ true → ((rule.single && b) ≡ false) × ((b && excludes rule.kind w.text text) ≡ false)) [
       | true ↦ λ e h.
-          let found : rule_for rules w.letter ≡ Some rule = ap (rule_for rules) (eqb-true w.letter rule.letter e) ∙ own in
-          let none : are_exclusive_values (Some rule) w.text text ≡ false = ap (λ r. are_exclusive_values r w.text text) (sym found) ∙ not-true (are_exclusive_values (rule_for rules w.letter) w.text text) h in
+          let found : value_rule_of_letter rules w.letter ≡ Some rule = ap (value_rule_of_letter rules) (eqb-true w.letter rule.letter e) ∙ own in
+          let none : are_exclusive_values (Some rule) w.text text ≡ false = ap (λ r. are_exclusive_values r w.text text) (sym found) ∙ not-true (are_exclusive_values (value_rule_of_letter rules w.letter) w.text text) h in
           let both = or_parts rule.single (excludes rule.kind w.text text) none in
           (alone rule.single both.0, both.1)
       | false ↦ λ e h. (and_right rule.single false refl, refl)
@@ -135,11 +135,11 @@ joined_spent false b c x y = refl
 joined_spent true true c x y = x
 joined_spent true false c x y = y
 
-pub fits_in : (rules : List ValueRule) (rule : ValueRule) (text : List ℕ) (place : ℕ) (before behind : List OptionValue) → rule_for rules rule.letter ≡ Some rule → are_allowed_values rules (before ++ (option_value_from_place_and_letter place rule.letter text ∷ behind)) ≡ true → Fits rule text before
+pub fits_in : (rules : List ValueRule) (rule : ValueRule) (text : List ℕ) (place : ℕ) (before behind : List OptionValue) → value_rule_of_letter rules rule.letter ≡ Some rule → are_allowed_values rules (before ++ (option_value_from_place_and_letter place rule.letter text ∷ behind)) ≡ true → Fits rule text before
 fits_in rules rule text place [] behind own are =
     let v = option_value_from_place_and_letter place rule.letter text in
-    let parts = and_parts (is_allowed_value (rule_for rules rule.letter) text && list_all (may_both_be_given rules v) behind) (are_allowed_values rules behind) are in
-    let good = (and_parts (is_allowed_value (rule_for rules rule.letter) text) (list_all (may_both_be_given rules v) behind) parts.0).0 in
+    let parts = and_parts (is_allowed_value (value_rule_of_letter rules rule.letter) text && list_all (may_both_be_given rules v) behind) (are_allowed_values rules behind) are in
+    let good = (and_parts (is_allowed_value (value_rule_of_letter rules rule.letter) text) (list_all (may_both_be_given rules v) behind) parts.0).0 in
     record {
       spent = and_right rule.single false refl;
       good = ap (λ r. is_allowed_value r text) (sym own) ∙ good;
@@ -148,8 +148,8 @@ fits_in rules rule text place [] behind own are =
 fits_in rules rule text place (w ∷ ws) behind own are =
     let v = option_value_from_place_and_letter place rule.letter text in
     let all = ws ++ (v ∷ behind) in
-    let parts = and_parts (is_allowed_value (rule_for rules w.letter) w.text && list_all (may_both_be_given rules w) all) (are_allowed_values rules all) are in
-    let apart = (and_parts (is_allowed_value (rule_for rules w.letter) w.text) (list_all (may_both_be_given rules w) all) parts.0).1 in
+    let parts = and_parts (is_allowed_value (value_rule_of_letter rules w.letter) w.text && list_all (may_both_be_given rules w) all) (are_allowed_values rules all) are in
+    let apart = (and_parts (is_allowed_value (value_rule_of_letter rules w.letter) w.text) (list_all (may_both_be_given rules w) all) parts.0).1 in
     let both = and_parts (list_all (may_both_be_given rules w) ws) (list_all (may_both_be_given rules w) (v ∷ behind)) (sym (list_all-append (may_both_be_given rules w) ws (v ∷ behind)) ∙ apart) in
     let here = apart_back rules rule w text place own (and_parts (may_both_be_given rules w v) (list_all (may_both_be_given rules w) behind) both.1).0 in
     let rest = fits_in rules rule text place ws behind own parts.1 in

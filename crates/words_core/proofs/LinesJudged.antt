@@ -12,7 +12,7 @@ use Rattle.command_core.specs.Command.{CommandLine}
 use Rattle.command_core.specs.Operands.{first_refused_operand, allows_one_more_operand, is_operand_of_kind}
 use Rattle.command_core.specs.Values.{is_required_value_missing}
 use Rattle.words_core.specs.declared.reading.Reading.{Reading}
-use Rattle.words_core.specs.Grammar.{command_of_reading, command_from_reading_parts, lacks_operand, place_of_refused_operand}
+use Rattle.words_core.specs.Grammar.{command_of_reading_with_end_place, command_from_end_place_and_reading, lacks_operand_or_kind_flag, place_of_refused_operand}
 
 -- there is room for one more where as many more fit
 pub room_by : (most : Option ℕ) (before more : ℕ) → is_count_within_limit most (before + (more + 1)) ≡ true → allows_one_more_operand most before ≡ true
@@ -46,7 +46,7 @@ has_parts c h =
 -- the operands are taken, and none is lacking
 pub record AreTaken (rule : Option OperandRule) (operands : List Operand) : Type 0 where
   pub taken : place_of_refused_operand rule operands ≡ None
-  pub enough : lacks_operand rule operands ≡ false
+  pub enough : lacks_operand_or_kind_flag rule operands ≡ false
 
 pub operands_taken : (rule : Option OperandRule) (operands : List Operand) → are_allowed_operands rule operands ≡ true → AreTaken rule operands
 operands_taken None operands h = absurd (false≢true h)
@@ -59,9 +59,9 @@ operands_taken (Some rule) operands h =
       enough = le-ltb (length operands) rule.least (leb-true rule.least (length operands) count.0);
     }
 
-pub sound_judged : (behind : ℕ) (applet : Applet) (reading : Reading) → reading.unread ≡ None → is_valid_command (command_from_reading_parts behind applet reading) ≡ true → command_of_reading behind applet reading ≡ Ok (command_from_reading_parts behind applet reading)
-unfolding command_of_reading
+pub sound_judged : (behind : ℕ) (applet : Applet) (reading : Reading) → reading.unread ≡ None → is_valid_command (command_from_end_place_and_reading behind applet reading) ≡ true → command_of_reading_with_end_place behind applet reading ≡ Ok (command_from_end_place_and_reading behind applet reading)
+unfolding command_of_reading_with_end_place
 sound_judged behind applet reading u s =
-    let parts = has_parts (command_from_reading_parts behind applet reading) s in
+    let parts = has_parts (command_from_end_place_and_reading behind applet reading) s in
     let taken = operands_taken (operand_rule applet reading.state.flags) reading.operands parts.operands in
     rw taken.taken (rw u (rw taken.enough (rw (not-true (is_required_value_missing (required_option_letter applet) reading.state.values) parts.needed) refl)))

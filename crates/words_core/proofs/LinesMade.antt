@@ -12,7 +12,7 @@ use Rattle.command_core.specs.declared.command.Flags.{Flags}
 use Rattle.command_core.specs.declared.operands.Operand.{Operand}
 use Rattle.command_core.specs.declared.values.OptionValue.{OptionValue}
 use Rattle.command_core.specs.declared.values.ValueRule.{ValueRule}
-use Rattle.command_core.specs.Sound.{may_have_flags, value_rules, is_valid_command, are_allowed_values, rule_for}
+use Rattle.command_core.specs.Sound.{may_have_flags, value_rules, is_valid_command, are_allowed_values, value_rule_of_letter}
 use Rattle.command_core.specs.Command.{CommandLine, command_from_parts}
 use Rattle.command_core.specs.Flags.{no_flags}
 use Rattle.command_core.specs.Operands.{operand_at}
@@ -23,7 +23,7 @@ use Rattle.words_core.specs.declared.reading.AppletSite.{AppletSite}
 use Rattle.words_core.specs.declared.reading.OptionState.{OptionState}
 use Rattle.words_core.specs.declared.reading.Reading.{Reading}
 use Rattle.words_core.specs.declared.reading.Start.{Start}
-use Rattle.words_core.specs.Grammar.{applet_site, spelled_command_from_start, command_from_reading_parts, flags_with_early_options, option_state_at_start, attached_value, is_double_dash, is_option, spelled_command, start_of_command_line, operands_of, option_name, option_reading, or_err_at, reading_after_applet, words_reading_from_parts, awaited_rule, value_rule_of_meaning, value_rule_unless_attached, applet_site_of_word, applet_site_after_double_dash, applet_site_from_parts, start_from_parts, start_after_site, start_with_early_flags, option_state_from_parts, command_of_reading, flags_with_meaning, state_with_meaning, flags_with_option_word, flags_with_option, with_option_word, with_word_as_option_or_value}
+use Rattle.words_core.specs.Grammar.{applet_site, spelled_command_by_start, command_from_end_place_and_reading, flags_with_early_options, option_state_at_start, attached_value, is_double_dash, is_option, spelled_command, start_of_command_line, words_as_operands_from_place, option_name, reading_of_words_from_place, or_err_at, reading_of_rest_of_command_words, words_reading_from_parts, awaited_rule, value_rule_of_meaning, value_rule_unless_attached, applet_site_of_word, applet_site_after_double_dash, applet_site_from_parts, start_from_parts, start_by_applet_site, start_with_early_flags, option_state_from_parts, command_of_reading_with_end_place, flags_with_meaning, state_with_meaning, flags_with_option_word, flags_with_option, with_option_word, with_word_as_option_or_value}
 use Rattle.words_core.specs.Lines.{AreWordsOfCommand, flags_after, flags_with_held_meaning, operand_words, attached_values, words_that_are_options, may_precede_applet, values_of}
 use Rattle.words_core.specs.Options.{OptionSpec, applet_of, common_options, early_option_words, is_early_option_word, option_of_word, options_of}
 use Rattle.words_core.proofs.GivenKept.{IsOwn, all_own, found_own}
@@ -38,19 +38,19 @@ pub record IsMade (applet : Applet) (state : OptionState) (more : Flags) (all : 
   pub flags : flags_after (options_of applet) state.flags (words_that_are_options (options_of applet) rule words) ≡ Some more
   pub values : option_map (λ vs. state.values ++ vs) (values_of (options_of applet) rule place words) ≡ Some all
   pub awaiting : state.awaiting ≡ rule
-  pub own : (r : ValueRule) → rule ≡ Some r → rule_for (value_rules applet) r.letter ≡ Some r
+  pub own : (r : ValueRule) → rule ≡ Some r → value_rule_of_letter (value_rules applet) r.letter ≡ Some r
 
 pub given_is : (state : OptionState) (more : Flags) (all : List OptionValue) → state.flags ≡ more → state.values ≡ all → state.awaiting ≡ None → state ≡ option_state_from_parts more all None
 given_is state more all f v a =
     ap (λ x. option_state_from_parts x state.values state.awaiting) f ∙ (ap (λ x. option_state_from_parts more x state.awaiting) v ∙ ap (λ x. option_state_from_parts more all x) a)
 
-pub no_own : (applet : Applet) (r : ValueRule) → None ≡ Some r → rule_for (value_rules applet) r.letter ≡ Some r
+pub no_own : (applet : Applet) (r : ValueRule) → None ≡ Some r → value_rule_of_letter (value_rules applet) r.letter ≡ Some r
 no_own applet r h = absurd (none-some r h)
 
 -- the reading of words that are made so
 abbrev pub ReadsOldOrReplaced : Applet → OptionState → Flags → List OptionValue → ℕ → List (List ℕ) → Option ValueRule → Type 0
 ReadsOldOrReplaced applet state more all place words rule =
-    option_reading (options_of applet) state place words ≡ words_reading_from_parts (option_state_from_parts more all None) (operand_words (options_of applet) rule place words) None
+    reading_of_words_from_place (options_of applet) state place words ≡ words_reading_from_parts (option_state_from_parts more all None) (operand_words (options_of applet) rule place words) None
 
 pub made_empty : (applet : Applet) (state : OptionState) (more : Flags) (all : List OptionValue) (place : ℕ) (rule : Option ValueRule) → IsMade applet state more all place [] rule → ReadsOldOrReplaced applet state more all place [] rule
 made_empty applet state more all place None made =
@@ -133,11 +133,11 @@ room_for applet state all place words (Some text) (Value rule) own are h =
     fits_in (value_rules applet) rule text place state.values inner.more own
     (subst (λ vs. are_allowed_values (value_rules applet) vs ≡ true) (sym (ap (λ vs. state.values ++ vs) inner.same ∙ outer.same)) are)
 
-pub own_rule : (applet : Applet) (held : Option (List ℕ)) (meaning : Meaning) (r : ValueRule) → IsOwn applet meaning → value_rule_unless_attached held (value_rule_of_meaning meaning) ≡ Some r → rule_for (value_rules applet) r.letter ≡ Some r
+pub own_rule : (applet : Applet) (held : Option (List ℕ)) (meaning : Meaning) (r : ValueRule) → IsOwn applet meaning → value_rule_unless_attached held (value_rule_of_meaning meaning) ≡ Some r → value_rule_of_letter (value_rules applet) r.letter ≡ Some r
 own_rule applet (Some text) meaning r own h = absurd (none-some r h)
 own_rule applet None (Plain flag) r own h = absurd (none-some r h)
 own_rule applet None (Kind flag) r own h = absurd (none-some r h)
-own_rule applet None (Value rule) r own h = subst (λ (x : ValueRule). rule_for (value_rules applet) x.letter ≡ Some x) (same_Some rule r h) own
+own_rule applet None (Value rule) r own h = subst (λ (x : ValueRule). value_rule_of_letter (value_rules applet) x.letter ≡ Some x) (same_Some rule r h) own
 
 pub made_option : (applet : Applet) (state : OptionState) (more : Flags) (all : List OptionValue) (place : ℕ) (word : List ℕ) (words : List (List ℕ)) → may_have_flags applet more ≡ true → are_allowed_values (value_rules applet) all ≡ true → is_double_dash word ≡ false → is_option word ≡ true → ((next : OptionState) (r : Option ValueRule) → IsMade applet next more all (place + 1) words r → ReadsOldOrReplaced applet next more all (place + 1) words r) → IsMade applet state more all place (word ∷ words) None → ReadsOldOrReplaced applet state more all place (word ∷ words) None
 made_option applet state more all place word words m are e o rest made =
@@ -190,7 +190,7 @@ made_end applet state more all place word words e made =
     let flags = same_Some state.flags more (sym (ap (flags_after options state.flags) (options_end options word words e)) ∙ made.flags) in
     let values = sym (append-nil state.values) ∙ same_Some (state.values ++ []) all (sym (ap (option_map (λ vs. state.values ++ vs)) (values_end options place word words e)) ∙ made.values) in
     step_end options state place word words (end_kept state word made.awaiting e) e
-    ∙ (ap (λ g. words_reading_from_parts g (operands_of (place + 1) words) None) (given_is state more all flags values made.awaiting)
+    ∙ (ap (λ g. words_reading_from_parts g (words_as_operands_from_place (place + 1) words) None) (given_is state more all flags values made.awaiting)
     ∙ ap (λ os. words_reading_from_parts (option_state_from_parts more all None) os None) (sym (free_end options place word words e)))
 
 pub made_free : (applet : Applet) (state : OptionState) (more : Flags) (all : List OptionValue) (place : ℕ) (word : List ℕ) (words : List (List ℕ)) → is_double_dash word ≡ false → is_option word ≡ false → (IsMade applet state more all (place + 1) words None → ReadsOldOrReplaced applet state more all (place + 1) words None) → IsMade applet state more all place (word ∷ words) None → ReadsOldOrReplaced applet state more all place (word ∷ words) None
@@ -237,7 +237,7 @@ free_place options None place (word ∷ words) first rest h =
       ] refl
     ] refl
   where
-    by_operands : (left : List (List ℕ)) → operands_of (place + 1) left ≡ first ∷ rest → place ≤ first.place
+    by_operands : (left : List (List ℕ)) → words_as_operands_from_place (place + 1) left ≡ first ∷ rest → place ≤ first.place
     by_operands [] e = absurd (cc)
     by_operands (next ∷ left) e = (let same : place + 1 ≡ first.place = ap (λ (x : Operand). x.place) (same_head (operand_at (place + 1) next) first _ rest e) in omega arith)
 
@@ -253,7 +253,7 @@ pub record IsFound (applet : Applet) (flags : Flags) (place : ℕ) (words : List
   pub more : Flags
   pub early : flags_with_early_options (options_of applet) flags place (take (read - place) words) ≡ Ok more
 
-after_end_found : (place : ℕ) (words : List (List ℕ)) (first : Operand) (rest : List Operand) (applet : Applet) → applet_of first.text ≡ Some applet → operands_of place words ≡ first ∷ rest → (first.place ≡ place) × (applet_site_after_double_dash place words ≡ Ok (applet_site_from_parts true place applet))
+after_end_found : (place : ℕ) (words : List (List ℕ)) (first : Operand) (rest : List Operand) (applet : Applet) → applet_of first.text ≡ Some applet → words_as_operands_from_place place words ≡ first ∷ rest → (first.place ≡ place) × (applet_site_after_double_dash place words ≡ Ok (applet_site_from_parts true place applet))
 unfolding applet_site_after_double_dash
 after_end_found place [] first rest applet n h = absurd (cc)
 after_end_found place (word ∷ words) first rest applet n h = (
@@ -351,12 +351,12 @@ site_found flags all place (word ∷ words) first rest applet n h early says =
         }
 
 -- the words behind the applet are read
-pub from_made : (start : Start) (more : Flags) (all : List OptionValue) (words : List (List ℕ)) → flags_after (options_of start.applet) start.flags (option_rest start.ended (options_of start.applet) (drop start.read words)) ≡ Some more → value_rest start.ended (options_of start.applet) (start.read + 1) (drop start.read words) ≡ Some all → may_have_flags start.applet more ≡ true → are_allowed_values (value_rules start.applet) all ≡ true → reading_after_applet start words ≡ words_reading_from_parts (option_state_from_parts more all None) (free_rest start.ended (options_of start.applet) (start.read + 1) (drop start.read words)) None
-unfolding reading_after_applet
+pub from_made : (start : Start) (more : Flags) (all : List OptionValue) (words : List (List ℕ)) → flags_after (options_of start.applet) start.flags (option_rest start.ended (options_of start.applet) (drop start.read words)) ≡ Some more → value_rest start.ended (options_of start.applet) (start.read + 1) (drop start.read words) ≡ Some all → may_have_flags start.applet more ≡ true → are_allowed_values (value_rules start.applet) all ≡ true → reading_of_rest_of_command_words start words ≡ words_reading_from_parts (option_state_from_parts more all None) (free_rest start.ended (options_of start.applet) (start.read + 1) (drop start.read words)) None
+unfolding reading_of_rest_of_command_words
 from_made start more all words f v m are =
     let options = options_of start.applet in
-    elim start.ended as (λ b. flags_after options start.flags (option_rest b options (drop start.read words)) ≡ Some more → value_rest b options (start.read + 1) (drop start.read words) ≡ Some all → (if b then words_reading_from_parts (option_state_at_start start.flags) (operands_of (start.read + 1) (drop start.read words)) None else option_reading options (option_state_at_start start.flags) (start.read + 1) (drop start.read words)) ≡ words_reading_from_parts (option_state_from_parts more all None) (free_rest b options (start.read + 1) (drop start.read words)) None) [
-      | true ↦ λ (h : Some start.flags ≡ Some more) (w : Some [] ≡ Some all). ap (λ g. words_reading_from_parts g (operands_of (start.read + 1) (drop start.read words)) None) (given_is (option_state_at_start start.flags) more all (same_Some start.flags more h) (same_Some [] all w) refl)
+    elim start.ended as (λ b. flags_after options start.flags (option_rest b options (drop start.read words)) ≡ Some more → value_rest b options (start.read + 1) (drop start.read words) ≡ Some all → (if b then words_reading_from_parts (option_state_at_start start.flags) (words_as_operands_from_place (start.read + 1) (drop start.read words)) None else reading_of_words_from_place options (option_state_at_start start.flags) (start.read + 1) (drop start.read words)) ≡ words_reading_from_parts (option_state_from_parts more all None) (free_rest b options (start.read + 1) (drop start.read words)) None) [
+      | true ↦ λ (h : Some start.flags ≡ Some more) (w : Some [] ≡ Some all). ap (λ g. words_reading_from_parts g (words_as_operands_from_place (start.read + 1) (drop start.read words)) None) (given_is (option_state_at_start start.flags) more all (same_Some start.flags more h) (same_Some [] all w) refl)
       | false ↦ λ h w. reading_made start.applet more all m are (start.read + 1) (drop start.read words) (option_state_at_start start.flags) None (record {
         flags = h;
         values = values_same (values_of options None (start.read + 1) (drop start.read words)) ∙ w;
@@ -371,9 +371,9 @@ made_line words command line =
     let found = site_found no_flags command.flags 1 words line.applet command.operands command.applet line.names line.free line.early line.flags in
     let site : AppletSite = applet_site_from_parts found.ended line.applet.place command.applet in
     by_start (start_from_parts site found.more) refl
-    (ap (start_after_site words) found.is ∙ ap (start_with_early_flags site) found.early)
+    (ap (start_by_applet_site words) found.is ∙ ap (start_with_early_flags site) found.early)
   where
-    by_start : (start : Start) → start.applet ≡ command.applet → start_of_command_line words ≡ Ok start → spelled_command_from_start words (start_of_command_line words) ≡ Ok command
+    by_start : (start : Start) → start.applet ≡ command.applet → start_of_command_line words ≡ Ok start → spelled_command_by_start words (start_of_command_line words) ≡ Ok command
     by_start start applet s =
         let options = options_of start.applet in
         let from : IsFrom no_flags 1 words start = line_from words start s in
@@ -385,13 +385,13 @@ made_line words command line =
         let give : values_of options None 1 words ≡ Some command.values = subst (λ a. values_of (options_of a) None 1 words ≡ Some command.values) (sym applet) line.values in
         let values : value_rest start.ended options (start.read + 1) (drop start.read words) ≡ Some command.values = ap (λ n. value_rest start.ended options (start.read + 1) (drop n words)) (sym at) ∙ (sym from.values ∙ give) in
         let whole : Reading = words_reading_from_parts (option_state_from_parts command.flags command.values None) command.operands None in
-        let sound : is_valid_command (command_from_reading_parts (length words + 1) start.applet whole) ≡ true =
+        let sound : is_valid_command (command_from_end_place_and_reading (length words + 1) start.applet whole) ≡ true =
         subst (λ a. is_valid_command (command_from_parts a command.flags command.operands command.values (length words + 1)) ≡ true) (sym applet)
         (ap (λ n. is_valid_command (command_from_parts command.applet command.flags command.operands command.values n)) (sym line.behind) ∙ line.sound) in
-        let parts = has_parts (command_from_reading_parts (length words + 1) start.applet whole) sound in
-        let read : reading_after_applet start words ≡ whole = from_made start command.flags command.values words flags values parts.flags parts.values ∙ ap (λ os. words_reading_from_parts (option_state_from_parts command.flags command.values None) os None) operands in
-        ap (spelled_command_from_start words) s
-        ∙ (ap (command_of_reading (length words + 1) start.applet) read
+        let parts = has_parts (command_from_end_place_and_reading (length words + 1) start.applet whole) sound in
+        let read : reading_of_rest_of_command_words start words ≡ whole = from_made start command.flags command.values words flags values parts.flags parts.values ∙ ap (λ os. words_reading_from_parts (option_state_from_parts command.flags command.values None) os None) operands in
+        ap (spelled_command_by_start words) s
+        ∙ (ap (command_of_reading_with_end_place (length words + 1) start.applet) read
         ∙ (sound_judged (length words + 1) start.applet whole refl sound
-        ∙ (ap (λ a. Ok (command_from_reading_parts (length words + 1) a whole)) applet
-        ∙ ap (λ n. Ok (command_from_reading_parts n command.applet whole)) (sym line.behind))))
+        ∙ (ap (λ a. Ok (command_from_end_place_and_reading (length words + 1) a whole)) applet
+        ∙ ap (λ n. Ok (command_from_end_place_and_reading n command.applet whole)) (sym line.behind))))

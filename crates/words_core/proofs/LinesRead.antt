@@ -26,7 +26,7 @@ use Rattle.words_core.specs.declared.reading.AppletSite.{AppletSite}
 use Rattle.words_core.specs.declared.reading.OptionState.{OptionState}
 use Rattle.words_core.specs.declared.reading.Reading.{Reading}
 use Rattle.words_core.specs.declared.reading.Start.{Start}
-use Rattle.words_core.specs.Grammar.{applet_site, spelled_command_from_start, command_from_reading_parts, flags_with_early_options, option_state_at_start, attached_value, is_double_dash, is_option, is_option_or_value, lacks_operand, lacks_operand_or_required_value, spelled_command, start_of_command_line, operands_of, option_name, option_reading, or_err_at, or_stop_at_unread_word, reading_after_applet, words_reading_from_parts, place_of_refused_operand, value_rule_of_word, awaited_rule, value_rule_of_meaning, value_rule_unless_attached, applet_site_of_word, applet_site_after_double_dash, applet_site_from_parts, start_from_parts, option_state_from_parts, unless_refused_at, command_of_reading, with_flags_if_some, with_value_or_awaited, flags_with_meaning, state_with_meaning, with_operand, flags_with_option_word, flags_with_option, with_option_word, with_option_value, with_option_or_value_word, with_word_as_option_or_value}
+use Rattle.words_core.specs.Grammar.{applet_site, spelled_command_by_start, command_from_end_place_and_reading, flags_with_early_options, option_state_at_start, attached_value, is_double_dash, is_option, is_option_or_value, lacks_operand_or_kind_flag, lacks_operand_or_required_value, spelled_command, start_of_command_line, words_as_operands_from_place, option_name, reading_of_words_from_place, or_err_at, or_stop_at_unread_word, reading_of_rest_of_command_words, words_reading_from_parts, place_of_refused_operand, value_rule_of_word, awaited_rule, value_rule_of_meaning, value_rule_unless_attached, applet_site_of_word, applet_site_after_double_dash, applet_site_from_parts, start_from_parts, option_state_from_parts, unless_refused_at, command_of_reading_with_end_place, with_flags_if_some, with_value_or_awaited, flags_with_meaning, state_with_meaning, with_operand_in_front, flags_with_option_word, flags_with_option, with_option_word, with_option_value, with_option_or_value_word, with_word_as_option_or_value}
 use Rattle.words_core.specs.Lines.{AreWordsOfCommand, flags_after, flags_with_held_meaning, operand_words, attached_values, words_that_are_options, may_precede_applet, values_of}
 use Rattle.words_core.specs.Options.{OptionSpec, applet_of, early_option_words, is_early_option_word, option_of_word, options_of}
 use Rattle.words_core.specs.Steps.{IsSoundReading}
@@ -36,13 +36,13 @@ use Rattle.words_core.proofs.Sites.{flags_end, flags_step}
 use Rattle.words_core.proofs.WhatIsRead.{taken_sound}
 
 -- one more word behind the applet
-pub step_taken : (options : List OptionSpec) (state : OptionState) (place : ℕ) (word : List ℕ) (words : List (List ℕ)) (more : Option OptionState) → is_option_or_value state word ≡ true → with_option_or_value_word options state place word ≡ more → option_reading options state place (word ∷ words) ≡ or_stop_at_unread_word state place (λ m. option_reading options m (place + 1) words) more
+pub step_taken : (options : List OptionSpec) (state : OptionState) (place : ℕ) (word : List ℕ) (words : List (List ℕ)) (more : Option OptionState) → is_option_or_value state word ≡ true → with_option_or_value_word options state place word ≡ more → reading_of_words_from_place options state place (word ∷ words) ≡ or_stop_at_unread_word state place (λ m. reading_of_words_from_place options m (place + 1) words) more
 step_taken options state place word words more t w = rw t (rw w refl)
 
-pub step_end : (options : List OptionSpec) (state : OptionState) (place : ℕ) (word : List ℕ) (words : List (List ℕ)) → is_option_or_value state word ≡ false → is_double_dash word ≡ true → option_reading options state place (word ∷ words) ≡ words_reading_from_parts state (operands_of (place + 1) words) None
+pub step_end : (options : List OptionSpec) (state : OptionState) (place : ℕ) (word : List ℕ) (words : List (List ℕ)) → is_option_or_value state word ≡ false → is_double_dash word ≡ true → reading_of_words_from_place options state place (word ∷ words) ≡ words_reading_from_parts state (words_as_operands_from_place (place + 1) words) None
 step_end options state place word words t e = rw t (rw e refl)
 
-pub step_free : (options : List OptionSpec) (state : OptionState) (place : ℕ) (word : List ℕ) (words : List (List ℕ)) → is_option_or_value state word ≡ false → is_double_dash word ≡ false → option_reading options state place (word ∷ words) ≡ with_operand (operand_at place word) (option_reading options state (place + 1) words)
+pub step_free : (options : List OptionSpec) (state : OptionState) (place : ℕ) (word : List ℕ) (words : List (List ℕ)) → is_option_or_value state word ≡ false → is_double_dash word ≡ false → reading_of_words_from_place options state place (word ∷ words) ≡ with_operand_in_front (operand_at place word) (reading_of_words_from_place options state (place + 1) words)
 step_free options state place word words t e = rw t (rw e refl)
 
 -- which words are taken
@@ -63,7 +63,7 @@ pub free_kept : (state : OptionState) (word : List ℕ) → state.awaiting ≡ N
 free_kept state word a o = rw a (rw o refl)
 
 -- the words that are no options, and those that are, at one more word
-pub free_end : (options : List OptionSpec) (place : ℕ) (word : List ℕ) (words : List (List ℕ)) → is_double_dash word ≡ true → operand_words options None place (word ∷ words) ≡ operands_of (place + 1) words
+pub free_end : (options : List OptionSpec) (place : ℕ) (word : List ℕ) (words : List (List ℕ)) → is_double_dash word ≡ true → operand_words options None place (word ∷ words) ≡ words_as_operands_from_place (place + 1) words
 free_end options place word words e = rw e refl
 
 pub free_option : (options : List OptionSpec) (place : ℕ) (word : List ℕ) (words : List (List ℕ)) → is_double_dash word ≡ false → is_option word ≡ true → operand_words options None place (word ∷ words) ≡ operand_words options (awaited_rule options word) (place + 1) words
@@ -170,7 +170,7 @@ IsWellFormed reading free flags before values =
 -- .. at words, where an option may await its value
 abbrev pub IsWholeAt : List OptionSpec → OptionState → ℕ → List (List ℕ) → Option ValueRule → Type 0
 IsWholeAt options state place words rule =
-    IsWellFormed (option_reading options state place words) (operand_words options rule place words) (flags_after options state.flags (words_that_are_options options rule words)) state.values (values_of options rule place words)
+    IsWellFormed (reading_of_words_from_place options state place words) (operand_words options rule place words) (flags_after options state.flags (words_that_are_options options rule words)) state.values (values_of options rule place words)
 
 pub unread_not : (state : OptionState) (place : ℕ) (free : List Operand) (flags : Option Flags) (before : List OptionValue) (values : Option (List OptionValue)) → IsWellFormed (words_reading_from_parts state [] (Some place)) free flags before values
 unread_not state place free flags before values h = absurd (none-some place (sym h))
@@ -183,7 +183,7 @@ whole_empty options state place (Some rule) a h = absurd (none-some place (sym (
 pub whole_value : (options : List OptionSpec) (state : OptionState) (place : ℕ) (word : List ℕ) (words : List (List ℕ)) (rule : ValueRule) → state.awaiting ≡ Some rule → ((more : OptionState) → IsWholeAt options more (place + 1) words more.awaiting) → IsWholeAt options state place (word ∷ words) (Some rule)
 whole_value options state place word words rule a rest = by_value (with_option_value state place word rule) refl
   where
-    taken : (o : Option OptionState) → with_option_value state place word rule ≡ o → option_reading options state place (word ∷ words) ≡ or_stop_at_unread_word state place (λ m. option_reading options m (place + 1) words) o
+    taken : (o : Option OptionState) → with_option_value state place word rule ≡ o → reading_of_words_from_place options state place (word ∷ words) ≡ or_stop_at_unread_word state place (λ m. reading_of_words_from_place options m (place + 1) words) o
     taken o w = step_taken options state place word words o (awaited_taken state word rule a) (ap (with_word_as_option_or_value options state place word) a ∙ w)
 
     free : List Operand
@@ -196,10 +196,10 @@ whole_value options state place word words rule a rest = by_value (with_option_v
         says : option_state_from_parts state.flags (state.values ++ (option_value_from_place_and_letter place rule.letter word ∷ [])) None ≡ more
         says = value_says state more place word rule w
 
-        behind_it : IsWellFormed (option_reading options more (place + 1) words) (operand_words options None (place + 1) words) (flags_after options state.flags (words_that_are_options options None words)) state.values (values_of options (Some rule) place (word ∷ words))
+        behind_it : IsWellFormed (reading_of_words_from_place options more (place + 1) words) (operand_words options None (place + 1) words) (flags_after options state.flags (words_that_are_options options None words)) state.values (values_of options (Some rule) place (word ∷ words))
         behind_it h =
-            let left : IsWellFormed (option_reading options more (place + 1) words) (operand_words options None (place + 1) words) (flags_after options state.flags (words_that_are_options options None words)) (state.values ++ (option_value_from_place_and_letter place rule.letter word ∷ [])) (values_of options None (place + 1) words) =
-            subst (λ (g : OptionState). IsWellFormed (option_reading options more (place + 1) words) (operand_words options g.awaiting (place + 1) words) (flags_after options g.flags (words_that_are_options options g.awaiting words)) g.values (values_of options g.awaiting (place + 1) words)) (sym says) (rest more) in
+            let left : IsWellFormed (reading_of_words_from_place options more (place + 1) words) (operand_words options None (place + 1) words) (flags_after options state.flags (words_that_are_options options None words)) (state.values ++ (option_value_from_place_and_letter place rule.letter word ∷ [])) (values_of options None (place + 1) words) =
+            subst (λ (g : OptionState). IsWellFormed (reading_of_words_from_place options more (place + 1) words) (operand_words options g.awaiting (place + 1) words) (flags_after options g.flags (words_that_are_options options g.awaiting words)) g.values (values_of options g.awaiting (place + 1) words)) (sym says) (rest more) in
             let all = left h in
             (all.0, all.1, one_joined state.values (option_value_from_place_and_letter place rule.letter word) (values_of options None (place + 1) words) ∙ all.2)
 
@@ -207,10 +207,10 @@ whole_value options state place word words rule a rest = by_value (with_option_v
 pub whole_option : (options : List OptionSpec) (state : OptionState) (place : ℕ) (word : List ℕ) (words : List (List ℕ)) → state.awaiting ≡ None → is_double_dash word ≡ false → is_option word ≡ true → ((more : OptionState) → IsWholeAt options more (place + 1) words more.awaiting) → IsWholeAt options state place (word ∷ words) None
 whole_option options state place word words a e o rest = by_option (with_option_word options state place word) refl
   where
-    taken : (x : Option OptionState) → with_option_word options state place word ≡ x → option_reading options state place (word ∷ words) ≡ or_stop_at_unread_word state place (λ m. option_reading options m (place + 1) words) x
+    taken : (x : Option OptionState) → with_option_word options state place word ≡ x → reading_of_words_from_place options state place (word ∷ words) ≡ or_stop_at_unread_word state place (λ m. reading_of_words_from_place options m (place + 1) words) x
     taken x w = step_taken options state place word words x (option_taken state word a e o) (ap (with_word_as_option_or_value options state place word) a ∙ w)
 
-    by_entry : (more : OptionState) (x : OptionSpec) → option_of_word options (option_name word) ≡ Some x → Says state place (attached_value word) x.meaning more → IsWellFormed (option_reading options more (place + 1) words) (operand_words options None place (word ∷ words)) (flags_after options state.flags (words_that_are_options options None (word ∷ words))) state.values (values_of options None place (word ∷ words))
+    by_entry : (more : OptionState) (x : OptionSpec) → option_of_word options (option_name word) ≡ Some x → Says state place (attached_value word) x.meaning more → IsWellFormed (reading_of_words_from_place options more (place + 1) words) (operand_words options None place (word ∷ words)) (flags_after options state.flags (words_that_are_options options None (word ∷ words))) state.values (values_of options None place (word ∷ words))
     by_entry more x is says h =
         let at : value_rule_of_word options word ≡ value_rule_of_meaning x.meaning = rule_at_is options word x is in
         let awaits : awaited_rule options word ≡ more.awaiting = ap (value_rule_unless_attached (attached_value word)) at ∙ says.awaiting in
@@ -268,7 +268,7 @@ reading_whole options state place (word ∷ words) = whole_word options state pl
 
 -- what is behind the applet, where the options may have ended
 abbrev pub free_rest : Bool → List OptionSpec → ℕ → List (List ℕ) → List Operand
-free_rest true options place words = operands_of place words
+free_rest true options place words = words_as_operands_from_place place words
 free_rest false options place words = operand_words options None place words
 
 abbrev pub option_rest : Bool → List OptionSpec → List (List ℕ) → List (List ℕ)
@@ -280,11 +280,11 @@ value_rest true options place words = Some []
 value_rest false options place words = values_of options None place words
 
 -- what is read behind the applet
-pub from_whole : (start : Start) (words : List (List ℕ)) → IsWellFormed (reading_after_applet start words) (free_rest start.ended (options_of start.applet) (start.read + 1) (drop start.read words)) (flags_after (options_of start.applet) start.flags (option_rest start.ended (options_of start.applet) (drop start.read words))) [] (value_rest start.ended (options_of start.applet) (start.read + 1) (drop start.read words))
-unfolding reading_after_applet
+pub from_whole : (start : Start) (words : List (List ℕ)) → IsWellFormed (reading_of_rest_of_command_words start words) (free_rest start.ended (options_of start.applet) (start.read + 1) (drop start.read words)) (flags_after (options_of start.applet) start.flags (option_rest start.ended (options_of start.applet) (drop start.read words))) [] (value_rest start.ended (options_of start.applet) (start.read + 1) (drop start.read words))
+unfolding reading_of_rest_of_command_words
 from_whole start words =
     let options = options_of start.applet in
-    elim start.ended as (λ b. IsWellFormed (if b then words_reading_from_parts (option_state_at_start start.flags) (operands_of (start.read + 1) (drop start.read words)) None else option_reading options (option_state_at_start start.flags) (start.read + 1) (drop start.read words)) (free_rest b options (start.read + 1) (drop start.read words)) (flags_after options start.flags (option_rest b options (drop start.read words))) [] (value_rest b options (start.read + 1) (drop start.read words))) [
+    elim start.ended as (λ b. IsWellFormed (if b then words_reading_from_parts (option_state_at_start start.flags) (words_as_operands_from_place (start.read + 1) (drop start.read words)) None else reading_of_words_from_place options (option_state_at_start start.flags) (start.read + 1) (drop start.read words)) (free_rest b options (start.read + 1) (drop start.read words)) (flags_after options start.flags (option_rest b options (drop start.read words))) [] (value_rest b options (start.read + 1) (drop start.read words))) [
       | true ↦ λ h. (refl, refl, refl)
       | false ↦ reading_whole options (option_state_at_start start.flags) (start.read + 1) (drop start.read words)
     ]
@@ -518,13 +518,13 @@ line_from words start s =
 -- a command that is judged good
 pub record IsJudged (behind : ℕ) (applet : Applet) (reading : Reading) (command : CommandLine) : Type 0 where
   pub whole : reading.unread ≡ None
-  pub same : command_from_reading_parts behind applet reading ≡ command
-  pub sound : is_valid_command (command_from_reading_parts behind applet reading) ≡ true
+  pub same : command_from_end_place_and_reading behind applet reading ≡ command
+  pub sound : is_valid_command (command_from_end_place_and_reading behind applet reading) ≡ true
 
-pub judged_good : (behind : ℕ) (applet : Applet) (reading : Reading) (command : CommandLine) → IsSoundReading applet reading → command_of_reading behind applet reading ≡ Ok command → IsJudged behind applet reading command
-unfolding command_of_reading
+pub judged_good : (behind : ℕ) (applet : Applet) (reading : Reading) (command : CommandLine) → IsSoundReading applet reading → command_of_reading_with_end_place behind applet reading ≡ Ok command → IsJudged behind applet reading command
+unfolding command_of_reading_with_end_place
 judged_good behind applet reading command m j =
-    elim (operand_rule applet reading.state.flags) as (λ r. operand_rule applet reading.state.flags ≡ r → unless_refused_at (option_or (place_of_refused_operand r reading.operands) reading.unread) (if lacks_operand_or_required_value applet r reading then Err behind else Ok (command_from_reading_parts behind applet reading)) ≡ Ok command → IsJudged behind applet reading command) [
+    elim (operand_rule applet reading.state.flags) as (λ r. operand_rule applet reading.state.flags ≡ r → unless_refused_at (option_or (place_of_refused_operand r reading.operands) reading.unread) (if lacks_operand_or_required_value applet r reading then Err behind else Ok (command_from_end_place_and_reading behind applet reading)) ≡ Ok command → IsJudged behind applet reading command) [
       | None ↦ λ r h. absurd (no_kind reading.unread h)
       | Some rule ↦ λ r h. by_rule rule r (place_of_refused_operand (Some rule) reading.operands) refl reading.unread refl (lacks_operand_or_required_value applet (Some rule) reading) refl h
     ] refl j
@@ -533,13 +533,13 @@ judged_good behind applet reading command m j =
     no_kind None h = cc
     no_kind (Some place) h = cc
 
-    by_rule : (rule : OperandRule) → operand_rule applet reading.state.flags ≡ Some rule → (refused : Option ℕ) → place_of_refused_operand (Some rule) reading.operands ≡ refused → (unread : Option ℕ) → reading.unread ≡ unread → (lacking : Bool) → lacks_operand_or_required_value applet (Some rule) reading ≡ lacking → unless_refused_at (option_or refused unread) (if lacking then Err behind else Ok (command_from_reading_parts behind applet reading)) ≡ Ok command → IsJudged behind applet reading command
+    by_rule : (rule : OperandRule) → operand_rule applet reading.state.flags ≡ Some rule → (refused : Option ℕ) → place_of_refused_operand (Some rule) reading.operands ≡ refused → (unread : Option ℕ) → reading.unread ≡ unread → (lacking : Bool) → lacks_operand_or_required_value applet (Some rule) reading ≡ lacking → unless_refused_at (option_or refused unread) (if lacking then Err behind else Ok (command_from_end_place_and_reading behind applet reading)) ≡ Ok command → IsJudged behind applet reading command
     by_rule rule r (Some place) f unread u lacking l h = absurd (cc)
     by_rule rule r None f (Some place) u lacking l h = absurd (cc)
     by_rule rule r None f None u true l h = absurd (cc)
     by_rule rule r None f None u false l h =
         let flags = reading.state.flags in
-        let enough = or_parts (lacks_operand (Some rule) reading.operands) (is_required_value_missing (required_option_letter applet) reading.state.values) l in
+        let enough = or_parts (lacks_operand_or_kind_flag (Some rule) reading.operands) (is_required_value_missing (required_option_letter applet) reading.state.values) l in
         record {
           whole = u;
           same = cc;
@@ -549,16 +549,16 @@ judged_good behind applet reading command m j =
 pub read_line : (words : List (List ℕ)) (command : CommandLine) → spelled_command words ≡ Ok command → AreWordsOfCommand words command
 unfolding spelled_command
 read_line words command c =
-    elim (start_of_command_line words) as (λ s. start_of_command_line words ≡ s → spelled_command_from_start words s ≡ Ok command → AreWordsOfCommand words command) [
+    elim (start_of_command_line words) as (λ s. start_of_command_line words ≡ s → spelled_command_by_start words s ≡ Ok command → AreWordsOfCommand words command) [
       | Err place ↦ λ s h. absurd (cc)
       | Ok start ↦ λ s h. by_start start s h
     ] refl c
   where
-    by_start : (start : Start) → start_of_command_line words ≡ Ok start → command_of_reading (length words + 1) start.applet (reading_after_applet start words) ≡ Ok command → AreWordsOfCommand words command
+    by_start : (start : Start) → start_of_command_line words ≡ Ok start → command_of_reading_with_end_place (length words + 1) start.applet (reading_of_rest_of_command_words start words) ≡ Ok command → AreWordsOfCommand words command
     by_start start s h =
         let options = options_of start.applet in
         let from : IsFrom no_flags 1 words start = line_from words start s in
-        let good = judged_good (length words + 1) start.applet (reading_after_applet start words) command (from_kept start (1 + length words) words (start_known words start s)) h in
+        let good = judged_good (length words + 1) start.applet (reading_of_rest_of_command_words start words) command (from_kept start (1 + length words) words (start_known words start s)) h in
         let at : suc from.count ≡ start.read = (let is : start.read ≡ 1 + from.count = from.read in omega arith) in
         let rest = from_whole start words good.whole in
         subst (λ (x : CommandLine). AreWordsOfCommand words x) good.same (record {

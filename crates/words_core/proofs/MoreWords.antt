@@ -21,15 +21,15 @@ use Rattle.command_core.specs.Values.{is_single_and_given}
 use Rattle.words_core.specs.declared.options.Meaning.{Meaning}
 use Rattle.words_core.specs.declared.options.Meaning.TheVariants.{Flag as Plain, Kind, Value}
 use Rattle.words_core.specs.declared.reading.OptionState.{OptionState}
-use Rattle.words_core.specs.Grammar.{attached_value, is_double_dash, is_option_or_value, operands_of, option_name, option_reading, or_stop_at_unread_word, words_reading_from_parts, option_state_from_parts, with_flags_if_some, with_value_or_awaited, flags_with_meaning, state_with_meaning, with_operand, flags_with_option, with_option_or_value_word, with_word_as_option_or_value}
+use Rattle.words_core.specs.Grammar.{attached_value, is_double_dash, is_option_or_value, words_as_operands_from_place, option_name, reading_of_words_from_place, or_stop_at_unread_word, words_reading_from_parts, option_state_from_parts, with_flags_if_some, with_value_or_awaited, flags_with_meaning, state_with_meaning, with_operand_in_front, flags_with_option, with_option_or_value_word, with_word_as_option_or_value}
 use Rattle.words_core.specs.Options.{OptionSpec, common_options, option_of_word, options_of}
 use Rattle.words_core.proofs.KindsKept.{all_from, all_weaken, find_passes, pass_or_none, same_with}
 use Rattle.words_core.proofs.LinesRead.{value_says}
 
-pub operands_append : (place : ℕ) (words more : List (List ℕ)) → operands_of place (words ++ more) ≡ operands_of place words ++ operands_of (place + length words) more
-operands_append place [] more = ap (λ n. operands_of n more) (omega arith)
+pub operands_append : (place : ℕ) (words more : List (List ℕ)) → words_as_operands_from_place place (words ++ more) ≡ words_as_operands_from_place place words ++ words_as_operands_from_place (place + length words) more
+operands_append place [] more = ap (λ n. words_as_operands_from_place n more) (omega arith)
 operands_append place (word ∷ words) more =
-    ap (λ os. operand_at place word ∷ os) (operands_append (place + 1) words more ∙ ap (λ n. operands_of (place + 1) words ++ operands_of n more) (omega arith))
+    ap (λ os. operand_at place word ∷ os) (operands_append (place + 1) words more ∙ ap (λ n. words_as_operands_from_place (place + 1) words ++ words_as_operands_from_place n more) (omega arith))
 
 pub drop_append : (count : ℕ) (words more : List (List ℕ)) → count ≤ length words → drop count (words ++ more) ≡ drop count words ++ more
 drop_append zero words more l = refl
@@ -236,15 +236,15 @@ kept_on : (applet : Applet) (state more : OptionState) (place : ℕ) (word : Lis
 kept_on Info state more place word k w = word_passes has_command_kind_flag (options_of Info) state more place word k (info_passes has_command_kind_flag state.flags k k k k) w
 kept_on applet state more place word k w = refl
 
-pub rule_stays : (applet : Applet) (state : OptionState) (place : ℕ) (words : List (List ℕ)) (rule : OperandRule) → keeps_rule applet state.flags ≡ true → operand_rule applet state.flags ≡ Some rule → operand_rule applet (option_reading (options_of applet) state place words).state.flags ≡ Some rule
+pub rule_stays : (applet : Applet) (state : OptionState) (place : ℕ) (words : List (List ℕ)) (rule : OperandRule) → keeps_rule applet state.flags ≡ true → operand_rule applet state.flags ≡ Some rule → operand_rule applet (reading_of_words_from_place (options_of applet) state place words).state.flags ≡ Some rule
 rule_stays applet state place [] rule k r = r
 rule_stays applet state place (word ∷ words) rule k r =
-    elim (is_option_or_value state word) as (λ b. operand_rule applet (if b then or_stop_at_unread_word state place (λ m. option_reading (options_of applet) m (place + 1) words) (with_option_or_value_word (options_of applet) state place word) else if is_double_dash word then words_reading_from_parts state (operands_of (place + 1) words) None else with_operand (operand_at place word) (option_reading (options_of applet) state (place + 1) words)).state.flags ≡ Some rule) [
-      | true ↦ elim (with_option_or_value_word (options_of applet) state place word) as (λ w. with_option_or_value_word (options_of applet) state place word ≡ w → operand_rule applet (or_stop_at_unread_word state place (λ m. option_reading (options_of applet) m (place + 1) words) w).state.flags ≡ Some rule) [
+    elim (is_option_or_value state word) as (λ b. operand_rule applet (if b then or_stop_at_unread_word state place (λ m. reading_of_words_from_place (options_of applet) m (place + 1) words) (with_option_or_value_word (options_of applet) state place word) else if is_double_dash word then words_reading_from_parts state (words_as_operands_from_place (place + 1) words) None else with_operand_in_front (operand_at place word) (reading_of_words_from_place (options_of applet) state (place + 1) words)).state.flags ≡ Some rule) [
+      | true ↦ elim (with_option_or_value_word (options_of applet) state place word) as (λ w. with_option_or_value_word (options_of applet) state place word ≡ w → operand_rule applet (or_stop_at_unread_word state place (λ m. reading_of_words_from_place (options_of applet) m (place + 1) words) w).state.flags ≡ Some rule) [
         | None ↦ λ w. r
         | Some g ↦ λ w. rule_stays applet g (place + 1) words rule (kept_on applet state g place word k w) (rule_kept applet state g place word rule k w r)
       ] refl
-      | false ↦ elim (is_double_dash word) as (λ b. operand_rule applet (if b then words_reading_from_parts state (operands_of (place + 1) words) None else with_operand (operand_at place word) (option_reading (options_of applet) state (place + 1) words)).state.flags ≡ Some rule) [
+      | false ↦ elim (is_double_dash word) as (λ b. operand_rule applet (if b then words_reading_from_parts state (words_as_operands_from_place (place + 1) words) None else with_operand_in_front (operand_at place word) (reading_of_words_from_place (options_of applet) state (place + 1) words)).state.flags ≡ Some rule) [
         | true ↦ r
         | false ↦ rule_stays applet state (place + 1) words rule k r
       ]

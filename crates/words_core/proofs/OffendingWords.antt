@@ -12,7 +12,7 @@ use Rattle.words_core.specs.declared.reading.AppletSite.{AppletSite}
 use Rattle.words_core.specs.declared.reading.OptionState.{OptionState}
 use Rattle.words_core.specs.declared.reading.Reading.{Reading}
 use Rattle.words_core.specs.declared.reading.Start.{Start}
-use Rattle.words_core.specs.Grammar.{applet_site, spelled_command_from_start, spelled_command, command_from_reading_parts, option_state_at_start, is_double_dash, is_option, is_option_or_value, lacks_operand_or_required_value, start_of_command_line, operands_of, option_reading, or_err_at, or_stop_at_unread_word, reading_after_applet, words_reading_from_parts, reading_at_end_of_words, place_of_refused_operand, applet_site_of_word, applet_site_after_double_dash, applet_site_from_parts, unless_refused_at, command_of_reading, with_operand, with_option_or_value_word}
+use Rattle.words_core.specs.Grammar.{applet_site, spelled_command_by_start, spelled_command, command_from_end_place_and_reading, option_state_at_start, is_double_dash, is_option, is_option_or_value, lacks_operand_or_required_value, start_of_command_line, words_as_operands_from_place, reading_of_words_from_place, or_err_at, or_stop_at_unread_word, reading_of_rest_of_command_words, words_reading_from_parts, reading_at_end_of_words, place_of_refused_operand, applet_site_of_word, applet_site_after_double_dash, applet_site_from_parts, unless_refused_at, command_of_reading_with_end_place, with_operand_in_front, with_option_or_value_word}
 use Rattle.words_core.specs.Options.{OptionSpec, applet_of, is_early_option_word, options_of}
 use Rattle.words_core.proofs.KindsKept.{IsPlain, start_known}
 use Rattle.words_core.proofs.Sites.{IsForeign, foreign_between, no_start}
@@ -29,11 +29,11 @@ pub all_lower : (low lower behind : ℕ) (operands : List Operand) → lower ≤
 all_lower low lower behind [] l h = tt
 all_lower low lower behind (o ∷ os) l h = ((omega (arith, h.0.0), h.0.1), all_lower low lower behind os l h.1)
 
-pub operands_between : (place behind : ℕ) (words : List (List ℕ)) → place + length words ≤ behind → AllBetween place behind (operands_of place words)
+pub operands_between : (place behind : ℕ) (words : List (List ℕ)) → place + length words ≤ behind → AllBetween place behind (words_as_operands_from_place place words)
 operands_between place behind [] l = tt
 operands_between place behind (word ∷ words) l =
     let less : place + 1 + length words ≤ behind = omega arith in
-    ((omega arith, omega arith), all_lower (place + 1) place behind (operands_of (place + 1) words) (omega arith) (operands_between (place + 1) behind words less))
+    ((omega arith, omega arith), all_lower (place + 1) place behind (words_as_operands_from_place (place + 1) words) (omega arith) (operands_between (place + 1) behind words less))
 
 pub refused_between : (rule : OperandRule) (before low behind place : ℕ) (operands : List Operand) → AllBetween low behind operands → first_refused_operand rule before operands ≡ Some place → IsBetween low behind place
 refused_between rule before low behind place [] h e = absurd (none-some place e)
@@ -67,30 +67,30 @@ placed_end state place behind l =
       | Some rule ↦ placed_unread state place behind place (omega arith, omega arith)
     ]
 
-pub reading_placed : (options : List OptionSpec) (state : OptionState) (place behind : ℕ) (words : List (List ℕ)) → place + length words ≤ behind → IsPlaced place behind (option_reading options state place words)
+pub reading_placed : (options : List OptionSpec) (state : OptionState) (place behind : ℕ) (words : List (List ℕ)) → place + length words ≤ behind → IsPlaced place behind (reading_of_words_from_place options state place words)
 reading_placed options state place behind [] l = placed_end state place behind (omega arith)
 reading_placed options state place behind (word ∷ words) l =
     let less : place + 1 + length words ≤ behind = omega arith in
     let here : IsBetween place behind place = (omega arith, omega arith) in
-    elim (is_option_or_value state word) as (λ b. IsPlaced place behind (if b then or_stop_at_unread_word state place (λ more. option_reading options more (place + 1) words) (with_option_or_value_word options state place word) else if is_double_dash word then words_reading_from_parts state (operands_of (place + 1) words) None else with_operand (operand_at place word) (option_reading options state (place + 1) words))) [
-      | true ↦ elim (with_option_or_value_word options state place word) as (λ m. IsPlaced place behind (or_stop_at_unread_word state place (λ more. option_reading options more (place + 1) words) m)) [
+    elim (is_option_or_value state word) as (λ b. IsPlaced place behind (if b then or_stop_at_unread_word state place (λ more. reading_of_words_from_place options more (place + 1) words) (with_option_or_value_word options state place word) else if is_double_dash word then words_reading_from_parts state (words_as_operands_from_place (place + 1) words) None else with_operand_in_front (operand_at place word) (reading_of_words_from_place options state (place + 1) words))) [
+      | true ↦ elim (with_option_or_value_word options state place word) as (λ m. IsPlaced place behind (or_stop_at_unread_word state place (λ more. reading_of_words_from_place options more (place + 1) words) m)) [
         | None ↦ placed_unread state place behind place (omega arith, omega arith)
-        | Some more ↦ placed_lower (place + 1) place behind (option_reading options more (place + 1) words) (omega arith) (reading_placed options more (place + 1) behind words less)
+        | Some more ↦ placed_lower (place + 1) place behind (reading_of_words_from_place options more (place + 1) words) (omega arith) (reading_placed options more (place + 1) behind words less)
       ]
-      | false ↦ elim (is_double_dash word) as (λ b. IsPlaced place behind (if b then words_reading_from_parts state (operands_of (place + 1) words) None else with_operand (operand_at place word) (option_reading options state (place + 1) words))) [
-        | true ↦ placed_lower (place + 1) place behind (words_reading_from_parts state (operands_of (place + 1) words) None) (omega arith) (placed_operands state (place + 1) behind (operands_of (place + 1) words) (operands_between (place + 1) behind words less))
+      | false ↦ elim (is_double_dash word) as (λ b. IsPlaced place behind (if b then words_reading_from_parts state (words_as_operands_from_place (place + 1) words) None else with_operand_in_front (operand_at place word) (reading_of_words_from_place options state (place + 1) words))) [
+        | true ↦ placed_lower (place + 1) place behind (words_reading_from_parts state (words_as_operands_from_place (place + 1) words) None) (omega arith) (placed_operands state (place + 1) behind (words_as_operands_from_place (place + 1) words) (operands_between (place + 1) behind words less))
         | false ↦
-            let rest = placed_lower (place + 1) place behind (option_reading options state (place + 1) words) (omega arith) (reading_placed options state (place + 1) behind words less) in
+            let rest = placed_lower (place + 1) place behind (reading_of_words_from_place options state (place + 1) words) (omega arith) (reading_placed options state (place + 1) behind words less) in
             record { operands = (here, rest.operands); unread = rest.unread }
       ]
     ]
 
-pub from_placed : (start : Start) (words : List (List ℕ)) → start.read ≤ length words → IsPlaced (start.read + 1) (length words + 1) (reading_after_applet start words)
-unfolding reading_after_applet
+pub from_placed : (start : Start) (words : List (List ℕ)) → start.read ≤ length words → IsPlaced (start.read + 1) (length words + 1) (reading_of_rest_of_command_words start words)
+unfolding reading_of_rest_of_command_words
 from_placed start words l =
     let less : start.read + 1 + length (drop start.read words) ≤ length words + 1 = omega (arith, length-drop start.read words) in
-    elim start.ended as (λ b. IsPlaced (start.read + 1) (length words + 1) (if b then words_reading_from_parts (option_state_at_start start.flags) (operands_of (start.read + 1) (drop start.read words)) None else option_reading (options_of start.applet) (option_state_at_start start.flags) (start.read + 1) (drop start.read words))) [
-      | true ↦ placed_operands (option_state_at_start start.flags) (start.read + 1) (length words + 1) (operands_of (start.read + 1) (drop start.read words)) (operands_between (start.read + 1) (length words + 1) (drop start.read words) less)
+    elim start.ended as (λ b. IsPlaced (start.read + 1) (length words + 1) (if b then words_reading_from_parts (option_state_at_start start.flags) (words_as_operands_from_place (start.read + 1) (drop start.read words)) None else reading_of_words_from_place (options_of start.applet) (option_state_at_start start.flags) (start.read + 1) (drop start.read words))) [
+      | true ↦ placed_operands (option_state_at_start start.flags) (start.read + 1) (length words + 1) (words_as_operands_from_place (start.read + 1) (drop start.read words)) (operands_between (start.read + 1) (length words + 1) (drop start.read words) less)
       | false ↦ reading_placed (options_of start.applet) (option_state_at_start start.flags) (start.read + 1) (length words + 1) (drop start.read words) less
     ]
 
@@ -108,22 +108,22 @@ first_between (Some rule) low behind place reading p h =
 abbrev pub IsJudgedAt : ℕ → Option ℕ → ℕ → Type 0
 IsJudgedAt behind first place = (first ≡ Some place) ⊎ ((first ≡ None) × (place ≡ behind))
 
-pub judged_at : (applet : Applet) (reading : Reading) (behind place : ℕ) → command_of_reading behind applet reading ≡ Err place → IsJudgedAt behind (option_or (place_of_refused_operand (operand_rule applet reading.state.flags) reading.operands) reading.unread) place
-unfolding command_of_reading
+pub judged_at : (applet : Applet) (reading : Reading) (behind place : ℕ) → command_of_reading_with_end_place behind applet reading ≡ Err place → IsJudgedAt behind (option_or (place_of_refused_operand (operand_rule applet reading.state.flags) reading.operands) reading.unread) place
+unfolding command_of_reading_with_end_place
 judged_at applet reading behind place h =
     let rule = operand_rule applet reading.state.flags in
-    elim (option_or (place_of_refused_operand rule reading.operands) reading.unread) as (λ o. unless_refused_at o (if lacks_operand_or_required_value applet rule reading then Err behind else Ok (command_from_reading_parts behind applet reading)) ≡ Err place → IsJudgedAt behind o place) [
-      | None ↦ elim (lacks_operand_or_required_value applet rule reading) as (λ b. (if b then Err behind else Ok (command_from_reading_parts behind applet reading)) ≡ Err place → IsJudgedAt behind None place) [
+    elim (option_or (place_of_refused_operand rule reading.operands) reading.unread) as (λ o. unless_refused_at o (if lacks_operand_or_required_value applet rule reading then Err behind else Ok (command_from_end_place_and_reading behind applet reading)) ≡ Err place → IsJudgedAt behind o place) [
+      | None ↦ elim (lacks_operand_or_required_value applet rule reading) as (λ b. (if b then Err behind else Ok (command_from_end_place_and_reading behind applet reading)) ≡ Err place → IsJudgedAt behind None place) [
         | true ↦ λ (e : Err behind ≡ Err place). inr (refl, cc)
-        | false ↦ λ (e : Ok (command_from_reading_parts behind applet reading) ≡ Err place). absurd (cc)
+        | false ↦ λ (e : Ok (command_from_end_place_and_reading behind applet reading) ≡ Err place). absurd (cc)
       ]
       | Some at ↦ λ (e : Err at ≡ Err place). inl cc
     ] h
 
-pub judged_bad : (applet : Applet) (reading : Reading) (behind place : ℕ) → option_or (place_of_refused_operand (operand_rule applet reading.state.flags) reading.operands) reading.unread ≡ Some place → command_of_reading behind applet reading ≡ Err place
-unfolding command_of_reading
+pub judged_bad : (applet : Applet) (reading : Reading) (behind place : ℕ) → option_or (place_of_refused_operand (operand_rule applet reading.state.flags) reading.operands) reading.unread ≡ Some place → command_of_reading_with_end_place behind applet reading ≡ Err place
+unfolding command_of_reading_with_end_place
 judged_bad applet reading behind place h =
-    ap (λ o. unless_refused_at o (if lacks_operand_or_required_value applet (operand_rule applet reading.state.flags) reading then Err behind else Ok (command_from_reading_parts behind applet reading))) h
+    ap (λ o. unless_refused_at o (if lacks_operand_or_required_value applet (operand_rule applet reading.state.flags) reading then Err behind else Ok (command_from_end_place_and_reading behind applet reading))) h
 
 -- where the search for the applet ends
 abbrev pub IsSearched : ℕ → ℕ → Result AppletSite ℕ → Type 0
@@ -163,7 +163,7 @@ site_searched place low behind (word ∷ words) l h =
 pub usage_between : (words : List (List ℕ)) (place : ℕ) → spelled_command words ≡ Err place → (1 ≤ place) × (place ≤ length words + 1)
 unfolding spelled_command
 usage_between words place c =
-    elim (start_of_command_line words) as (λ s. start_of_command_line words ≡ s → spelled_command_from_start words s ≡ Err place → (1 ≤ place) × (place ≤ length words + 1)) [
+    elim (start_of_command_line words) as (λ s. start_of_command_line words ≡ s → spelled_command_by_start words s ≡ Err place → (1 ≤ place) × (place ≤ length words + 1)) [
       | Err at ↦ λ s (e : Err at ≡ Err place). by_place at place (cc) (no_start words at s)
       | Ok start ↦ λ s e. by_start start s e
     ] refl c
@@ -174,11 +174,11 @@ usage_between words place c =
         (omega (arith, is.0), omega (arith, is.1))
     by_place at place e (inr f) = (let is = foreign_between words at f in (omega (arith, is.0), omega (arith, is.1)))
 
-    by_start : (start : Start) → start_of_command_line words ≡ Ok start → command_of_reading (length words + 1) start.applet (reading_after_applet start words) ≡ Err place → (1 ≤ place) × (place ≤ length words + 1)
+    by_start : (start : Start) → start_of_command_line words ≡ Ok start → command_of_reading_with_end_place (length words + 1) start.applet (reading_of_rest_of_command_words start words) ≡ Err place → (1 ≤ place) × (place ≤ length words + 1)
     by_start start s e =
         let known : IsPlain start (1 + length words) = start_known words start s in
-        let placed : IsPlaced (start.read + 1) (length words + 1) (reading_after_applet start words) = from_placed start words (omega (arith, known.read)) in
-        elim (judged_at start.applet (reading_after_applet start words) (length words + 1) place e) as (λ _. (1 ≤ place) × (place ≤ length words + 1)) [
-          | inl first ↦ (let is = first_between (operand_rule start.applet (reading_after_applet start words).state.flags) (start.read + 1) (length words + 1) place (reading_after_applet start words) placed first in (omega (arith, is.0), omega (arith, is.1)))
+        let placed : IsPlaced (start.read + 1) (length words + 1) (reading_of_rest_of_command_words start words) = from_placed start words (omega (arith, known.read)) in
+        elim (judged_at start.applet (reading_of_rest_of_command_words start words) (length words + 1) place e) as (λ _. (1 ≤ place) × (place ≤ length words + 1)) [
+          | inl first ↦ (let is = first_between (operand_rule start.applet (reading_of_rest_of_command_words start words).state.flags) (start.read + 1) (length words + 1) place (reading_of_rest_of_command_words start words) placed first in (omega (arith, is.0), omega (arith, is.1)))
           | inr last ↦ (omega (arith, last.1), omega (arith, last.1))
         ]

@@ -7,7 +7,7 @@ use Rattle.command_core.specs.declared.operands.Operand.{Operand}
 use Rattle.command_core.specs.Operands.{operand_at}
 use Rattle.words_core.specs.declared.reading.OptionState.{OptionState}
 use Rattle.words_core.specs.declared.reading.Reading.{Reading}
-use Rattle.words_core.specs.Grammar.{applet_site, flags_with_early_options, is_double_dash, is_option, is_option_or_value, operands_of, option_reading, or_err_at, or_stop_at_unread_word, words_reading_from_parts, applet_site_of_word, applet_site_after_double_dash, with_operand, flags_with_option_word, flags_with_option, with_option_or_value_word}
+use Rattle.words_core.specs.Grammar.{applet_site, flags_with_early_options, is_double_dash, is_option, is_option_or_value, words_as_operands_from_place, reading_of_words_from_place, or_err_at, or_stop_at_unread_word, words_reading_from_parts, applet_site_of_word, applet_site_after_double_dash, with_operand_in_front, flags_with_option_word, flags_with_option, with_option_or_value_word}
 use Rattle.words_core.specs.Options.{OptionSpec, is_early_option_word, option_of_word}
 use Rattle.words_core.specs.Steps.{IsReadingStep}
 
@@ -28,7 +28,7 @@ pushed_front operands pushed rest word place at p e =
     sym (append_assoc operands (operand_at at word ∷ []) rest)
     ∙ ap (λ os. os ++ rest) (sym (e ∙ ap (λ n. operands ++ (operand_at n word ∷ [])) p))
 
-pub behind_front : (operands pushed : List Operand) (reading : Reading) (word : List ℕ) (place at : ℕ) → place ≡ at → pushed ≡ operands ++ (operand_at place word ∷ []) → behind operands (with_operand (operand_at at word) reading) ≡ behind pushed reading
+pub behind_front : (operands pushed : List Operand) (reading : Reading) (word : List ℕ) (place at : ℕ) → place ≡ at → pushed ≡ operands ++ (operand_at place word ∷ []) → behind operands (with_operand_in_front (operand_at at word) reading) ≡ behind pushed reading
 behind_front operands pushed reading word place at p e =
     ap (λ os. words_reading_from_parts reading.state os reading.unread) (pushed_front operands pushed reading.operands word place at p e)
 
@@ -72,40 +72,40 @@ early_done options flags words i l = rw (drop_all words i l) refl
     drop_all (w ∷ ws) (suc k) l = drop_all ws k (omega (arith, l))
 
 -- the reading behind the applet
-pub reading_ended : (options : List OptionSpec) (state : OptionState) (words : List (List ℕ)) (i : ℕ) (word : List ℕ) → slice_get words i ≡ Some word → is_option_or_value state word ≡ false → is_double_dash word ≡ true → option_reading options state (i + 1) (drop i words) ≡ words_reading_from_parts state (operands_of (i + 1 + 1) (drop (i + 1) words)) None
+pub reading_ended : (options : List OptionSpec) (state : OptionState) (words : List (List ℕ)) (i : ℕ) (word : List ℕ) → slice_get words i ≡ Some word → is_option_or_value state word ≡ false → is_double_dash word ≡ true → reading_of_words_from_place options state (i + 1) (drop i words) ≡ words_reading_from_parts state (words_as_operands_from_place (i + 1 + 1) (drop (i + 1) words)) None
 reading_ended options state words i word at t e = rw (left_at words i word at) (rw t (rw e refl))
 
-pub reading_operand : (options : List OptionSpec) (state : OptionState) (words : List (List ℕ)) (i : ℕ) (word : List ℕ) → slice_get words i ≡ Some word → is_option_or_value state word ≡ false → is_double_dash word ≡ false → option_reading options state (i + 1) (drop i words) ≡ with_operand (operand_at (i + 1) word) (option_reading options state (i + 1 + 1) (drop (i + 1) words))
+pub reading_operand : (options : List OptionSpec) (state : OptionState) (words : List (List ℕ)) (i : ℕ) (word : List ℕ) → slice_get words i ≡ Some word → is_option_or_value state word ≡ false → is_double_dash word ≡ false → reading_of_words_from_place options state (i + 1) (drop i words) ≡ with_operand_in_front (operand_at (i + 1) word) (reading_of_words_from_place options state (i + 1 + 1) (drop (i + 1) words))
 reading_operand options state words i word at t e = rw (left_at words i word at) (rw t (rw e refl))
 
-pub reading_more : (options : List OptionSpec) (state : OptionState) (words : List (List ℕ)) (i : ℕ) (word : List ℕ) (more : Option OptionState) → slice_get words i ≡ Some word → is_option_or_value state word ≡ true → with_option_or_value_word options state (i + 1) word ≡ more → option_reading options state (i + 1) (drop i words) ≡ or_stop_at_unread_word state (i + 1) (λ m. option_reading options m (i + 1 + 1) (drop (i + 1) words)) more
+pub reading_more : (options : List OptionSpec) (state : OptionState) (words : List (List ℕ)) (i : ℕ) (word : List ℕ) (more : Option OptionState) → slice_get words i ≡ Some word → is_option_or_value state word ≡ true → with_option_or_value_word options state (i + 1) word ≡ more → reading_of_words_from_place options state (i + 1) (drop i words) ≡ or_stop_at_unread_word state (i + 1) (λ m. reading_of_words_from_place options m (i + 1 + 1) (drop (i + 1) words)) more
 reading_more options state words i word more at t m = rw (left_at words i word at) (rw t (rw m refl))
 
 -- one more operand
-pub operands_more : (words : List (List ℕ)) (i : ℕ) (word : List ℕ) → slice_get words i ≡ Some word → operands_of (i + 1) (drop i words) ≡ operand_at (i + 1) word ∷ operands_of (i + 1 + 1) (drop (i + 1) words)
+pub operands_more : (words : List (List ℕ)) (i : ℕ) (word : List ℕ) → slice_get words i ≡ Some word → words_as_operands_from_place (i + 1) (drop i words) ≡ operand_at (i + 1) word ∷ words_as_operands_from_place (i + 1 + 1) (drop (i + 1) words)
 operands_more words i word at = rw (left_at words i word at) refl
 
-pub operands_push : (all operands pushed : List Operand) (words : List (List ℕ)) (i : ℕ) (word : List ℕ) (place : ℕ) → slice_get words i ≡ Some word → place ≡ i + 1 → pushed ≡ operands ++ (operand_at place word ∷ []) → all ≡ operands ++ operands_of (i + 1) (drop i words) → all ≡ pushed ++ operands_of (i + 1 + 1) (drop (i + 1) words)
+pub operands_push : (all operands pushed : List Operand) (words : List (List ℕ)) (i : ℕ) (word : List ℕ) (place : ℕ) → slice_get words i ≡ Some word → place ≡ i + 1 → pushed ≡ operands ++ (operand_at place word ∷ []) → all ≡ operands ++ words_as_operands_from_place (i + 1) (drop i words) → all ≡ pushed ++ words_as_operands_from_place (i + 1 + 1) (drop (i + 1) words)
 operands_push all operands pushed words i word place at p e kept =
     kept ∙ (ap (λ os. operands ++ os) (operands_more words i word at) ∙ pushed_front operands pushed _ word place (i + 1) p e)
 
-pub reading_push : (all : Reading) (options : List OptionSpec) (state : OptionState) (operands pushed : List Operand) (words : List (List ℕ)) (i : ℕ) (word : List ℕ) (place : ℕ) → slice_get words i ≡ Some word → is_option_or_value state word ≡ false → is_double_dash word ≡ false → place ≡ i + 1 → pushed ≡ operands ++ (operand_at place word ∷ []) → all ≡ behind operands (option_reading options state (i + 1) (drop i words)) → all ≡ behind pushed (option_reading options state (i + 1 + 1) (drop (i + 1) words))
+pub reading_push : (all : Reading) (options : List OptionSpec) (state : OptionState) (operands pushed : List Operand) (words : List (List ℕ)) (i : ℕ) (word : List ℕ) (place : ℕ) → slice_get words i ≡ Some word → is_option_or_value state word ≡ false → is_double_dash word ≡ false → place ≡ i + 1 → pushed ≡ operands ++ (operand_at place word ∷ []) → all ≡ behind operands (reading_of_words_from_place options state (i + 1) (drop i words)) → all ≡ behind pushed (reading_of_words_from_place options state (i + 1 + 1) (drop (i + 1) words))
 reading_push all options state operands pushed words i word place at t e p d kept =
     kept ∙ (ap (behind operands) (reading_operand options state words i word at t e)
-    ∙ behind_front operands pushed (option_reading options state (i + 1 + 1) (drop (i + 1) words)) word place (i + 1) p d)
+    ∙ behind_front operands pushed (reading_of_words_from_place options state (i + 1 + 1) (drop (i + 1) words)) word place (i + 1) p d)
 
 -- the reading ends, as all that is left are operands
-pub reading_rest : (all : Reading) (options : List OptionSpec) (state : OptionState) (operands : List Operand) (words : List (List ℕ)) (i : ℕ) (word : List ℕ) → slice_get words i ≡ Some word → is_option_or_value state word ≡ false → is_double_dash word ≡ true → all ≡ behind operands (option_reading options state (i + 1) (drop i words)) → words_reading_from_parts state (operands ++ operands_of (i + 1 + 1) (drop (i + 1) words)) None ≡ all
+pub reading_rest : (all : Reading) (options : List OptionSpec) (state : OptionState) (operands : List Operand) (words : List (List ℕ)) (i : ℕ) (word : List ℕ) → slice_get words i ≡ Some word → is_option_or_value state word ≡ false → is_double_dash word ≡ true → all ≡ behind operands (reading_of_words_from_place options state (i + 1) (drop i words)) → words_reading_from_parts state (operands ++ words_as_operands_from_place (i + 1 + 1) (drop (i + 1) words)) None ≡ all
 reading_rest all options state operands words i word at t e kept =
     sym (kept ∙ ap (behind operands) (reading_ended options state words i word at t e))
 
 -- the reading goes on, as the word was taken
-pub reading_taken : (all : Reading) (options : List OptionSpec) (state more : OptionState) (operands : List Operand) (words : List (List ℕ)) (i : ℕ) (word : List ℕ) (place : ℕ) → slice_get words i ≡ Some word → is_option_or_value state word ≡ true → place ≡ i + 1 → with_option_or_value_word options state place word ≡ Some more → all ≡ behind operands (option_reading options state (i + 1) (drop i words)) → all ≡ behind operands (option_reading options more (i + 1 + 1) (drop (i + 1) words))
+pub reading_taken : (all : Reading) (options : List OptionSpec) (state more : OptionState) (operands : List Operand) (words : List (List ℕ)) (i : ℕ) (word : List ℕ) (place : ℕ) → slice_get words i ≡ Some word → is_option_or_value state word ≡ true → place ≡ i + 1 → with_option_or_value_word options state place word ≡ Some more → all ≡ behind operands (reading_of_words_from_place options state (i + 1) (drop i words)) → all ≡ behind operands (reading_of_words_from_place options more (i + 1 + 1) (drop (i + 1) words))
 reading_taken all options state more operands words i word place at t p m kept =
     kept ∙ ap (behind operands) (reading_more options state words i word (Some more) at t (ap (λ n. with_option_or_value_word options state n word) (sym p) ∙ m))
 
 -- the reading ends, as the word cannot be read
-pub reading_unread : (all : Reading) (options : List OptionSpec) (state : OptionState) (operands : List Operand) (words : List (List ℕ)) (i : ℕ) (word : List ℕ) (place at : ℕ) → slice_get words i ≡ Some word → is_option_or_value state word ≡ true → place ≡ i + 1 → at ≡ i + 1 → with_option_or_value_word options state at word ≡ None → all ≡ behind operands (option_reading options state (i + 1) (drop i words)) → words_reading_from_parts state operands (Some place) ≡ all
+pub reading_unread : (all : Reading) (options : List OptionSpec) (state : OptionState) (operands : List Operand) (words : List (List ℕ)) (i : ℕ) (word : List ℕ) (place at : ℕ) → slice_get words i ≡ Some word → is_option_or_value state word ≡ true → place ≡ i + 1 → at ≡ i + 1 → with_option_or_value_word options state at word ≡ None → all ≡ behind operands (reading_of_words_from_place options state (i + 1) (drop i words)) → words_reading_from_parts state operands (Some place) ≡ all
 reading_unread all options state operands words i word place at located t p q m kept =
     ap (λ n. words_reading_from_parts state operands (Some n)) p
     ∙ (ap (λ os. words_reading_from_parts state os (Some (i + 1))) (sym (append-nil operands))

@@ -12,7 +12,7 @@ use Rattle.command_core.specs.Operands.{operand_at}
 use Rattle.words_core.specs.declared.next.NextWord.{NextWord}
 use Rattle.words_core.specs.declared.next.NextWord.TheVariants.{OptionOrCommand, OptionOrOperand, Value as NextValue, Operand as OperandAlone}
 use Rattle.words_core.specs.declared.reading.OptionState.{OptionState}
-use Rattle.words_core.specs.Grammar.{is_double_dash, is_option, is_option_or_value, next_word_of_command_line, next_word_after_option, next_word, next_word_after_words, operands_of, option_reading, or_stop_at_unread_word, words_reading_from_parts, with_operand, with_option_or_value_word}
+use Rattle.words_core.specs.Grammar.{is_double_dash, is_option, is_option_or_value, next_word_of_command_line, next_word_after_option, next_word, next_word_after_words, words_as_operands_from_place, reading_of_words_from_place, or_stop_at_unread_word, words_reading_from_parts, with_operand_in_front, with_option_or_value_word}
 use Rattle.words_core.specs.Options.{options_of}
 use Rattle.words_core.proofs.Asked.{next_append, next_ended, next_operand, next_taken, operand_stays}
 use Rattle.words_core.proofs.AskedLines.{get_after, take_front}
@@ -51,20 +51,20 @@ longer front word = (let size : length (front ++ (word ∷ [])) ≡ length front
 pub next_one : (front : List (List ℕ)) (word : List ℕ) → next_word_of_command_line (front ++ (word ∷ [])) ≡ next_word (next_word_of_command_line front) word
 next_one front word = next_append OptionOrCommand front (word ∷ [])
 
-pub texts_at : (applet : Applet) (front words : List (List ℕ)) → next_word_of_command_line front ≡ OperandAlone applet → AreOperandsAt applet (front ++ words) (operands_of (length front + 1) words)
+pub texts_at : (applet : Applet) (front words : List (List ℕ)) → next_word_of_command_line front ≡ OperandAlone applet → AreOperandsAt applet (front ++ words) (words_as_operands_from_place (length front + 1) words)
 texts_at applet front [] n = tt
 texts_at applet front (word ∷ words) n = (
   operand_here applet front words word (inl n),
-  subst (λ ws. AreOperandsAt applet ws (operands_of (length front + 1 + 1) words)) (shifted front words word)
-      (subst (λ k. AreOperandsAt applet ((front ++ (word ∷ [])) ++ words) (operands_of k words)) (longer front word)
+  subst (λ ws. AreOperandsAt applet ws (words_as_operands_from_place (length front + 1 + 1) words)) (shifted front words word)
+      (subst (λ k. AreOperandsAt applet ((front ++ (word ∷ [])) ++ words) (words_as_operands_from_place k words)) (longer front word)
       (texts_at applet (front ++ (word ∷ [])) words (next_one front word ∙ ap (λ x. next_word x word) n))),
 )
 
-pub operands_at : (applet : Applet) (state : OptionState) (front words : List (List ℕ)) → next_word_of_command_line front ≡ next_word_after_option applet state.awaiting → AreOperandsAt applet (front ++ words) (option_reading (options_of applet) state (length front + 1) words).operands
+pub operands_at : (applet : Applet) (state : OptionState) (front words : List (List ℕ)) → next_word_of_command_line front ≡ next_word_after_option applet state.awaiting → AreOperandsAt applet (front ++ words) (reading_of_words_from_place (options_of applet) state (length front + 1) words).operands
 operands_at applet state front [] n = tt
 operands_at applet state front (word ∷ words) n =
-    elim (is_option_or_value state word) as (λ b. is_option_or_value state word ≡ b → AreOperandsAt applet (front ++ (word ∷ words)) (if b then or_stop_at_unread_word state (length front + 1) (λ m. option_reading (options_of applet) m (length front + 1 + 1) words) (with_option_or_value_word (options_of applet) state (length front + 1) word) else if is_double_dash word then words_reading_from_parts state (operands_of (length front + 1 + 1) words) None else with_operand (operand_at (length front + 1) word) (option_reading (options_of applet) state (length front + 1 + 1) words)).operands) [
-      | true ↦ λ t. elim (with_option_or_value_word (options_of applet) state (length front + 1) word) as (λ w. with_option_or_value_word (options_of applet) state (length front + 1) word ≡ w → AreOperandsAt applet (front ++ (word ∷ words)) (or_stop_at_unread_word state (length front + 1) (λ m. option_reading (options_of applet) m (length front + 1 + 1) words) w).operands) [
+    elim (is_option_or_value state word) as (λ b. is_option_or_value state word ≡ b → AreOperandsAt applet (front ++ (word ∷ words)) (if b then or_stop_at_unread_word state (length front + 1) (λ m. reading_of_words_from_place (options_of applet) m (length front + 1 + 1) words) (with_option_or_value_word (options_of applet) state (length front + 1) word) else if is_double_dash word then words_reading_from_parts state (words_as_operands_from_place (length front + 1 + 1) words) None else with_operand_in_front (operand_at (length front + 1) word) (reading_of_words_from_place (options_of applet) state (length front + 1 + 1) words)).operands) [
+      | true ↦ λ t. elim (with_option_or_value_word (options_of applet) state (length front + 1) word) as (λ w. with_option_or_value_word (options_of applet) state (length front + 1) word ≡ w → AreOperandsAt applet (front ++ (word ∷ words)) (or_stop_at_unread_word state (length front + 1) (λ m. reading_of_words_from_place (options_of applet) m (length front + 1 + 1) words) w).operands) [
         | None ↦ λ w. tt
         | Some g ↦ λ w. on g (operands_at applet g (front ++ (word ∷ [])) words (next_one front word ∙ (ap (λ x. next_word x word) n ∙ next_taken applet state g (length front + 1) word t w)))
       ] refl
@@ -72,10 +72,10 @@ operands_at applet state front (word ∷ words) n =
           let parts = or_parts (is_some state.awaiting) (is_option word && not (is_double_dash word)) t in
           let none : state.awaiting ≡ None = none_is state.awaiting parts.0 in
           let free : next_word_of_command_line front ≡ OptionOrOperand applet = n ∙ ap (next_word_after_option applet) none in
-          elim (is_double_dash word) as (λ b. is_double_dash word ≡ b → AreOperandsAt applet (front ++ (word ∷ words)) (if b then words_reading_from_parts state (operands_of (length front + 1 + 1) words) None else with_operand (operand_at (length front + 1) word) (option_reading (options_of applet) state (length front + 1 + 1) words)).operands) [
+          elim (is_double_dash word) as (λ b. is_double_dash word ≡ b → AreOperandsAt applet (front ++ (word ∷ words)) (if b then words_reading_from_parts state (words_as_operands_from_place (length front + 1 + 1) words) None else with_operand_in_front (operand_at (length front + 1) word) (reading_of_words_from_place (options_of applet) state (length front + 1 + 1) words)).operands) [
             | true ↦ λ e.
-                subst (λ ws. AreOperandsAt applet ws (operands_of (length front + 1 + 1) words)) (shifted front words word)
-                (subst (λ k. AreOperandsAt applet ((front ++ (word ∷ [])) ++ words) (operands_of k words)) (longer front word)
+                subst (λ ws. AreOperandsAt applet ws (words_as_operands_from_place (length front + 1 + 1) words)) (shifted front words word)
+                (subst (λ k. AreOperandsAt applet ((front ++ (word ∷ [])) ++ words) (words_as_operands_from_place k words)) (longer front word)
                 (texts_at applet (front ++ (word ∷ [])) words (next_one front word ∙ (ap (λ x. next_word x word) free ∙ next_ended applet word e))))
             | false ↦ λ e. (
               operand_here applet front words word (inr (free, parts.1)),
@@ -84,10 +84,10 @@ operands_at applet state front (word ∷ words) n =
           ] refl
     ] refl
   where
-    on : (g : OptionState) → AreOperandsAt applet ((front ++ (word ∷ [])) ++ words) (option_reading (options_of applet) g (length (front ++ (word ∷ [])) + 1) words).operands → AreOperandsAt applet (front ++ (word ∷ words)) (option_reading (options_of applet) g (length front + 1 + 1) words).operands
+    on : (g : OptionState) → AreOperandsAt applet ((front ++ (word ∷ [])) ++ words) (reading_of_words_from_place (options_of applet) g (length (front ++ (word ∷ [])) + 1) words).operands → AreOperandsAt applet (front ++ (word ∷ words)) (reading_of_words_from_place (options_of applet) g (length front + 1 + 1) words).operands
     on g rest =
-        subst (λ ws. AreOperandsAt applet ws (option_reading (options_of applet) g (length front + 1 + 1) words).operands) (shifted front words word)
-        (subst (λ k. AreOperandsAt applet ((front ++ (word ∷ [])) ++ words) (option_reading (options_of applet) g k words).operands) (longer front word) rest)
+        subst (λ ws. AreOperandsAt applet ws (reading_of_words_from_place (options_of applet) g (length front + 1 + 1) words).operands) (shifted front words word)
+        (subst (λ k. AreOperandsAt applet ((front ++ (word ∷ [])) ++ words) (reading_of_words_from_place (options_of applet) g k words).operands) (longer front word) rest)
 
 -- ---- the word that cannot be read
 
@@ -111,7 +111,7 @@ pub append-none : (front : List (List ℕ)) → front ++ [] ≡ front
 append-none [] = refl
 append-none (word ∷ front) = ap (λ ws. word ∷ ws) (append-none front)
 
-pub unread_at : (applet : Applet) (state : OptionState) (front words : List (List ℕ)) (place : ℕ) → next_word_of_command_line front ≡ next_word_after_option applet state.awaiting → (option_reading (options_of applet) state (length front + 1) words).unread ≡ Some place → IsUnreadAt applet (front ++ words) place (option_reading (options_of applet) state (length front + 1) words).state
+pub unread_at : (applet : Applet) (state : OptionState) (front words : List (List ℕ)) (place : ℕ) → next_word_of_command_line front ≡ next_word_after_option applet state.awaiting → (reading_of_words_from_place (options_of applet) state (length front + 1) words).unread ≡ Some place → IsUnreadAt applet (front ++ words) place (reading_of_words_from_place (options_of applet) state (length front + 1) words).state
 unread_at applet state front [] place n u =
     elim state.awaiting as (λ a. state.awaiting ≡ a → option_map (λ (rule : ValueRule). length front + 1) a ≡ Some place → IsUnreadAt applet (front ++ []) place state) [
       | None ↦ λ a u. absurd (none-some place u)
@@ -125,9 +125,9 @@ unread_at applet state front [] place n u =
           }))
     ] refl u
 unread_at applet state front (word ∷ words) place n u =
-    elim (is_option_or_value state word) as (λ b. is_option_or_value state word ≡ b → (if b then or_stop_at_unread_word state (length front + 1) (λ m. option_reading (options_of applet) m (length front + 1 + 1) words) (with_option_or_value_word (options_of applet) state (length front + 1) word) else if is_double_dash word then words_reading_from_parts state (operands_of (length front + 1 + 1) words) None else with_operand (operand_at (length front + 1) word) (option_reading (options_of applet) state (length front + 1 + 1) words)).unread ≡ Some place
-    → IsUnreadAt applet (front ++ (word ∷ words)) place (if b then or_stop_at_unread_word state (length front + 1) (λ m. option_reading (options_of applet) m (length front + 1 + 1) words) (with_option_or_value_word (options_of applet) state (length front + 1) word) else if is_double_dash word then words_reading_from_parts state (operands_of (length front + 1 + 1) words) None else with_operand (operand_at (length front + 1) word) (option_reading (options_of applet) state (length front + 1 + 1) words)).state) [
-      | true ↦ λ t. elim (with_option_or_value_word (options_of applet) state (length front + 1) word) as (λ w. with_option_or_value_word (options_of applet) state (length front + 1) word ≡ w → (or_stop_at_unread_word state (length front + 1) (λ m. option_reading (options_of applet) m (length front + 1 + 1) words) w).unread ≡ Some place → IsUnreadAt applet (front ++ (word ∷ words)) place (or_stop_at_unread_word state (length front + 1) (λ m. option_reading (options_of applet) m (length front + 1 + 1) words) w).state) [
+    elim (is_option_or_value state word) as (λ b. is_option_or_value state word ≡ b → (if b then or_stop_at_unread_word state (length front + 1) (λ m. reading_of_words_from_place (options_of applet) m (length front + 1 + 1) words) (with_option_or_value_word (options_of applet) state (length front + 1) word) else if is_double_dash word then words_reading_from_parts state (words_as_operands_from_place (length front + 1 + 1) words) None else with_operand_in_front (operand_at (length front + 1) word) (reading_of_words_from_place (options_of applet) state (length front + 1 + 1) words)).unread ≡ Some place
+    → IsUnreadAt applet (front ++ (word ∷ words)) place (if b then or_stop_at_unread_word state (length front + 1) (λ m. reading_of_words_from_place (options_of applet) m (length front + 1 + 1) words) (with_option_or_value_word (options_of applet) state (length front + 1) word) else if is_double_dash word then words_reading_from_parts state (words_as_operands_from_place (length front + 1 + 1) words) None else with_operand_in_front (operand_at (length front + 1) word) (reading_of_words_from_place (options_of applet) state (length front + 1 + 1) words)).state) [
+      | true ↦ λ t. elim (with_option_or_value_word (options_of applet) state (length front + 1) word) as (λ w. with_option_or_value_word (options_of applet) state (length front + 1) word ≡ w → (or_stop_at_unread_word state (length front + 1) (λ m. reading_of_words_from_place (options_of applet) m (length front + 1 + 1) words) w).unread ≡ Some place → IsUnreadAt applet (front ++ (word ∷ words)) place (or_stop_at_unread_word state (length front + 1) (λ m. reading_of_words_from_place (options_of applet) m (length front + 1 + 1) words) w).state) [
         | None ↦ λ w (u : Some (length front + 1) ≡ Some place). subst (λ p. IsUnreadAt applet (front ++ (word ∷ words)) p state) (same_Some (length front + 1) place u) (inl (here t w))
         | Some g ↦ λ w u. on g (λ v. unread_at applet g (front ++ (word ∷ [])) words place (next_one front word ∙ (ap (λ x. next_word x word) n ∙ next_taken applet state g (length front + 1) word t w)) v) u
       ] refl
@@ -135,7 +135,7 @@ unread_at applet state front (word ∷ words) place n u =
           let parts = or_parts (is_some state.awaiting) (is_option word && not (is_double_dash word)) t in
           let none : state.awaiting ≡ None = none_is state.awaiting parts.0 in
           let free : next_word_of_command_line front ≡ OptionOrOperand applet = n ∙ ap (next_word_after_option applet) none in
-          elim (is_double_dash word) as (λ b. is_double_dash word ≡ b → (if b then words_reading_from_parts state (operands_of (length front + 1 + 1) words) None else with_operand (operand_at (length front + 1) word) (option_reading (options_of applet) state (length front + 1 + 1) words)).unread ≡ Some place → IsUnreadAt applet (front ++ (word ∷ words)) place (if b then words_reading_from_parts state (operands_of (length front + 1 + 1) words) None else with_operand (operand_at (length front + 1) word) (option_reading (options_of applet) state (length front + 1 + 1) words)).state) [
+          elim (is_double_dash word) as (λ b. is_double_dash word ≡ b → (if b then words_reading_from_parts state (words_as_operands_from_place (length front + 1 + 1) words) None else with_operand_in_front (operand_at (length front + 1) word) (reading_of_words_from_place (options_of applet) state (length front + 1 + 1) words)).unread ≡ Some place → IsUnreadAt applet (front ++ (word ∷ words)) place (if b then words_reading_from_parts state (words_as_operands_from_place (length front + 1 + 1) words) None else with_operand_in_front (operand_at (length front + 1) word) (reading_of_words_from_place (options_of applet) state (length front + 1 + 1) words)).state) [
             | true ↦ λ e u. absurd (none-some place u)
             | false ↦ λ e u. on state (λ v. unread_at applet state (front ++ (word ∷ [])) words place (next_one front word ∙ (ap (λ x. next_word x word) free ∙ (next_operand applet word e (not_option (is_option word) (is_double_dash word) e parts.1) ∙ ap (next_word_after_option applet) (sym none)))) v) u
           ] refl
@@ -152,12 +152,12 @@ unread_at applet state front (word ∷ words) place n u =
           next = subst (λ k. next_word_of_command_line (take k (front ++ (word ∷ words))) ≡ next_word_after_option applet state.awaiting) count (ap next_word_of_command_line (take_front front (word ∷ words)) ∙ n);
         }
 
-    on : (g : OptionState) → ((option_reading (options_of applet) g (length (front ++ (word ∷ [])) + 1) words).unread ≡ Some place → IsUnreadAt applet ((front ++ (word ∷ [])) ++ words) place (option_reading (options_of applet) g (length (front ++ (word ∷ [])) + 1) words).state)
-        → (option_reading (options_of applet) g (length front + 1 + 1) words).unread ≡ Some place → IsUnreadAt applet (front ++ (word ∷ words)) place (option_reading (options_of applet) g (length front + 1 + 1) words).state
+    on : (g : OptionState) → ((reading_of_words_from_place (options_of applet) g (length (front ++ (word ∷ [])) + 1) words).unread ≡ Some place → IsUnreadAt applet ((front ++ (word ∷ [])) ++ words) place (reading_of_words_from_place (options_of applet) g (length (front ++ (word ∷ [])) + 1) words).state)
+        → (reading_of_words_from_place (options_of applet) g (length front + 1 + 1) words).unread ≡ Some place → IsUnreadAt applet (front ++ (word ∷ words)) place (reading_of_words_from_place (options_of applet) g (length front + 1 + 1) words).state
     on g rest u =
-        subst (λ ws. IsUnreadAt applet ws place (option_reading (options_of applet) g (length front + 1 + 1) words).state) (shifted front words word)
-        (subst (λ k. IsUnreadAt applet ((front ++ (word ∷ [])) ++ words) place (option_reading (options_of applet) g k words).state) (longer front word)
-        (rest (ap (λ k. (option_reading (options_of applet) g k words).unread) (longer front word) ∙ u)))
+        subst (λ ws. IsUnreadAt applet ws place (reading_of_words_from_place (options_of applet) g (length front + 1 + 1) words).state) (shifted front words word)
+        (subst (λ k. IsUnreadAt applet ((front ++ (word ∷ [])) ++ words) place (reading_of_words_from_place (options_of applet) g k words).state) (longer front word)
+        (rest (ap (λ k. (reading_of_words_from_place (options_of applet) g k words).unread) (longer front word) ∙ u)))
 
 -- ---- the end of words that can be read
 
@@ -165,15 +165,15 @@ unread_at applet state front (word ∷ words) place n u =
 abbrev pub IsFreeNext : Applet → NextWord → Type 0
 IsFreeNext applet next = (next ≡ OperandAlone applet) ⊎ (next ≡ OptionOrOperand applet)
 
-pub end_at : (applet : Applet) (state : OptionState) (front words : List (List ℕ)) → next_word_of_command_line front ≡ next_word_after_option applet state.awaiting → (option_reading (options_of applet) state (length front + 1) words).unread ≡ None → IsFreeNext applet (next_word_of_command_line (front ++ words))
+pub end_at : (applet : Applet) (state : OptionState) (front words : List (List ℕ)) → next_word_of_command_line front ≡ next_word_after_option applet state.awaiting → (reading_of_words_from_place (options_of applet) state (length front + 1) words).unread ≡ None → IsFreeNext applet (next_word_of_command_line (front ++ words))
 end_at applet state front [] n u =
     elim state.awaiting as (λ a. state.awaiting ≡ a → option_map (λ (rule : ValueRule). length front + 1) a ≡ None → IsFreeNext applet (next_word_of_command_line (front ++ []))) [
       | None ↦ λ a u. inr (ap next_word_of_command_line (append-none front) ∙ (n ∙ ap (next_word_after_option applet) a))
       | Some rule ↦ λ a u. absurd (none-some (length front + 1) (sym u))
     ] refl u
 end_at applet state front (word ∷ words) n u =
-    elim (is_option_or_value state word) as (λ b. is_option_or_value state word ≡ b → (if b then or_stop_at_unread_word state (length front + 1) (λ m. option_reading (options_of applet) m (length front + 1 + 1) words) (with_option_or_value_word (options_of applet) state (length front + 1) word) else if is_double_dash word then words_reading_from_parts state (operands_of (length front + 1 + 1) words) None else with_operand (operand_at (length front + 1) word) (option_reading (options_of applet) state (length front + 1 + 1) words)).unread ≡ None → IsFreeNext applet (next_word_of_command_line (front ++ (word ∷ words)))) [
-      | true ↦ λ t. elim (with_option_or_value_word (options_of applet) state (length front + 1) word) as (λ w. with_option_or_value_word (options_of applet) state (length front + 1) word ≡ w → (or_stop_at_unread_word state (length front + 1) (λ m. option_reading (options_of applet) m (length front + 1 + 1) words) w).unread ≡ None → IsFreeNext applet (next_word_of_command_line (front ++ (word ∷ words)))) [
+    elim (is_option_or_value state word) as (λ b. is_option_or_value state word ≡ b → (if b then or_stop_at_unread_word state (length front + 1) (λ m. reading_of_words_from_place (options_of applet) m (length front + 1 + 1) words) (with_option_or_value_word (options_of applet) state (length front + 1) word) else if is_double_dash word then words_reading_from_parts state (words_as_operands_from_place (length front + 1 + 1) words) None else with_operand_in_front (operand_at (length front + 1) word) (reading_of_words_from_place (options_of applet) state (length front + 1 + 1) words)).unread ≡ None → IsFreeNext applet (next_word_of_command_line (front ++ (word ∷ words)))) [
+      | true ↦ λ t. elim (with_option_or_value_word (options_of applet) state (length front + 1) word) as (λ w. with_option_or_value_word (options_of applet) state (length front + 1) word ≡ w → (or_stop_at_unread_word state (length front + 1) (λ m. reading_of_words_from_place (options_of applet) m (length front + 1 + 1) words) w).unread ≡ None → IsFreeNext applet (next_word_of_command_line (front ++ (word ∷ words)))) [
         | None ↦ λ w (u : Some (length front + 1) ≡ None). absurd (none-some (length front + 1) (sym u))
         | Some g ↦ λ w u. on g (λ v. end_at applet g (front ++ (word ∷ [])) words (next_one front word ∙ (ap (λ x. next_word x word) n ∙ next_taken applet state g (length front + 1) word t w)) v) u
       ] refl
@@ -181,14 +181,14 @@ end_at applet state front (word ∷ words) n u =
           let parts = or_parts (is_some state.awaiting) (is_option word && not (is_double_dash word)) t in
           let none : state.awaiting ≡ None = none_is state.awaiting parts.0 in
           let free : next_word_of_command_line front ≡ OptionOrOperand applet = n ∙ ap (next_word_after_option applet) none in
-          elim (is_double_dash word) as (λ b. is_double_dash word ≡ b → (if b then words_reading_from_parts state (operands_of (length front + 1 + 1) words) None else with_operand (operand_at (length front + 1) word) (option_reading (options_of applet) state (length front + 1 + 1) words)).unread ≡ None → IsFreeNext applet (next_word_of_command_line (front ++ (word ∷ words)))) [
+          elim (is_double_dash word) as (λ b. is_double_dash word ≡ b → (if b then words_reading_from_parts state (words_as_operands_from_place (length front + 1 + 1) words) None else with_operand_in_front (operand_at (length front + 1) word) (reading_of_words_from_place (options_of applet) state (length front + 1 + 1) words)).unread ≡ None → IsFreeNext applet (next_word_of_command_line (front ++ (word ∷ words)))) [
             | true ↦ λ e u. inl (next_append OptionOrCommand front (word ∷ words) ∙ (ap (λ x. next_word_after_words (next_word x word) words) free ∙ (ap (λ x. next_word_after_words x words) (next_ended applet word e) ∙ operand_stays applet words)))
             | false ↦ λ e u. on state (λ v. end_at applet state (front ++ (word ∷ [])) words (next_one front word ∙ (ap (λ x. next_word x word) free ∙ (next_operand applet word e (not_option (is_option word) (is_double_dash word) e parts.1) ∙ ap (next_word_after_option applet) (sym none)))) v) u
           ] refl
     ] refl u
   where
-    on : (g : OptionState) → ((option_reading (options_of applet) g (length (front ++ (word ∷ [])) + 1) words).unread ≡ None → IsFreeNext applet (next_word_of_command_line ((front ++ (word ∷ [])) ++ words)))
-        → (option_reading (options_of applet) g (length front + 1 + 1) words).unread ≡ None → IsFreeNext applet (next_word_of_command_line (front ++ (word ∷ words)))
+    on : (g : OptionState) → ((reading_of_words_from_place (options_of applet) g (length (front ++ (word ∷ [])) + 1) words).unread ≡ None → IsFreeNext applet (next_word_of_command_line ((front ++ (word ∷ [])) ++ words)))
+        → (reading_of_words_from_place (options_of applet) g (length front + 1 + 1) words).unread ≡ None → IsFreeNext applet (next_word_of_command_line (front ++ (word ∷ words)))
     on g rest u =
         subst (λ ws. IsFreeNext applet (next_word_of_command_line ws)) (shifted front words word)
-        (rest (ap (λ k. (option_reading (options_of applet) g k words).unread) (longer front word) ∙ u))
+        (rest (ap (λ k. (reading_of_words_from_place (options_of applet) g k words).unread) (longer front word) ∙ u))

@@ -6,7 +6,7 @@ use Rattle.command_core.specs.declared.command.Flags.{Flags}
 use Rattle.command_core.specs.Flags.{no_flags}
 use Rattle.words_core.specs.declared.reading.AppletSite.{AppletSite}
 use Rattle.words_core.specs.declared.reading.Start.{Start}
-use Rattle.words_core.specs.Grammar.{applet_site, flags_with_early_options, is_double_dash, is_option, start_of_command_line, or_err_at, applet_site_of_word, applet_site_after_double_dash, applet_site_from_parts, start_after_site, start_with_early_flags, flags_with_option_word}
+use Rattle.words_core.specs.Grammar.{applet_site, flags_with_early_options, is_double_dash, is_option, start_of_command_line, or_err_at, applet_site_of_word, applet_site_after_double_dash, applet_site_from_parts, start_by_applet_site, start_with_early_flags, flags_with_option_word}
 use Rattle.words_core.specs.Options.{applet_of, OptionSpec, is_early_option_word, options_of}
 use Rattle.words_core.proofs.KindsKept.{IsSite, site_known, start_parts}
 
@@ -101,7 +101,7 @@ start_stays words more start s =
     let site : IsSite parts.site (1 + length words) = IfOk-at_ok (λ x. IsSite x (1 + length words)) parts.found (site_known 1 (1 + length words) words (omega arith) (omega arith)) in
     let less : parts.site.read - 1 ≤ length words = omega (arith, site.read) in
     let found : applet_site 1 (words ++ more) ≡ Ok parts.site = site_stays 1 words more (subst (λ r. IsKnown (1 + length words) r) (sym parts.found) tt) ∙ parts.found in
-    ap (start_after_site (words ++ more)) found
+    ap (start_by_applet_site (words ++ more)) found
     ∙ (ap (λ ws. start_with_early_flags parts.site (flags_with_early_options (options_of parts.site.applet) no_flags 1 ws)) (take_stays (parts.site.read - 1) words more less)
     ∙ (ap (start_with_early_flags parts.site) parts.early ∙ ap Ok parts.same))
 
@@ -113,7 +113,7 @@ pub record IsForeign (words : List (List ℕ)) (at : ℕ) : Type 0 where
 
 pub no_start : (words : List (List ℕ)) (at : ℕ) → start_of_command_line words ≡ Err at → (applet_site 1 words ≡ Err at) ⊎ IsForeign words at
 no_start words at e =
-    elim (applet_site 1 words) as (λ s. applet_site 1 words ≡ s → start_after_site words s ≡ Err at → (applet_site 1 words ≡ Err at) ⊎ IsForeign words at) [
+    elim (applet_site 1 words) as (λ s. applet_site 1 words ≡ s → start_by_applet_site words s ≡ Err at → (applet_site 1 words ≡ Err at) ⊎ IsForeign words at) [
       | Err place ↦ λ s (h : Err place ≡ Err at). (let is : place ≡ at = cc in inl (s ∙ ap Err is))
       | Ok site ↦ λ s h. by_flags site s (flags_with_early_options (options_of site.applet) no_flags 1 (take (site.read - 1) words)) refl h
     ] refl e
@@ -136,11 +136,11 @@ no_start_stays words more at e l =
     elim (no_start words at e) as (λ _. start_of_command_line (words ++ more) ≡ Err at) [
       | inl s ↦
           (let known : at < 1 + length words = omega arith in
-          ap (start_after_site (words ++ more)) (site_stays 1 words more (subst (λ r. IsKnown (1 + length words) r) (sym s) known) ∙ s))
+          ap (start_by_applet_site (words ++ more)) (site_stays 1 words more (subst (λ r. IsKnown (1 + length words) r) (sym s) known) ∙ s))
       | inr f ↦
           (let between = foreign_between words at f in
           let found : applet_site 1 (words ++ more) ≡ Ok f.site = site_stays 1 words more (subst (λ r. IsKnown (1 + length words) r) (sym f.found) tt) ∙ f.found in
-          ap (start_after_site (words ++ more)) found
+          ap (start_by_applet_site (words ++ more)) found
           ∙ (ap (λ ws. start_with_early_flags f.site (flags_with_early_options (options_of f.site.applet) no_flags 1 ws)) (take_stays (f.site.read - 1) words more between.2)
           ∙ ap (start_with_early_flags f.site) f.early))
     ]

@@ -16,7 +16,7 @@ use Rattle.command_core.specs.Flags.{has_command_kind_flag}
 use Rattle.command_core.specs.Operands.{first_refused_operand}
 use Rattle.words_core.specs.declared.reading.Reading.{Reading}
 use Rattle.words_core.specs.declared.reading.Start.{Start}
-use Rattle.words_core.specs.Grammar.{spelled_command_from_start, command_of_reading, spelled_command, start_of_command_line, operands_of, option_reading, reading_after_applet, place_of_refused_operand}
+use Rattle.words_core.specs.Grammar.{spelled_command_by_start, command_of_reading_with_end_place, spelled_command, start_of_command_line, words_as_operands_from_place, reading_of_words_from_place, reading_of_rest_of_command_words, place_of_refused_operand}
 use Rattle.words_core.specs.Kinds.{can_info_kind_follow, can_info_kind_follow_if_started, can_started_words_get_info_kind, is_info_applet}
 use Rattle.words_core.specs.Options.{OptionSpec, options_of}
 use Rattle.words_core.specs.Stuck.{have_options_ended}
@@ -34,10 +34,10 @@ none_awaited values None h = refl
 none_awaited values (Some rule) h = absurd (none-some rule h.0)
 
 -- no option of `info` has a value
-pub info_awaits : (words : List (List ℕ)) (start : Start) → IsPlain start (1 + length words) → start.applet ≡ Info → (reading_after_applet start words).state.awaiting ≡ None
+pub info_awaits : (words : List (List ℕ)) (start : Start) → IsPlain start (1 + length words) → start.applet ≡ Info → (reading_of_rest_of_command_words start words).state.awaiting ≡ None
 info_awaits words start known is =
-    let good : IsGood start.applet (reading_after_applet start words).state = from_good start (1 + length words) words known in
-    let state = (reading_after_applet start words).state in
+    let good : IsGood start.applet (reading_of_rest_of_command_words start words).state = from_good start (1 + length words) words known in
+    let state = (reading_of_rest_of_command_words start words).state in
     none_awaited state.values state.awaiting (subst (λ (a : Applet). IsAwaited a state.values state.awaiting) is good.awaiting)
 
 has_its_kind : (kind unread over : Bool) → (true && not kind && not unread && not over) ≡ false → unread ≡ false → over ≡ false → kind ≡ true
@@ -69,7 +69,7 @@ end_at end at (Some rule) h = (let same : end ≡ at = same_Some end at h in ome
 
 -- or a word cannot be read, and it changes nothing
 pub longer_or_same : (words more : List (List ℕ)) (start : Start) → IsPlain start (1 + length words) → can_started_words_get_info_kind words start ≡ false
-    → ((reading_after_applet start (words ++ more) ≡ reading_after_applet start words) × ((reading_after_applet start words).unread ≡ None → ⊥)) ⊎ IsLonger start.applet (length words + 1) (reading_after_applet start words) (reading_after_applet start (words ++ more))
+    → ((reading_of_rest_of_command_words start (words ++ more) ≡ reading_of_rest_of_command_words start words) × ((reading_of_rest_of_command_words start words).unread ≡ None → ⊥)) ⊎ IsLonger start.applet (length words + 1) (reading_of_rest_of_command_words start words) (reading_of_rest_of_command_words start (words ++ more))
 longer_or_same words more start known k = by_going (from_going start words low)
   where
     end : ℕ
@@ -79,7 +79,7 @@ longer_or_same words more start known k = by_going (from_going start words low)
     options = options_of start.applet
 
     reading : Reading
-    reading = reading_after_applet start words
+    reading = reading_of_rest_of_command_words start words
 
     low : start.read ≤ length words
     low = omega (arith, known.read)
@@ -87,21 +87,21 @@ longer_or_same words more start known k = by_going (from_going start words low)
     over : Bool
     over = start.ended || have_options_ended (options_of start.applet) None (drop start.read words)
 
-    by_going : IsRemovedPackage options end over reading (λ m. reading_after_applet start (words ++ m)) → ((reading_after_applet start (words ++ more) ≡ reading) × (reading.unread ≡ None → ⊥)) ⊎ IsLonger start.applet end reading (reading_after_applet start (words ++ more))
+    by_going : IsRemovedPackage options end over reading (λ m. reading_of_rest_of_command_words start (words ++ m)) → ((reading_of_rest_of_command_words start (words ++ more) ≡ reading) × (reading.unread ≡ None → ⊥)) ⊎ IsLonger start.applet end reading (reading_of_rest_of_command_words start (words ++ more))
     by_going (inl stopped) = inl (stopped.3 more, λ none. none-some stopped.0 (sym none ∙ stopped.1))
     by_going (inr (inl on)) =
         let nothing : start.applet ≡ Info → reading.unread ≡ None = λ is. on.unread ∙ ap (option_map (λ (rule : ValueRule). end)) (info_awaits words start known is) in
         let keeps = keeps_by start.applet reading.state.flags reading.unread over k nothing on.over in
         inr (record {
           unread = λ at u. end_at end at reading.state.awaiting (sym on.unread ∙ u);
-          new = (option_reading options reading.state end more).operands;
+          new = (reading_of_words_from_place options reading.state end more).operands;
           operands = ap (λ (r : Reading). r.operands) (on.goes_on more);
           rule = λ rule r. ap (λ (x : Reading). operand_rule start.applet x.state.flags) (on.goes_on more) ∙ rule_stays start.applet reading.state end more rule keeps r;
         })
     by_going (inr (inr off)) =
         inr (record {
           unread = λ at u. absurd (none-some at (sym off.unread ∙ u));
-          new = operands_of end more;
+          new = words_as_operands_from_place end more;
           operands = ap (λ (r : Reading). r.operands) (off.goes_on more);
           rule = λ rule r. ap (λ (x : Reading). operand_rule start.applet x.state.flags) (off.goes_on more) ∙ r;
         })
@@ -135,21 +135,21 @@ cannot_from words start k s = sym (ap (can_info_kind_follow_if_started words) s)
 pub usage_stays : (words more : List (List ℕ)) (place : ℕ) → can_info_kind_follow words ≡ false → spelled_command words ≡ Err place → place ≤ length words → spelled_command (words ++ more) ≡ Err place
 unfolding spelled_command
 usage_stays words more place k c l =
-    elim (start_of_command_line words) as (λ s. start_of_command_line words ≡ s → spelled_command_from_start words s ≡ Err place → spelled_command_from_start (words ++ more) (start_of_command_line (words ++ more)) ≡ Err place) [
+    elim (start_of_command_line words) as (λ s. start_of_command_line words ≡ s → spelled_command_by_start words s ≡ Err place → spelled_command_by_start (words ++ more) (start_of_command_line (words ++ more)) ≡ Err place) [
       | Err at ↦ λ s (e : Err at ≡ Err place).
           let same : at ≡ place = cc in
-          ap (spelled_command_from_start (words ++ more)) (no_start_stays words more at s (omega arith)) ∙ e
-      | Ok start ↦ λ s e. ap (spelled_command_from_start (words ++ more)) (start_stays words more start s) ∙ by_start start s e
+          ap (spelled_command_by_start (words ++ more)) (no_start_stays words more at s (omega arith)) ∙ e
+      | Ok start ↦ λ s e. ap (spelled_command_by_start (words ++ more)) (start_stays words more start s) ∙ by_start start s e
     ] refl c
   where
-    by_start : (start : Start) → start_of_command_line words ≡ Ok start → command_of_reading (length words + 1) start.applet (reading_after_applet start words) ≡ Err place → command_of_reading (length (words ++ more) + 1) start.applet (reading_after_applet start (words ++ more)) ≡ Err place
+    by_start : (start : Start) → start_of_command_line words ≡ Ok start → command_of_reading_with_end_place (length words + 1) start.applet (reading_of_rest_of_command_words start words) ≡ Err place → command_of_reading_with_end_place (length (words ++ more) + 1) start.applet (reading_of_rest_of_command_words start (words ++ more)) ≡ Err place
     by_start start s e =
         let less : place < length words + 1 = omega arith in
-        elim (judged_at start.applet (reading_after_applet start words) (length words + 1) place e) as (λ _. command_of_reading (length (words ++ more) + 1) start.applet (reading_after_applet start (words ++ more)) ≡ Err place) [
-          | inl first ↦ judged_bad start.applet (reading_after_applet start (words ++ more)) (length (words ++ more) + 1) place
-              (elim (longer_or_same words more start (start_known words start s) (cannot_from words start k s)) as (λ _. first_of start.applet (reading_after_applet start (words ++ more)) ≡ Some place) [
+        elim (judged_at start.applet (reading_of_rest_of_command_words start words) (length words + 1) place e) as (λ _. command_of_reading_with_end_place (length (words ++ more) + 1) start.applet (reading_of_rest_of_command_words start (words ++ more)) ≡ Err place) [
+          | inl first ↦ judged_bad start.applet (reading_of_rest_of_command_words start (words ++ more)) (length (words ++ more) + 1) place
+              (elim (longer_or_same words more start (start_known words start s) (cannot_from words start k s)) as (λ _. first_of start.applet (reading_of_rest_of_command_words start (words ++ more)) ≡ Some place) [
                 | inl same ↦ ap (first_of start.applet) same.0 ∙ first
-                | inr long ↦ first_stays start.applet (length words + 1) (reading_after_applet start words) (reading_after_applet start (words ++ more)) place long less first
+                | inr long ↦ first_stays start.applet (length words + 1) (reading_of_rest_of_command_words start words) (reading_of_rest_of_command_words start (words ++ more)) place long less first
               ])
           | inr last ↦ absurd (omega (arith, last.1))
         ]

@@ -23,7 +23,7 @@ use Rattle.words_core.specs.declared.reading.AppletSite.{AppletSite}
 use Rattle.words_core.specs.declared.reading.OptionState.{OptionState}
 use Rattle.words_core.specs.declared.reading.Reading.{Reading}
 use Rattle.words_core.specs.declared.reading.Start.{Start}
-use Rattle.words_core.specs.Grammar.{applet_site, spelled_command_from_start, spelled_command, command_from_reading_parts, flags_with_early_options, is_double_dash, is_option, lacks_operand, lacks_operand_or_required_value, start_of_command_line, option_reading, or_err_at, reading_after_applet, words_reading_from_parts, place_of_refused_operand, applet_site_of_word, applet_site_after_double_dash, applet_site_from_parts, start_after_site, start_with_early_flags, option_state_from_parts, unless_refused_at, command_of_reading, with_word_as_option_or_value}
+use Rattle.words_core.specs.Grammar.{applet_site, spelled_command_by_start, spelled_command, command_from_end_place_and_reading, flags_with_early_options, is_double_dash, is_option, lacks_operand_or_kind_flag, lacks_operand_or_required_value, start_of_command_line, reading_of_words_from_place, or_err_at, reading_of_rest_of_command_words, words_reading_from_parts, place_of_refused_operand, applet_site_of_word, applet_site_after_double_dash, applet_site_from_parts, start_by_applet_site, start_with_early_flags, option_state_from_parts, unless_refused_at, command_of_reading_with_end_place, with_word_as_option_or_value}
 use Rattle.words_core.specs.Options.{OptionSpec, applet_of, applet_word, applets, is_early_option_word, options_of}
 use Rattle.words_core.specs.Stuck.{are_stuck_by, awaits_impossible_value, has_script, have_options_ended, has_all_possible_values, is_stuck, is_stuck_by, is_required_option_missing, are_options_of}
 use Rattle.words_core.proofs.GoneOn.{IsRemovedPackage, from_going}
@@ -35,13 +35,13 @@ use Rattle.words_core.proofs.Sites.{err_here, IsKnown, flags_offend, seek_early,
 use Rattle.words_core.proofs.WordsCompleted.{rule_by}
 
 abbrev pub IsBad : Applet → Reading → Type 0
-IsBad applet reading = (end : ℕ) → (place : ℕ) × (command_of_reading end applet reading ≡ Err place)
+IsBad applet reading = (end : ℕ) → (place : ℕ) × (command_of_reading_with_end_place end applet reading ≡ Err place)
 
 -- what cannot be read is no command
 pub unread_bad : (applet : Applet) (reading : Reading) (at : ℕ) → reading.unread ≡ Some at → IsBad applet reading
-unfolding command_of_reading
+unfolding command_of_reading_with_end_place
 unread_bad applet reading at u end =
-    let rest = if lacks_operand_or_required_value applet (operand_rule applet reading.state.flags) reading then Err end else Ok (command_from_reading_parts end applet reading) in
+    let rest = if lacks_operand_or_required_value applet (operand_rule applet reading.state.flags) reading then Err end else Ok (command_from_end_place_and_reading end applet reading) in
     elim (place_of_refused_operand (operand_rule applet reading.state.flags) reading.operands) as (λ o. (place : ℕ) × (unless_refused_at (option_or o reading.unread) rest ≡ Err place)) [
       | None ↦ (at, ap (λ x. unless_refused_at x rest) u)
       | Some place ↦ (place, refl)
@@ -51,9 +51,9 @@ unread_bad applet reading at u end =
 pub lacks_by_option : (applet : Applet) (reading : Reading) → is_required_option_missing applet reading.state ≡ true → lacks_operand_or_required_value applet (operand_rule applet reading.state.flags) reading ≡ true
 lacks_by_option applet reading h =
     let needed = is_required_value_missing (required_option_letter applet) reading.state.values in
-    elim (operand_rule applet reading.state.flags) as (λ r. (not (is_some r) || needed) ≡ true → (lacks_operand r reading.operands || needed) ≡ true) [
+    elim (operand_rule applet reading.state.flags) as (λ r. (not (is_some r) || needed) ≡ true → (lacks_operand_or_kind_flag r reading.operands || needed) ≡ true) [
       | None ↦ λ h. refl
-      | Some rule ↦ λ h. or_right (lacks_operand (Some rule) reading.operands) needed h
+      | Some rule ↦ λ h. or_right (lacks_operand_or_kind_flag (Some rule) reading.operands) needed h
     ] h
 
 pub bad_by : (o : Option ℕ) (lacking : Bool) (end : ℕ) (command : CommandLine) → lacking ≡ true → (place : ℕ) × (unless_refused_at o (if lacking then Err end else Ok command) ≡ Err place)
@@ -61,9 +61,9 @@ bad_by None lacking end command e = (end, ap (λ b. if b then Err end else Ok co
 bad_by (Some at) lacking end command e = (at, refl)
 
 pub lacking_bad : (applet : Applet) (reading : Reading) → is_required_option_missing applet reading.state ≡ true → IsBad applet reading
-unfolding command_of_reading
+unfolding command_of_reading_with_end_place
 lacking_bad applet reading h end =
-    bad_by (option_or (place_of_refused_operand (operand_rule applet reading.state.flags) reading.operands) reading.unread) (lacks_operand_or_required_value applet (operand_rule applet reading.state.flags) reading) end (command_from_reading_parts end applet reading) (lacks_by_option applet reading h)
+    bad_by (option_or (place_of_refused_operand (operand_rule applet reading.state.flags) reading.operands) reading.unread) (lacks_operand_or_required_value applet (operand_rule applet reading.state.flags) reading) end (command_from_end_place_and_reading end applet reading) (lacks_by_option applet reading h)
 
 -- a value of an option that can have no value more
 pub both_at : (p q : List ℕ → Bool) (xs : List (List ℕ)) → list_all p xs ≡ true → list_any q xs ≡ true → (x : List ℕ) × (p x ≡ true) × (q x ≡ true)
@@ -88,18 +88,18 @@ no_fit letter single Script values text h =
     ] refl
 no_fit letter single kind values text h = absurd (false≢true h)
 
-pub awaited_whole : (options : List OptionSpec) (state : OptionState) (end : ℕ) (rule : ValueRule) (more : List (List ℕ)) → state.awaiting ≡ Some rule → has_all_possible_values rule.kind rule.letter state.values ≡ true → option_reading options state end more ≡ words_reading_from_parts state [] (Some end)
+pub awaited_whole : (options : List OptionSpec) (state : OptionState) (end : ℕ) (rule : ValueRule) (more : List (List ℕ)) → state.awaiting ≡ Some rule → has_all_possible_values rule.kind rule.letter state.values ≡ true → reading_of_words_from_place options state end more ≡ words_reading_from_parts state [] (Some end)
 awaited_whole options state end rule [] a f = ap (λ o. words_reading_from_parts state [] (option_map (λ (r : ValueRule). end) o)) a
 awaited_whole options state end rule (word ∷ words) a f =
     let next : OptionState = option_state_from_parts state.flags (state.values ++ (option_value_from_place_and_letter end rule.letter word ∷ [])) None in
     step_taken options state end word words None (awaited_taken state word rule a)
     (ap (with_word_as_option_or_value options state end word) a ∙ ap (λ b. if b then Some next else None) (no_fit rule.letter rule.single rule.kind state.values word f))
 
-pub awaited_unread : (options : List OptionSpec) (state : OptionState) (end : ℕ) (rule : ValueRule) (more : List (List ℕ)) → state.awaiting ≡ Some rule → has_all_possible_values rule.kind rule.letter state.values ≡ true → (option_reading options state end more).unread ≡ Some end
+pub awaited_unread : (options : List OptionSpec) (state : OptionState) (end : ℕ) (rule : ValueRule) (more : List (List ℕ)) → state.awaiting ≡ Some rule → has_all_possible_values rule.kind rule.letter state.values ≡ true → (reading_of_words_from_place options state end more).unread ≡ Some end
 awaited_unread options state end rule more a f = ap (λ (r : Reading). r.unread) (awaited_whole options state end rule more a f)
 
 -- stuck words are no command, whatever follows, where their applet was found
-pub stuck_bad : (words more : List (List ℕ)) (start : Start) → start_of_command_line words ≡ Ok start → is_stuck words start ≡ true → IsBad start.applet (reading_after_applet start (words ++ more))
+pub stuck_bad : (words more : List (List ℕ)) (start : Start) → start_of_command_line words ≡ Ok start → is_stuck words start ≡ true → IsBad start.applet (reading_of_rest_of_command_words start (words ++ more))
 stuck_bad words more start s k = by_going (from_going start words low)
   where
     end : ℕ
@@ -109,7 +109,7 @@ stuck_bad words more start s k = by_going (from_going start words low)
     options = options_of start.applet
 
     reading : Reading
-    reading = reading_after_applet start words
+    reading = reading_of_rest_of_command_words start words
 
     ended : Bool
     ended = start.ended || have_options_ended (options_of start.applet) None (drop start.read words)
@@ -120,20 +120,20 @@ stuck_bad words more start s k = by_going (from_going start words low)
     low : start.read ≤ length words
     low = omega (arith, known.read)
 
-    bad_on : (awaiting : Option ValueRule) → reading.state.awaiting ≡ awaiting → awaits_impossible_value awaiting reading.state.values ≡ true → reading_after_applet start (words ++ more) ≡ behind reading.operands (option_reading options reading.state end more) → IsBad start.applet (reading_after_applet start (words ++ more))
+    bad_on : (awaiting : Option ValueRule) → reading.state.awaiting ≡ awaiting → awaits_impossible_value awaiting reading.state.values ≡ true → reading_of_rest_of_command_words start (words ++ more) ≡ behind reading.operands (reading_of_words_from_place options reading.state end more) → IsBad start.applet (reading_of_rest_of_command_words start (words ++ more))
     bad_on None a w on = absurd (false≢true w)
-    bad_on (Some rule) a w on = unread_bad start.applet (reading_after_applet start (words ++ more)) end (ap (λ (r : Reading). r.unread) on ∙ awaited_unread options reading.state end rule more a w)
+    bad_on (Some rule) a w on = unread_bad start.applet (reading_of_rest_of_command_words start (words ++ more)) end (ap (λ (r : Reading). r.unread) on ∙ awaited_unread options reading.state end rule more a w)
 
-    by_going : IsRemovedPackage options end ended reading (λ m. reading_after_applet start (words ++ m)) → IsBad start.applet (reading_after_applet start (words ++ more))
-    by_going (inl stopped) = unread_bad start.applet (reading_after_applet start (words ++ more)) stopped.0 (ap (λ (r : Reading). r.unread) (stopped.3 more) ∙ stopped.1)
+    by_going : IsRemovedPackage options end ended reading (λ m. reading_of_rest_of_command_words start (words ++ m)) → IsBad start.applet (reading_of_rest_of_command_words start (words ++ more))
+    by_going (inl stopped) = unread_bad start.applet (reading_of_rest_of_command_words start (words ++ more)) stopped.0 (ap (λ (r : Reading). r.unread) (stopped.3 more) ∙ stopped.1)
     by_going (inr (inl on)) =
-        elim (or_cases (ended && is_required_option_missing start.applet reading.state) (awaits_impossible_value reading.state.awaiting reading.state.values) k) as (λ _. IsBad start.applet (reading_after_applet start (words ++ more))) [
+        elim (or_cases (ended && is_required_option_missing start.applet reading.state) (awaits_impossible_value reading.state.awaiting reading.state.values) k) as (λ _. IsBad start.applet (reading_of_rest_of_command_words start (words ++ more))) [
           | inl both ↦ absurd (true≢false (sym (and_parts ended (is_required_option_missing start.applet reading.state) both).0 ∙ on.over))
           | inr none ↦ bad_on reading.state.awaiting refl none (on.goes_on more)
         ]
     by_going (inr (inr off)) =
-        elim (or_cases (ended && is_required_option_missing start.applet reading.state) (awaits_impossible_value reading.state.awaiting reading.state.values) k) as (λ _. IsBad start.applet (reading_after_applet start (words ++ more))) [
-          | inl both ↦ lacking_bad start.applet (reading_after_applet start (words ++ more)) (ap (λ (r : Reading). is_required_option_missing start.applet r.state) (off.goes_on more) ∙ (and_parts ended (is_required_option_missing start.applet reading.state) both).1)
+        elim (or_cases (ended && is_required_option_missing start.applet reading.state) (awaits_impossible_value reading.state.awaiting reading.state.values) k) as (λ _. IsBad start.applet (reading_of_rest_of_command_words start (words ++ more))) [
+          | inl both ↦ lacking_bad start.applet (reading_of_rest_of_command_words start (words ++ more)) (ap (λ (r : Reading). is_required_option_missing start.applet r.state) (off.goes_on more) ∙ (and_parts ended (is_required_option_missing start.applet reading.state) both).1)
           | inr none ↦ absurd (false≢true (sym (ap (λ o. awaits_impossible_value o reading.state.values) off.awaiting) ∙ none))
         ]
 
@@ -215,25 +215,25 @@ take_more (suc count) (word ∷ words) more l =
 no_applet_stays : (words more : List (List ℕ)) (at : ℕ) → applet_site 1 words ≡ Err at → not (list_any (are_options_of words) applets) ≡ true → (place : ℕ) × (spelled_command (words ++ more) ≡ Err place)
 unfolding spelled_command
 no_applet_stays words more at s k =
-    elim (cases_lt at (1 + length words)) as (λ _. (place : ℕ) × (spelled_command_from_start (words ++ more) (start_of_command_line (words ++ more)) ≡ Err place)) [
-      | inl less ↦ (at, ap (λ r. spelled_command_from_start (words ++ more) (start_after_site (words ++ more) r)) (site_stays 1 words more (subst (λ r. IsKnown (1 + length words) r) (sym s) less) ∙ s))
+    elim (cases_lt at (1 + length words)) as (λ _. (place : ℕ) × (spelled_command_by_start (words ++ more) (start_of_command_line (words ++ more)) ≡ Err place)) [
+      | inl less ↦ (at, ap (λ r. spelled_command_by_start (words ++ more) (start_by_applet_site (words ++ more) r)) (site_stays 1 words more (subst (λ r. IsKnown (1 + length words) r) (sym s) less) ∙ s))
       | inr last ↦
           (let is : IsBetween 1 (length words + 2) at = subst (λ r. IsSearched 1 (length words + 2) r) s (site_searched 1 1 (length words + 2) words (omega arith) (omega arith)) in
           let end : at ≡ 1 + length words = omega (arith, is.1) in
           by_site (applet_site 1 (words ++ more)) refl (site_later 1 words more (s ∙ ap Err end)))
     ]
   where
-    by_flags : (site : AppletSite) → applet_site 1 (words ++ more) ≡ Ok site → (f : Result Flags ℕ) → flags_with_early_options (options_of site.applet) no_flags 1 words ≡ f → is_ok f ≡ false → length words ≤ site.read - 1 → (place : ℕ) × (spelled_command_from_start (words ++ more) (start_of_command_line (words ++ more)) ≡ Err place)
+    by_flags : (site : AppletSite) → applet_site 1 (words ++ more) ≡ Ok site → (f : Result Flags ℕ) → flags_with_early_options (options_of site.applet) no_flags 1 words ≡ f → is_ok f ≡ false → length words ≤ site.read - 1 → (place : ℕ) × (spelled_command_by_start (words ++ more) (start_of_command_line (words ++ more)) ≡ Err place)
     by_flags site found (Ok flags) f n l = absurd (true≢false n)
     by_flags site found (Err place) f n l = (
       place,
-      ap (λ r. spelled_command_from_start (words ++ more) (start_after_site (words ++ more) r)) found
-          ∙ (ap (λ ws. spelled_command_from_start (words ++ more) (start_with_early_flags site (flags_with_early_options (options_of site.applet) no_flags 1 ws))) (take_more (site.read - 1) words more l)
-          ∙ ap (λ r. spelled_command_from_start (words ++ more) (start_with_early_flags site r)) (flags_offend (options_of site.applet) no_flags 1 place words (take (site.read - 1 - length words) more) f)),
+      ap (λ r. spelled_command_by_start (words ++ more) (start_by_applet_site (words ++ more) r)) found
+          ∙ (ap (λ ws. spelled_command_by_start (words ++ more) (start_with_early_flags site (flags_with_early_options (options_of site.applet) no_flags 1 ws))) (take_more (site.read - 1) words more l)
+          ∙ ap (λ r. spelled_command_by_start (words ++ more) (start_with_early_flags site r)) (flags_offend (options_of site.applet) no_flags 1 place words (take (site.read - 1 - length words) more) f)),
     )
 
-    by_site : (r : Result AppletSite ℕ) → applet_site 1 (words ++ more) ≡ r → IfOk r (λ x. IsNotFirst words more 1 x) → (place : ℕ) × (spelled_command_from_start (words ++ more) (start_of_command_line (words ++ more)) ≡ Err place)
-    by_site (Err place) found later = (place, ap (λ r. spelled_command_from_start (words ++ more) (start_after_site (words ++ more) r)) found)
+    by_site : (r : Result AppletSite ℕ) → applet_site 1 (words ++ more) ≡ r → IfOk r (λ x. IsNotFirst words more 1 x) → (place : ℕ) × (spelled_command_by_start (words ++ more) (start_of_command_line (words ++ more)) ≡ Err place)
+    by_site (Err place) found later = (place, ap (λ r. spelled_command_by_start (words ++ more) (start_by_applet_site (words ++ more) r)) found)
     by_site (Ok site) found later =
         by_flags site found (flags_with_early_options (options_of site.applet) no_flags 1 words) refl
         (not_any (are_options_of words) applets (λ applet. bytes_eq (applet_word applet) later.word) site.applet k later.names)
@@ -244,11 +244,11 @@ unfolding spelled_command
 stuck_stay words more k =
     elim (applet_site 1 words) as (λ s. applet_site 1 words ≡ s → are_stuck_by words s ≡ true → (place : ℕ) × (spelled_command (words ++ more) ≡ Err place)) [
       | Err at ↦ λ s k. no_applet_stays words more at s (and_parts (list_any is_double_dash words) (not (list_any (are_options_of words) applets)) k).1
-      | Ok site ↦ λ s k. by_start (start_of_command_line words) refl (ap (λ r. is_stuck_by words (start_after_site words r)) s ∙ k)
+      | Ok site ↦ λ s k. by_start (start_of_command_line words) refl (ap (λ r. is_stuck_by words (start_by_applet_site words r)) s ∙ k)
     ] refl k
   where
     by_start : (r : Result Start ℕ) → start_of_command_line words ≡ r → is_stuck_by words (start_of_command_line words) ≡ true → (place : ℕ) × (spelled_command (words ++ more) ≡ Err place)
     by_start (Err at) s k = absurd (false≢true (sym (ap (is_stuck_by words) s) ∙ k))
     by_start (Ok start) s k =
         let bad = stuck_bad words more start s (sym (ap (is_stuck_by words) s) ∙ k) (length (words ++ more) + 1) in
-        (bad.0, ap (spelled_command_from_start (words ++ more)) (start_stays words more start s) ∙ bad.1)
+        (bad.0, ap (spelled_command_by_start (words ++ more)) (start_stays words more start s) ∙ bad.1)

@@ -33,7 +33,7 @@ use Rattle.command_core.specs.Values.{excludes, is_excluded_by_earlier_value, is
 use Rattle.words_core.specs.declared.reading.OptionState.{OptionState}
 use Rattle.words_core.specs.declared.reading.Reading.{Reading}
 use Rattle.words_core.specs.declared.reading.Start.{Start}
-use Rattle.words_core.specs.Grammar.{spelled_command_from_start, spelled_command, command_from_reading_parts, attached_value, lacks_operand_or_required_value, start_of_command_line, operands_of, option_name, option_reading, reading_after_applet, words_reading_from_parts, place_of_refused_operand, option_state_from_parts, command_of_reading, with_operand, with_word_as_option_or_value}
+use Rattle.words_core.specs.Grammar.{spelled_command_by_start, spelled_command, command_from_end_place_and_reading, attached_value, lacks_operand_or_required_value, start_of_command_line, words_as_operands_from_place, option_name, reading_of_words_from_place, reading_of_rest_of_command_words, words_reading_from_parts, place_of_refused_operand, option_state_from_parts, command_of_reading_with_end_place, with_operand_in_front, with_word_as_option_or_value}
 use Rattle.words_core.specs.Options.{OptionSpec, common_options, options_of}
 use Rattle.words_core.specs.Stuck.{awaits_impossible_value, has_script, have_options_ended, has_all_possible_values, is_stuck, is_required_option_missing}
 use Rattle.words_core.proofs.GivenKept.{from_kept}
@@ -60,18 +60,18 @@ pub one_more : (os : List Operand) (o : Operand) → nat_lt (length (os ++ (o �
 one_more [] o = refl
 one_more (p ∷ os) o = le-ltb (length (p ∷ (os ++ (o ∷ [])))) 1 (omega arith)
 
-pub judged_good : (applet : Applet) (reading : Reading) (end : ℕ) → place_of_refused_operand (operand_rule applet reading.state.flags) reading.operands ≡ None → reading.unread ≡ None → lacks_operand_or_required_value applet (operand_rule applet reading.state.flags) reading ≡ false → command_of_reading end applet reading ≡ Ok (command_from_reading_parts end applet reading)
-unfolding command_of_reading
+pub judged_good : (applet : Applet) (reading : Reading) (end : ℕ) → place_of_refused_operand (operand_rule applet reading.state.flags) reading.operands ≡ None → reading.unread ≡ None → lacks_operand_or_required_value applet (operand_rule applet reading.state.flags) reading ≡ false → command_of_reading_with_end_place end applet reading ≡ Ok (command_from_end_place_and_reading end applet reading)
+unfolding command_of_reading_with_end_place
 judged_good applet reading end taken u enough = rw taken (rw u (rw enough refl))
 
 abbrev pub IsJudgedGood : Applet → Reading → Type 0
-IsJudgedGood applet reading = (end : ℕ) → command_of_reading end applet reading ≡ Ok (command_from_reading_parts end applet reading)
+IsJudgedGood applet reading = (end : ℕ) → command_of_reading_with_end_place end applet reading ≡ Ok (command_from_end_place_and_reading end applet reading)
 
 -- ---- operands that can follow
 
 -- words that are operands wherever they stand
 abbrev pub AreTexts : List (List ℕ) → Type 0
-AreTexts more = (options : List OptionSpec) (state : OptionState) (place : ℕ) → state.awaiting ≡ None → option_reading options state place more ≡ words_reading_from_parts state (operands_of place more) None
+AreTexts more = (options : List OptionSpec) (state : OptionState) (place : ℕ) → state.awaiting ≡ None → reading_of_words_from_place options state place more ≡ words_reading_from_parts state (words_as_operands_from_place place more) None
 
 pub no_texts : AreTexts []
 no_texts options state place a = rw a refl
@@ -84,7 +84,7 @@ two_texts options state place a = rw a refl
 
 -- such words behind what was read
 abbrev pub with_texts : OptionState → List Operand → ℕ → List (List ℕ) → Reading
-with_texts state os at more = behind os (words_reading_from_parts state (operands_of at more) None)
+with_texts state os at more = behind os (words_reading_from_parts state (words_as_operands_from_place at more) None)
 
 abbrev pub CanHaveTexts : Applet → OptionState → List Operand → ℕ → Type 0
 CanHaveTexts applet state os at = (more : List (List ℕ)) × AreTexts more × IsJudgedGood applet (with_texts state os at more)
@@ -112,7 +112,7 @@ abbrev pub samples : OperandKind → ℕ → List (List ℕ)
 samples kind zero = []
 samples kind (suc count) = sample kind ∷ samples kind count
 
-sample_read : (kind : OperandKind) (options : List OptionSpec) (state : OptionState) (place : ℕ) (more : List (List ℕ)) → state.awaiting ≡ None → option_reading options state place (sample kind ∷ more) ≡ with_operand (operand_at place (sample kind)) (option_reading options state (place + 1) more)
+sample_read : (kind : OperandKind) (options : List OptionSpec) (state : OptionState) (place : ℕ) (more : List (List ℕ)) → state.awaiting ≡ None → reading_of_words_from_place options state place (sample kind ∷ more) ≡ with_operand_in_front (operand_at place (sample kind)) (reading_of_words_from_place options state (place + 1) more)
 sample_read Number options state place more a = rw a refl
 sample_read File options state place more a = rw a refl
 sample_read Any options state place more a = rw a refl
@@ -125,10 +125,10 @@ sample_read Pattern options state place more a = rw a refl
 pub samples_read : (kind : OperandKind) (count : ℕ) → AreTexts (samples kind count)
 samples_read kind zero options state place a = rw a refl
 samples_read kind (suc count) options state place a =
-    sample_read kind options state place (samples kind count) a ∙ ap (with_operand (operand_at place (sample kind))) (samples_read kind count options state (place + 1) a)
+    sample_read kind options state place (samples kind count) a ∙ ap (with_operand_in_front (operand_at place (sample kind))) (samples_read kind count options state (place + 1) a)
 
 -- there is room for so many
-pub samples_taken : (rule : OperandRule) (before place count : ℕ) → is_count_within_limit rule.most (before + count) ≡ true → first_refused_operand rule before (operands_of place (samples rule.kind count)) ≡ None
+pub samples_taken : (rule : OperandRule) (before place count : ℕ) → is_count_within_limit rule.most (before + count) ≡ true → first_refused_operand rule before (words_as_operands_from_place place (samples rule.kind count)) ≡ None
 samples_taken rule before place zero m = refl
 samples_taken rule before place (suc count) m =
     let here : before + suc count ≡ before + (count + 1) = omega arith in
@@ -136,9 +136,9 @@ samples_taken rule before place (suc count) m =
     rw (room_by rule.most before count (ap (is_count_within_limit rule.most) (sym here) ∙ m))
     (rw (sample_fits rule.kind) (samples_taken rule (before + 1) (place + 1) count (ap (is_count_within_limit rule.most) (sym next) ∙ m)))
 
-samples_length : (kind : OperandKind) (place count : ℕ) → length (operands_of place (samples kind count)) ≡ count
+samples_length : (kind : OperandKind) (place count : ℕ) → length (words_as_operands_from_place place (samples kind count)) ≡ count
 samples_length kind place zero = refl
-samples_length kind place (suc count) = (let rest : length (operands_of (place + 1) (samples kind count)) ≡ count = samples_length kind (place + 1) count in omega arith)
+samples_length kind place (suc count) = (let rest : length (words_as_operands_from_place (place + 1) (samples kind count)) ≡ count = samples_length kind (place + 1) count in omega arith)
 
 -- a rule asks for no more operands than it takes
 abbrev pub IsPossible : OperandRule → Type 0
@@ -203,10 +203,10 @@ can_have_texts applet state os at k h = by_rule (operand_rule applet state.flags
         let texts : List (List ℕ) = samples rule.kind count in
         let reading : Reading = with_texts state os at texts in
         let taken : first_refused_operand rule 0 reading.operands ≡ None =
-        refused_then rule 0 os (operands_of at texts) h
+        refused_then rule 0 os (words_as_operands_from_place at texts) h
         ∙ samples_taken rule (0 + length os) at count (wanted_fit_at rule os r h) in
         let enough : rule.least ≤ length reading.operands =
-        (let size : length (operands_of at texts) ≡ count = samples_length rule.kind at count in omega (arith, length-append os (operands_of at texts))) in (
+        (let size : length (words_as_operands_from_place at texts) ≡ count = samples_length rule.kind at count in omega (arith, length-append os (words_as_operands_from_place at texts))) in (
           texts,
           samples_read rule.kind count,
           λ end. judged_good applet reading end
@@ -262,7 +262,7 @@ fitting letter single Output values h = (codes "a", not_from_false _ (none_exclu
 fitting letter single Uncompressed values h = (codes "none", not_from_false _ (none_excluded letter Uncompressed (codes "none") values (λ a b. refl)))
 fitting letter single Script values h = (let some = some_fails (has_script letter values) is_its_script script_types all_scripts h in (a_script some.0, script_fits letter single values some.0 some.1 some.2))
 
-pub value_read : (options : List OptionSpec) (state : OptionState) (at : ℕ) (text : List ℕ) (rule : ValueRule) (more : List (List ℕ)) → state.awaiting ≡ Some rule → IsFitting rule state.values text → option_reading options state at (text ∷ more) ≡ option_reading options (option_state_from_parts state.flags (state.values ++ (option_value_from_place_and_letter at rule.letter text ∷ [])) None) (at + 1) more
+pub value_read : (options : List OptionSpec) (state : OptionState) (at : ℕ) (text : List ℕ) (rule : ValueRule) (more : List (List ℕ)) → state.awaiting ≡ Some rule → IsFitting rule state.values text → reading_of_words_from_place options state at (text ∷ more) ≡ reading_of_words_from_place options (option_state_from_parts state.flags (state.values ++ (option_value_from_place_and_letter at rule.letter text ∷ [])) None) (at + 1) more
 value_read options state at text rule more a f =
     let next : OptionState = option_state_from_parts state.flags (state.values ++ (option_value_from_place_and_letter at rule.letter text ∷ [])) None in
     step_taken options state at text more (Some next) (awaited_taken state text rule a)
@@ -272,12 +272,12 @@ value_read options state at text rule more a f =
 
 -- what was read of words, and more words behind it
 abbrev pub gone_on : Applet → Flags → List OptionValue → List Operand → ℕ → List (List ℕ) → Reading
-gone_on applet flags values os at more = behind os (option_reading (options_of applet) (option_state_from_parts flags values None) at more)
+gone_on applet flags values os at more = behind os (reading_of_words_from_place (options_of applet) (option_state_from_parts flags values None) at more)
 
 abbrev pub CanGoOn : Applet → Flags → List OptionValue → List Operand → ℕ → Type 0
 CanGoOn applet flags values os at = (more : List (List ℕ)) × IsJudgedGood applet (gone_on applet flags values os at more)
 
-pub output_read : (flags : Flags) (values : List OptionValue) (at : ℕ) → is_given OUTPUT values ≡ false → option_reading (options_of Mkndx) (option_state_from_parts flags values None) at (codes "-o" ∷ (codes "a" ∷ [])) ≡ words_reading_from_parts (option_state_from_parts flags (values ++ (option_value_from_place_and_letter (at + 1) OUTPUT (codes "a") ∷ [])) None) [] None
+pub output_read : (flags : Flags) (values : List OptionValue) (at : ℕ) → is_given OUTPUT values ≡ false → reading_of_words_from_place (options_of Mkndx) (option_state_from_parts flags values None) at (codes "-o" ∷ (codes "a" ∷ [])) ≡ words_reading_from_parts (option_state_from_parts flags (values ++ (option_value_from_place_and_letter (at + 1) OUTPUT (codes "a") ∷ [])) None) [] None
 unfolding common_options options_of option_name attached_value is_name is_utf8 chars encode
 output_read flags values at g =
     step_taken (options_of Mkndx) (option_state_from_parts flags values None) at (codes "-o") (codes "a" ∷ []) (Some (option_state_from_parts flags values (Some output_rule))) refl
@@ -325,7 +325,7 @@ options_follow Version flags values os at m k h =
     let now : Flags = with_flag Check flags in
     let reading : Reading = behind os (words_reading_from_parts (option_state_from_parts now values None) (operand_at (at + 1) (codes "a") ∷ []) None) in
     let stand : has_command_kind_flag flags ≡ false = version_kinds flags m none.0 none.1 in
-    let read : option_reading (options_of Version) (option_state_from_parts flags values None) at (codes "-c" ∷ (codes "a" ∷ [])) ≡ words_reading_from_parts (option_state_from_parts now values None) (operand_at (at + 1) (codes "a") ∷ []) None = rw stand refl in (
+    let read : reading_of_words_from_place (options_of Version) (option_state_from_parts flags values None) at (codes "-c" ∷ (codes "a" ∷ [])) ≡ words_reading_from_parts (option_state_from_parts now values None) (operand_at (at + 1) (codes "a") ∷ []) None = rw stand refl in (
       codes "-c" ∷ (codes "a" ∷ []),
       subst (λ r. IsJudgedGood Version (behind os r)) (sym read) (λ end. judged_good Version reading end
           (rw none.0 (texts_taken 0 (os ++ (operand_at (at + 1) (codes "a") ∷ [])))) refl
@@ -384,7 +384,7 @@ pub both_none : (o unread : Option ℕ) → option_or o unread ≡ None → (o �
 both_none None unread h = (refl, h)
 both_none (Some at) unread h = absurd (none-some at (sym h))
 
-pub completed_from : (words : List (List ℕ)) (start : Start) → is_stuck words start ≡ false → start_of_command_line words ≡ Ok start → command_of_reading (length words + 1) start.applet (reading_after_applet start words) ≡ Err (length words + 1) → CanBeCompleted words
+pub completed_from : (words : List (List ℕ)) (start : Start) → is_stuck words start ≡ false → start_of_command_line words ≡ Ok start → command_of_reading_with_end_place (length words + 1) start.applet (reading_of_rest_of_command_words start words) ≡ Err (length words + 1) → CanBeCompleted words
 unfolding spelled_command
 completed_from words start k s h = by_going (from_going start words low)
   where
@@ -395,7 +395,7 @@ completed_from words start k s h = by_going (from_going start words low)
     options = options_of start.applet
 
     reading : Reading
-    reading = reading_after_applet start words
+    reading = reading_of_rest_of_command_words start words
 
     ended : Bool
     ended = start.ended || have_options_ended (options_of start.applet) None (drop start.read words)
@@ -418,23 +418,23 @@ completed_from words start k s h = by_going (from_going start words low)
     free : ((ended && is_required_option_missing start.applet reading.state) ≡ false) × (awaits_impossible_value reading.state.awaiting reading.state.values ≡ false)
     free = or_parts (ended && is_required_option_missing start.applet reading.state) (awaits_impossible_value reading.state.awaiting reading.state.values) k
 
-    complete : (more : List (List ℕ)) → IsJudgedGood start.applet (reading_after_applet start (words ++ more)) → CanBeCompleted words
+    complete : (more : List (List ℕ)) → IsJudgedGood start.applet (reading_of_rest_of_command_words start (words ++ more)) → CanBeCompleted words
     complete more good = (
       more,
-      command_from_reading_parts (length (words ++ more) + 1) start.applet (reading_after_applet start (words ++ more)),
-      ap (spelled_command_from_start (words ++ more)) (start_stays words more start s) ∙ good (length (words ++ more) + 1),
+      command_from_end_place_and_reading (length (words ++ more) + 1) start.applet (reading_of_rest_of_command_words start (words ++ more)),
+      ap (spelled_command_by_start (words ++ more)) (start_stays words more start s) ∙ good (length (words ++ more) + 1),
     )
 
-    by_awaiting : (awaiting : Option ValueRule) → reading.state.awaiting ≡ awaiting → ((more : List (List ℕ)) → reading_after_applet start (words ++ more) ≡ behind reading.operands (option_reading options reading.state end more)) → CanBeCompleted words
+    by_awaiting : (awaiting : Option ValueRule) → reading.state.awaiting ≡ awaiting → ((more : List (List ℕ)) → reading_of_rest_of_command_words start (words ++ more) ≡ behind reading.operands (reading_of_words_from_place options reading.state end more)) → CanBeCompleted words
     by_awaiting None a on =
         let can = can_go_on start.applet reading.state.flags reading.state.values reading.operands end own taken in
-        complete can.0 (subst (λ r. IsJudgedGood start.applet r) (sym (on can.0 ∙ ap (λ o. behind reading.operands (option_reading options (option_state_from_parts reading.state.flags reading.state.values o) end can.0)) a)) can.1)
+        complete can.0 (subst (λ r. IsJudgedGood start.applet r) (sym (on can.0 ∙ ap (λ o. behind reading.operands (reading_of_words_from_place options (option_state_from_parts reading.state.flags reading.state.values o) end can.0)) a)) can.1)
     by_awaiting (Some rule) a on =
         let text = fitting rule.letter rule.single rule.kind reading.state.values (ap (λ o. awaits_impossible_value o reading.state.values) (sym a) ∙ free.1) in
         let can = can_go_on start.applet reading.state.flags (reading.state.values ++ (option_value_from_place_and_letter end rule.letter text.0 ∷ [])) reading.operands (end + 1) own taken in
         complete (text.0 ∷ can.0) (subst (λ r. IsJudgedGood start.applet r) (sym (on (text.0 ∷ can.0) ∙ ap (behind reading.operands) (value_read options reading.state end text.0 rule can.0 a text.1))) can.1)
 
-    by_going : IsRemovedPackage options end ended reading (λ more. reading_after_applet start (words ++ more)) → CanBeCompleted words
+    by_going : IsRemovedPackage options end ended reading (λ more. reading_of_rest_of_command_words start (words ++ more)) → CanBeCompleted words
     by_going (inl stopped) = absurd (not_stopped (operand_rule start.applet reading.state.flags) end stopped.0 reading.operands reading.unread taken stopped.1 stopped.2 at_end)
     by_going (inr (inl on)) = by_awaiting reading.state.awaiting refl on.goes_on
     by_going (inr (inr off)) =

@@ -16,10 +16,10 @@ use Rattle.command_core.specs.Values.{is_value_of_kind, option_value_from_place_
 use Rattle.words_core.specs.declared.options.Meaning.TheVariants.{Flag as Plain, Kind, Value}
 use Rattle.words_core.specs.declared.reading.OptionState.{OptionState}
 use Rattle.words_core.specs.declared.reading.Reading.{Reading}
-use Rattle.words_core.specs.Grammar.{command_of, option_state_at_start, attached_value, spelled_command, option_name, option_reading, reading_after_applet, words_reading_from_parts, applet_site_of_word, applet_site_after_double_dash, option_state_from_parts, command_of_reading}
+use Rattle.words_core.specs.Grammar.{command_of, option_state_at_start, attached_value, spelled_command, option_name, reading_of_words_from_place, reading_of_rest_of_command_words, words_reading_from_parts, applet_site_of_word, applet_site_after_double_dash, option_state_from_parts, command_of_reading_with_end_place}
 use Rattle.words_core.specs.Kinds.{can_info_kind_follow}
 use Rattle.words_core.specs.Options.{OptionSpec, common_options, early_option_words, options_of}
-use Rattle.words_core.specs.Stuck.{are_words_without_completion}
+use Rattle.words_core.specs.Stuck.{is_command_line_stuck}
 
 -- `-o` stands once and has any value, `-f` stands once and has a file, `-I` has texts and `-s` has scripts; `-t` and `-n`
 -- have none
@@ -40,7 +40,7 @@ table =
 
 -- words behind an applet that is the first word
 abbrev read : List (List ℕ) → Reading
-read words = option_reading table (option_state_at_start no_flags) 2 words
+read words = reading_of_words_from_place table (option_state_at_start no_flags) 2 words
 
 -- values that were given, and no flags
 abbrev giving : List OptionValue → OptionState
@@ -220,109 +220,109 @@ file_of_1017 = refl
 -- ---- words that are stuck
 
 -- the options have ended, and the kind is lacking
-no_kind_follows : are_words_without_completion (codes "version" ∷ (codes "a" ∷ (codes "--" ∷ []))) ≡ true
-unfolding are_words_without_completion command_of spelled_command command_of_reading reading_after_applet applet_site_of_word applet_site_after_double_dash early_option_words common_options options_of option_name attached_value is_name is_utf8 chars encode
+no_kind_follows : is_command_line_stuck (codes "version" ∷ (codes "a" ∷ (codes "--" ∷ []))) ≡ true
+unfolding is_command_line_stuck command_of spelled_command command_of_reading_with_end_place reading_of_rest_of_command_words applet_site_of_word applet_site_after_double_dash early_option_words common_options options_of option_name attached_value is_name is_utf8 chars encode
 no_kind_follows = refl
 
-no_kind_follows_early : are_words_without_completion (codes "--" ∷ (codes "version" ∷ [])) ≡ true
-unfolding are_words_without_completion command_of spelled_command command_of_reading reading_after_applet applet_site_of_word applet_site_after_double_dash early_option_words common_options options_of option_name attached_value is_name is_utf8 chars encode
+no_kind_follows_early : is_command_line_stuck (codes "--" ∷ (codes "version" ∷ [])) ≡ true
+unfolding is_command_line_stuck command_of spelled_command command_of_reading_with_end_place reading_of_rest_of_command_words applet_site_of_word applet_site_after_double_dash early_option_words common_options options_of option_name attached_value is_name is_utf8 chars encode
 no_kind_follows_early = refl
 
-kind_is_given : are_words_without_completion (codes "version" ∷ (codes "-t" ∷ (codes "--" ∷ (codes "a" ∷ [])))) ≡ false
-unfolding are_words_without_completion command_of spelled_command command_of_reading reading_after_applet applet_site_of_word applet_site_after_double_dash early_option_words common_options options_of option_name attached_value is_name is_utf8 chars encode
+kind_is_given : is_command_line_stuck (codes "version" ∷ (codes "-t" ∷ (codes "--" ∷ (codes "a" ∷ [])))) ≡ false
+unfolding is_command_line_stuck command_of spelled_command command_of_reading_with_end_place reading_of_rest_of_command_words applet_site_of_word applet_site_after_double_dash early_option_words common_options options_of option_name attached_value is_name is_utf8 chars encode
 kind_is_given = refl
 
-kind_follows : are_words_without_completion (codes "version" ∷ (codes "a" ∷ [])) ≡ false
-unfolding are_words_without_completion command_of spelled_command command_of_reading reading_after_applet applet_site_of_word applet_site_after_double_dash early_option_words common_options options_of option_name attached_value is_name is_utf8 chars encode
+kind_follows : is_command_line_stuck (codes "version" ∷ (codes "a" ∷ [])) ≡ false
+unfolding is_command_line_stuck command_of spelled_command command_of_reading_with_end_place reading_of_rest_of_command_words applet_site_of_word applet_site_after_double_dash early_option_words common_options options_of option_name attached_value is_name is_utf8 chars encode
 kind_follows = refl
 
-no_output_follows : are_words_without_completion (codes "mkndx" ∷ (codes "--" ∷ (codes "a" ∷ []))) ≡ true
-unfolding are_words_without_completion command_of spelled_command command_of_reading reading_after_applet applet_site_of_word applet_site_after_double_dash early_option_words common_options options_of option_name attached_value is_name is_utf8 chars encode
+no_output_follows : is_command_line_stuck (codes "mkndx" ∷ (codes "--" ∷ (codes "a" ∷ []))) ≡ true
+unfolding is_command_line_stuck command_of spelled_command command_of_reading_with_end_place reading_of_rest_of_command_words applet_site_of_word applet_site_after_double_dash early_option_words common_options options_of option_name attached_value is_name is_utf8 chars encode
 no_output_follows = refl
 
-output_is_given : are_words_without_completion (codes "mkndx" ∷ (codes "-oi" ∷ (codes "--" ∷ []))) ≡ false
-unfolding are_words_without_completion command_of spelled_command command_of_reading reading_after_applet applet_site_of_word applet_site_after_double_dash early_option_words common_options options_of option_name attached_value is_name is_utf8 chars encode
+output_is_given : is_command_line_stuck (codes "mkndx" ∷ (codes "-oi" ∷ (codes "--" ∷ []))) ≡ false
+unfolding is_command_line_stuck command_of spelled_command command_of_reading_with_end_place reading_of_rest_of_command_words applet_site_of_word applet_site_after_double_dash early_option_words common_options options_of option_name attached_value is_name is_utf8 chars encode
 output_is_given = refl
 
 -- `--` as a value ends nothing
-end_as_value : are_words_without_completion (codes "mkndx" ∷ (codes "-d" ∷ (codes "--" ∷ []))) ≡ false
-unfolding are_words_without_completion command_of spelled_command command_of_reading reading_after_applet applet_site_of_word applet_site_after_double_dash early_option_words common_options options_of option_name attached_value is_name is_utf8 chars encode
+end_as_value : is_command_line_stuck (codes "mkndx" ∷ (codes "-d" ∷ (codes "--" ∷ []))) ≡ false
+unfolding is_command_line_stuck command_of spelled_command command_of_reading_with_end_place reading_of_rest_of_command_words applet_site_of_word applet_site_after_double_dash early_option_words common_options options_of option_name attached_value is_name is_utf8 chars encode
 end_as_value = refl
 
-end_after_value : are_words_without_completion (codes "mkndx" ∷ (codes "-d" ∷ (codes "--" ∷ (codes "--" ∷ [])))) ≡ true
-unfolding are_words_without_completion command_of spelled_command command_of_reading reading_after_applet applet_site_of_word applet_site_after_double_dash early_option_words common_options options_of option_name attached_value is_name is_utf8 chars encode
+end_after_value : is_command_line_stuck (codes "mkndx" ∷ (codes "-d" ∷ (codes "--" ∷ (codes "--" ∷ [])))) ≡ true
+unfolding is_command_line_stuck command_of spelled_command command_of_reading_with_end_place reading_of_rest_of_command_words applet_site_of_word applet_site_after_double_dash early_option_words common_options options_of option_name attached_value is_name is_utf8 chars encode
 end_after_value = refl
 
-nothing_is_lacking : are_words_without_completion (codes "--" ∷ (codes "mkpkg" ∷ [])) ≡ false
-unfolding are_words_without_completion command_of spelled_command command_of_reading reading_after_applet applet_site_of_word applet_site_after_double_dash early_option_words common_options options_of option_name attached_value is_name is_utf8 chars encode
+nothing_is_lacking : is_command_line_stuck (codes "--" ∷ (codes "mkpkg" ∷ [])) ≡ false
+unfolding is_command_line_stuck command_of spelled_command command_of_reading_with_end_place reading_of_rest_of_command_words applet_site_of_word applet_site_after_double_dash early_option_words common_options options_of option_name attached_value is_name is_utf8 chars encode
 nothing_is_lacking = refl
 
 -- a script is awaited, and there is one of each type
-no_script_follows : are_words_without_completion (codes "mkpkg" ∷ (codes "-strigger:a" ∷ (codes "-spre-install:a" ∷ (codes "-spost-install:a" ∷ (codes "-spre-deinstall:a" ∷ (codes "-spost-deinstall:a" ∷ (codes "-spre-upgrade:a" ∷ (codes "-spost-upgrade:a" ∷ (codes "-s" ∷ []))))))))) ≡ true
-unfolding are_words_without_completion command_of spelled_command command_of_reading reading_after_applet applet_site_of_word applet_site_after_double_dash early_option_words common_options options_of option_name attached_value is_name is_utf8 chars encode
+no_script_follows : is_command_line_stuck (codes "mkpkg" ∷ (codes "-strigger:a" ∷ (codes "-spre-install:a" ∷ (codes "-spost-install:a" ∷ (codes "-spre-deinstall:a" ∷ (codes "-spost-deinstall:a" ∷ (codes "-spre-upgrade:a" ∷ (codes "-spost-upgrade:a" ∷ (codes "-s" ∷ []))))))))) ≡ true
+unfolding is_command_line_stuck command_of spelled_command command_of_reading_with_end_place reading_of_rest_of_command_words applet_site_of_word applet_site_after_double_dash early_option_words common_options options_of option_name attached_value is_name is_utf8 chars encode
 no_script_follows = refl
 
-script_follows : are_words_without_completion (codes "mkpkg" ∷ (codes "-spre-install:a" ∷ (codes "-spost-install:a" ∷ (codes "-spre-deinstall:a" ∷ (codes "-spost-deinstall:a" ∷ (codes "-spre-upgrade:a" ∷ (codes "-spost-upgrade:a" ∷ (codes "-s" ∷ [])))))))) ≡ false
-unfolding are_words_without_completion command_of spelled_command command_of_reading reading_after_applet applet_site_of_word applet_site_after_double_dash early_option_words common_options options_of option_name attached_value is_name is_utf8 chars encode
+script_follows : is_command_line_stuck (codes "mkpkg" ∷ (codes "-spre-install:a" ∷ (codes "-spost-install:a" ∷ (codes "-spre-deinstall:a" ∷ (codes "-spost-deinstall:a" ∷ (codes "-spre-upgrade:a" ∷ (codes "-spost-upgrade:a" ∷ (codes "-s" ∷ [])))))))) ≡ false
+unfolding is_command_line_stuck command_of spelled_command command_of_reading_with_end_place reading_of_rest_of_command_words applet_site_of_word applet_site_after_double_dash early_option_words common_options options_of option_name attached_value is_name is_utf8 chars encode
 script_follows = refl
 
-scripts_are_given : are_words_without_completion (codes "mkpkg" ∷ (codes "-strigger:a" ∷ (codes "-spre-install:a" ∷ (codes "-spost-install:a" ∷ (codes "-spre-deinstall:a" ∷ (codes "-spost-deinstall:a" ∷ (codes "-spre-upgrade:a" ∷ (codes "-spost-upgrade:a" ∷ [])))))))) ≡ false
-unfolding are_words_without_completion command_of spelled_command command_of_reading reading_after_applet applet_site_of_word applet_site_after_double_dash early_option_words common_options options_of option_name attached_value is_name is_utf8 chars encode
+scripts_are_given : is_command_line_stuck (codes "mkpkg" ∷ (codes "-strigger:a" ∷ (codes "-spre-install:a" ∷ (codes "-spost-install:a" ∷ (codes "-spre-deinstall:a" ∷ (codes "-spost-deinstall:a" ∷ (codes "-spre-upgrade:a" ∷ (codes "-spost-upgrade:a" ∷ [])))))))) ≡ false
+unfolding is_command_line_stuck command_of spelled_command command_of_reading_with_end_place reading_of_rest_of_command_words applet_site_of_word applet_site_after_double_dash early_option_words common_options options_of option_name attached_value is_name is_utf8 chars encode
 scripts_are_given = refl
 
 -- options before the applet that no applet has: only `--help` and `--version` can follow
-no_applet_has_them : are_words_without_completion (codes "--initdb" ∷ (codes "--purge" ∷ (codes "--" ∷ []))) ≡ true
-unfolding are_words_without_completion command_of spelled_command command_of_reading reading_after_applet applet_site_of_word applet_site_after_double_dash early_option_words common_options options_of option_name attached_value is_name is_utf8 chars encode
+no_applet_has_them : is_command_line_stuck (codes "--initdb" ∷ (codes "--purge" ∷ (codes "--" ∷ []))) ≡ true
+unfolding is_command_line_stuck command_of spelled_command command_of_reading_with_end_place reading_of_rest_of_command_words applet_site_of_word applet_site_after_double_dash early_option_words common_options options_of option_name attached_value is_name is_utf8 chars encode
 no_applet_has_them = refl
 
-help_follows : are_words_without_completion (codes "--initdb" ∷ (codes "--purge" ∷ [])) ≡ false
-unfolding are_words_without_completion command_of spelled_command command_of_reading reading_after_applet applet_site_of_word applet_site_after_double_dash early_option_words common_options options_of option_name attached_value is_name is_utf8 chars encode
+help_follows : is_command_line_stuck (codes "--initdb" ∷ (codes "--purge" ∷ [])) ≡ false
+unfolding is_command_line_stuck command_of spelled_command command_of_reading_with_end_place reading_of_rest_of_command_words applet_site_of_word applet_site_after_double_dash early_option_words common_options options_of option_name attached_value is_name is_utf8 chars encode
 help_follows = refl
 
 -- a word asks, and what follows it says nothing
-help_is_asked : are_words_without_completion (codes "version" ∷ (codes "--help" ∷ (codes "--" ∷ []))) ≡ false
-unfolding are_words_without_completion command_of spelled_command command_of_reading reading_after_applet applet_site_of_word applet_site_after_double_dash early_option_words common_options options_of option_name attached_value is_name is_utf8 chars encode
+help_is_asked : is_command_line_stuck (codes "version" ∷ (codes "--help" ∷ (codes "--" ∷ []))) ≡ false
+unfolding is_command_line_stuck command_of spelled_command command_of_reading_with_end_place reading_of_rest_of_command_words applet_site_of_word applet_site_after_double_dash early_option_words common_options options_of option_name attached_value is_name is_utf8 chars encode
 help_is_asked = refl
 
-each_has_them : are_words_without_completion (codes "--no-scripts" ∷ (codes "--allow-untrusted" ∷ [])) ≡ false
-unfolding are_words_without_completion command_of spelled_command command_of_reading reading_after_applet applet_site_of_word applet_site_after_double_dash early_option_words common_options options_of option_name attached_value is_name is_utf8 chars encode
+each_has_them : is_command_line_stuck (codes "--no-scripts" ∷ (codes "--allow-untrusted" ∷ [])) ≡ false
+unfolding is_command_line_stuck command_of spelled_command command_of_reading_with_end_place reading_of_rest_of_command_words applet_site_of_word applet_site_after_double_dash early_option_words common_options options_of option_name attached_value is_name is_utf8 chars encode
 each_has_them = refl
 
 -- an applet can follow
-no_applet : are_words_without_completion (codes "--" ∷ []) ≡ false
-unfolding are_words_without_completion command_of spelled_command command_of_reading reading_after_applet applet_site_of_word applet_site_after_double_dash early_option_words common_options options_of option_name attached_value is_name is_utf8 chars encode
+no_applet : is_command_line_stuck (codes "--" ∷ []) ≡ false
+unfolding is_command_line_stuck command_of spelled_command command_of_reading_with_end_place reading_of_rest_of_command_words applet_site_of_word applet_site_after_double_dash early_option_words common_options options_of option_name attached_value is_name is_utf8 chars encode
 no_applet = refl
 
 -- ---- words of `info` that can still get a kind
 
 kind_may_follow : can_info_kind_follow (codes "info" ∷ (codes "usr/x" ∷ [])) ≡ true
-unfolding can_info_kind_follow reading_after_applet applet_site_of_word applet_site_after_double_dash early_option_words common_options options_of option_name attached_value is_name is_utf8 chars encode
+unfolding can_info_kind_follow reading_of_rest_of_command_words applet_site_of_word applet_site_after_double_dash early_option_words common_options options_of option_name attached_value is_name is_utf8 chars encode
 kind_may_follow = refl
 
 kind_may_follow_none : can_info_kind_follow (codes "info" ∷ []) ≡ true
-unfolding can_info_kind_follow reading_after_applet applet_site_of_word applet_site_after_double_dash early_option_words common_options options_of option_name attached_value is_name is_utf8 chars encode
+unfolding can_info_kind_follow reading_of_rest_of_command_words applet_site_of_word applet_site_after_double_dash early_option_words common_options options_of option_name attached_value is_name is_utf8 chars encode
 kind_may_follow_none = refl
 
 kind_may_follow_packages : can_info_kind_follow (codes "--no-scripts" ∷ (codes "info" ∷ (codes "a" ∷ (codes "b" ∷ [])))) ≡ true
-unfolding can_info_kind_follow reading_after_applet applet_site_of_word applet_site_after_double_dash early_option_words common_options options_of option_name attached_value is_name is_utf8 chars encode
+unfolding can_info_kind_follow reading_of_rest_of_command_words applet_site_of_word applet_site_after_double_dash early_option_words common_options options_of option_name attached_value is_name is_utf8 chars encode
 kind_may_follow_packages = refl
 
 no_kind_after_end : can_info_kind_follow (codes "info" ∷ (codes "--" ∷ (codes "usr/x" ∷ []))) ≡ false
-unfolding can_info_kind_follow reading_after_applet applet_site_of_word applet_site_after_double_dash early_option_words common_options options_of option_name attached_value is_name is_utf8 chars encode
+unfolding can_info_kind_follow reading_of_rest_of_command_words applet_site_of_word applet_site_after_double_dash early_option_words common_options options_of option_name attached_value is_name is_utf8 chars encode
 no_kind_after_end = refl
 
 no_kind_after_early_end : can_info_kind_follow (codes "--" ∷ (codes "info" ∷ (codes "usr/x" ∷ []))) ≡ false
-unfolding can_info_kind_follow reading_after_applet applet_site_of_word applet_site_after_double_dash early_option_words common_options options_of option_name attached_value is_name is_utf8 chars encode
+unfolding can_info_kind_follow reading_of_rest_of_command_words applet_site_of_word applet_site_after_double_dash early_option_words common_options options_of option_name attached_value is_name is_utf8 chars encode
 no_kind_after_early_end = refl
 
 no_second_kind : can_info_kind_follow (codes "info" ∷ (codes "a" ∷ (codes "-e" ∷ []))) ≡ false
-unfolding can_info_kind_follow reading_after_applet applet_site_of_word applet_site_after_double_dash early_option_words common_options options_of option_name attached_value is_name is_utf8 chars encode
+unfolding can_info_kind_follow reading_of_rest_of_command_words applet_site_of_word applet_site_after_double_dash early_option_words common_options options_of option_name attached_value is_name is_utf8 chars encode
 no_second_kind = refl
 
 no_kind_after_bad_word : can_info_kind_follow (codes "info" ∷ (codes "usr/x" ∷ (codes "--bad" ∷ []))) ≡ false
-unfolding can_info_kind_follow reading_after_applet applet_site_of_word applet_site_after_double_dash early_option_words common_options options_of option_name attached_value is_name is_utf8 chars encode
+unfolding can_info_kind_follow reading_of_rest_of_command_words applet_site_of_word applet_site_after_double_dash early_option_words common_options options_of option_name attached_value is_name is_utf8 chars encode
 no_kind_after_bad_word = refl
 
 kind_of_version : can_info_kind_follow (codes "version" ∷ (codes "a" ∷ [])) ≡ false
-unfolding can_info_kind_follow reading_after_applet applet_site_of_word applet_site_after_double_dash early_option_words common_options options_of option_name attached_value is_name is_utf8 chars encode
+unfolding can_info_kind_follow reading_of_rest_of_command_words applet_site_of_word applet_site_after_double_dash early_option_words common_options options_of option_name attached_value is_name is_utf8 chars encode
 kind_of_version = refl

@@ -128,15 +128,15 @@ start_with_early_flags site (Ok flags) = Ok (start_from_parts site flags)
 
 -- the start of a command line, by the site of its applet among these words; or the first wrong place, if no applet or a
 -- wrong option before it was found
-abbrev pub start_after_site : List (List ℕ) → Result AppletSite ℕ → Result Start ℕ
-start_after_site words (Err place) = Err place
-start_after_site words (Ok site) =
+abbrev pub start_by_applet_site : List (List ℕ) → Result AppletSite ℕ → Result Start ℕ
+start_by_applet_site words (Err place) = Err place
+start_by_applet_site words (Ok site) =
     start_with_early_flags site
     (flags_with_early_options (options_of site.applet) no_flags 1 (take (site.read - 1) words))
 
 -- the start of a command line: its applet and the flags before it; or the first wrong place up to the applet
 abbrev pub start_of_command_line : List (List ℕ) → Result Start ℕ
-start_of_command_line words = start_after_site words (applet_site 1 words)
+start_of_command_line words = start_by_applet_site words (applet_site 1 words)
 
 -- ---- options and their values
 
@@ -221,13 +221,14 @@ words_reading_from_parts state operands unread =
     record { state = state; operands = operands; unread = unread }
 
 -- all of these words as operands; the first word is at `place`
-abbrev pub operands_of : ℕ → List (List ℕ) → List Operand
-operands_of place [] = []
-operands_of place (word ∷ words) = operand_at place word ∷ operands_of (place + 1) words
+abbrev pub words_as_operands_from_place : ℕ → List (List ℕ) → List Operand
+words_as_operands_from_place place [] = []
+words_as_operands_from_place place (word ∷ words) =
+    operand_at place word ∷ words_as_operands_from_place (place + 1) words
 
 -- a reading with one more operand, in front of those that it has
-abbrev pub with_operand : Operand → Reading → Reading
-with_operand operand reading = record reading { operands = operand ∷ reading.operands }
+abbrev pub with_operand_in_front : Operand → Reading → Reading
+with_operand_in_front operand reading = record reading { operands = operand ∷ reading.operands }
 
 -- the reading after the word at a place: if the word gives a new state, `next` continues from it;
 -- otherwise the word cannot be read, and the reading ends there
@@ -242,24 +243,27 @@ reading_at_end_of_words state place =
 
 -- the reading of the words that begin at `place`, from a state on: options, values and operands, up to the first word
 -- that cannot be read
-abbrev pub option_reading : List OptionSpec → OptionState → ℕ → List (List ℕ) → Reading
-option_reading options state place [] = reading_at_end_of_words state place
-option_reading options state place (word ∷ words) =
+abbrev pub reading_of_words_from_place : List OptionSpec → OptionState → ℕ → List (List ℕ) → Reading
+reading_of_words_from_place options state place [] = reading_at_end_of_words state place
+reading_of_words_from_place options state place (word ∷ words) =
     if is_option_or_value state word then
-    or_stop_at_unread_word state place (λ more. option_reading options more (place + 1) words)
+    or_stop_at_unread_word state place (λ more. reading_of_words_from_place options more (place + 1) words)
     (with_option_or_value_word options state place word) else
-    if is_double_dash word then words_reading_from_parts state (operands_of (place + 1) words) None else
-    with_operand (operand_at place word) (option_reading options state (place + 1) words)
+    if is_double_dash word then words_reading_from_parts state
+    (words_as_operands_from_place (place + 1) words) None else
+    with_operand_in_front (operand_at place word)
+    (reading_of_words_from_place options state (place + 1) words)
 
 -- the reading of those of all words of a command line that are after its start (the applet and the words before it); if
 -- `--` is in the start, all of them are operands
-unfoldable pub reading_after_applet : Start → List (List ℕ) → Reading
-reading_after_applet start words =
+unfoldable pub reading_of_rest_of_command_words : Start → List (List ℕ) → Reading
+reading_of_rest_of_command_words start words =
     let left = drop start.read words in
     if start.ended then
     words_reading_from_parts (option_state_at_start start.flags)
-    (operands_of (start.read + 1) left) None else
-    option_reading (options_of start.applet) (option_state_at_start start.flags) (start.read + 1) left
+    (words_as_operands_from_place (start.read + 1) left) None else
+    reading_of_words_from_place (options_of start.applet) (option_state_at_start start.flags)
+    (start.read + 1) left
 
 -- ---- the command, or the first wrong place
 
@@ -271,20 +275,20 @@ place_of_refused_operand (Some rule) operands = first_refused_operand rule 0 ope
 
 -- whether there are fewer operands than the rule needs, or there is no rule, since the flag is missing that selects the
 -- kind of the command
-abbrev pub lacks_operand : Option OperandRule → List Operand → Bool
-lacks_operand None operands = true
-lacks_operand (Some rule) operands = nat_lt (length operands) rule.least
+abbrev pub lacks_operand_or_kind_flag : Option OperandRule → List Operand → Bool
+lacks_operand_or_kind_flag None operands = true
+lacks_operand_or_kind_flag (Some rule) operands = nat_lt (length operands) rule.least
 
 -- whether a word is missing: an operand, the flag that selects the kind of the command, or the option with a value that
 -- the applet requires
 abbrev pub lacks_operand_or_required_value : Applet → Option OperandRule → Reading → Bool
 lacks_operand_or_required_value applet rule reading =
-    lacks_operand rule reading.operands
+    lacks_operand_or_kind_flag rule reading.operands
     || is_required_value_missing (required_option_letter applet) reading.state.values
 
 -- the command of a reading; `behind` is the place after the last word
-abbrev pub command_from_reading_parts : ℕ → Applet → Reading → CommandLine
-command_from_reading_parts behind applet reading =
+abbrev pub command_from_end_place_and_reading : ℕ → Applet → Reading → CommandLine
+command_from_end_place_and_reading behind applet reading =
     command_from_parts applet reading.state.flags reading.operands reading.state.values behind
 
 -- an error at the wrong place, if there is one, and otherwise this result
@@ -294,22 +298,23 @@ unless_refused_at (Some place) otherwise = Err place
 
 -- the command of a reading, or the first wrong place: an operand that is not taken, the word that cannot be read, or
 -- the place after the last word (`behind`) if a word is missing
-unfoldable pub command_of_reading : ℕ → Applet → Reading → Result CommandLine ℕ
-command_of_reading behind applet reading =
+unfoldable pub command_of_reading_with_end_place : ℕ → Applet → Reading → Result CommandLine ℕ
+command_of_reading_with_end_place behind applet reading =
     let rule = operand_rule applet reading.state.flags in
     unless_refused_at (option_or (place_of_refused_operand rule reading.operands) reading.unread)
     (if lacks_operand_or_required_value applet rule reading then Err behind else Ok
-    (command_from_reading_parts behind applet reading))
+    (command_from_end_place_and_reading behind applet reading))
 
 -- the command of the words, by the start that was found in them; or the place of the first wrong word
-abbrev pub spelled_command_from_start : List (List ℕ) → Result Start ℕ → Result CommandLine ℕ
-spelled_command_from_start words (Err place) = Err place
-spelled_command_from_start words (Ok start) =
-    command_of_reading (length words + 1) start.applet (reading_after_applet start words)
+abbrev pub spelled_command_by_start : List (List ℕ) → Result Start ℕ → Result CommandLine ℕ
+spelled_command_by_start words (Err place) = Err place
+spelled_command_by_start words (Ok start) =
+    command_of_reading_with_end_place (length words + 1) start.applet
+    (reading_of_rest_of_command_words start words)
 
 -- the command that the words spell, or the place of the first wrong word. `--help` and `--version` are no options here
 unfoldable pub spelled_command : List (List ℕ) → Result CommandLine ℕ
-spelled_command words = spelled_command_from_start words (start_of_command_line words)
+spelled_command words = spelled_command_by_start words (start_of_command_line words)
 
 -- ---- what the next word can be
 

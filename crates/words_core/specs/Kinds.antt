@@ -6,7 +6,7 @@ use Rattle.command_core.specs.declared.command.Applet.{Applet}
 use Rattle.command_core.specs.declared.command.Applet.TheVariants.{Info}
 use Rattle.command_core.specs.Flags.{has_command_kind_flag}
 use Rattle.words_core.specs.declared.reading.Start.{Start}
-use Rattle.words_core.specs.Grammar.{start_of_command_line, reading_after_applet}
+use Rattle.words_core.specs.Grammar.{start_of_command_line, reading_of_rest_of_command_words}
 use Rattle.words_core.specs.Options.{options_of}
 use Rattle.words_core.specs.Stuck.{have_options_ended}
 
@@ -19,7 +19,7 @@ is_info_applet applet = false
 -- options can follow
 abbrev pub can_started_words_get_info_kind : List (List ℕ) → Start → Bool
 can_started_words_get_info_kind words start =
-    let reading = reading_after_applet start words in
+    let reading = reading_of_rest_of_command_words start words in
     is_info_applet start.applet && not (has_command_kind_flag reading.state.flags)
     && not (is_some reading.unread)
     && not (start.ended || have_options_ended (options_of start.applet) None (drop start.read words))

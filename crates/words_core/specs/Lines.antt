@@ -15,7 +15,7 @@ use Rattle.command_core.specs.Operands.{operand_at}
 use Rattle.command_core.specs.Values.{option_value_from_place_and_letter}
 use Rattle.words_core.specs.declared.options.Meaning.{Meaning}
 use Rattle.words_core.specs.declared.options.Meaning.TheVariants.{Flag as Plain, Kind, Value}
-use Rattle.words_core.specs.Grammar.{attached_value, is_double_dash, is_option, operands_of, option_name, value_rule_of_word, awaited_rule}
+use Rattle.words_core.specs.Grammar.{attached_value, is_double_dash, is_option, words_as_operands_from_place, option_name, value_rule_of_word, awaited_rule}
 use Rattle.words_core.specs.Options.{OptionSpec, applet_of, is_early_option_word, option_of_word, options_of}
 
 -- the words that are neither options nor values, each with its place (`place` is that of the first word): all after
@@ -24,7 +24,7 @@ abbrev pub operand_words : List OptionSpec → Option ValueRule → ℕ → List
 operand_words options rule place [] = []
 operand_words options (Some rule) place (word ∷ words) = operand_words options None (place + 1) words
 operand_words options None place (word ∷ words) =
-    if is_double_dash word then operands_of (place + 1) words else
+    if is_double_dash word then words_as_operands_from_place (place + 1) words else
     if is_option word then operand_words options (awaited_rule options word) (place + 1) words else
     operand_at place word ∷ operand_words options None (place + 1) words
 

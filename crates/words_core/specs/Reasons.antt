@@ -18,7 +18,7 @@ use Rattle.words_core.specs.declared.reading.Reading.{Reading}
 use Rattle.words_core.specs.declared.reading.Start.{Start}
 use Rattle.words_core.specs.declared.usage.UsageReason.{UsageReason}
 use Rattle.words_core.specs.declared.usage.UsageReason.TheVariants.{CommandMissing, CommandUnknown, OptionEarly, OptionUnknown, OptionRepeated, SecondKind, ValueGiven, ValueMissing, ValueBad, ScriptRepeated, TooManyOperands, OperandBad, OperandMissing, KindMissing, OptionMissing}
-use Rattle.words_core.specs.Grammar.{applet_site, attached_value, is_option, start_of_command_line, option_name, reading_after_applet, value_rule_of_meaning}
+use Rattle.words_core.specs.Grammar.{applet_site, attached_value, is_option, start_of_command_line, option_name, reading_of_rest_of_command_words, value_rule_of_meaning}
 use Rattle.words_core.specs.Options.{OptionSpec, applet_of, is_early_option_word, option_of_word, options_of}
 use Rattle.words_core.specs.Usage.{operand_rule_of_words}
 
@@ -41,7 +41,8 @@ HasApplet words P = (site : AppletSite) × (applet_site 1 words ≡ Ok site) × 
 -- a start (the applet and the flags before it) was found in the words, and P holds of it and of what was read after it
 abbrev pub HasReading : List (List ℕ) → (Start → Reading → Type 0) → Type 0
 HasReading words P =
-    (start : Start) × (start_of_command_line words ≡ Ok start) × P start (reading_after_applet start words)
+    (start : Start) × (start_of_command_line words ≡ Ok start)
+    × P start (reading_of_rest_of_command_words start words)
 
 -- a word spells an option of the applet, and P holds of the option's meaning
 abbrev pub HasOptionMeaning : Applet → List ℕ → (Meaning → Type 0) → Type 0

@@ -16,7 +16,7 @@ use Rattle.command_core.specs.Values.{is_required_value_missing, script_type, sc
 use Rattle.words_core.specs.declared.reading.AppletSite.{AppletSite}
 use Rattle.words_core.specs.declared.reading.OptionState.{OptionState}
 use Rattle.words_core.specs.declared.reading.Start.{Start}
-use Rattle.words_core.specs.Grammar.{applet_site, command_of, flags_with_early_options, is_double_dash, is_option, reading_after_applet, awaited_rule, start_after_site}
+use Rattle.words_core.specs.Grammar.{applet_site, command_of, flags_with_early_options, is_double_dash, is_option, reading_of_rest_of_command_words, awaited_rule, start_by_applet_site}
 use Rattle.words_core.specs.Options.{OptionSpec, applets, options_of}
 
 -- ---- before the applet
@@ -64,7 +64,7 @@ awaits_impossible_value (Some rule) values = has_all_possible_values rule.kind r
 -- be the awaited value
 abbrev pub is_stuck : List (List ℕ) → Start → Bool
 is_stuck words start =
-    let state = (reading_after_applet start words).state in
+    let state = (reading_of_rest_of_command_words start words).state in
     ((start.ended || have_options_ended (options_of start.applet) None (drop start.read words))
     && is_required_option_missing start.applet state)
     || awaits_impossible_value state.awaiting state.values
@@ -80,9 +80,9 @@ is_stuck_by words (Ok start) = is_stuck words start
 abbrev pub are_stuck_by : List (List ℕ) → Result AppletSite ℕ → Bool
 are_stuck_by words (Err place) = list_any is_double_dash words && not (list_any (are_options_of words)
     applets)
-are_stuck_by words (Ok site) = is_stuck_by words (start_after_site words (Ok site))
+are_stuck_by words (Ok site) = is_stuck_by words (start_by_applet_site words (Ok site))
 
 -- whether words are stuck: they are no command, and no words after them make them one
-unfoldable pub are_words_without_completion : List (List ℕ) → Bool
-are_words_without_completion words =
+unfoldable pub is_command_line_stuck : List (List ℕ) → Bool
+is_command_line_stuck words =
     not (is_ok (command_of words)) && are_stuck_by words (applet_site 1 words)

@@ -22,7 +22,7 @@ use Rattle.words_core.specs.declared.reading.AppletSite.{AppletSite}
 use Rattle.words_core.specs.declared.reading.Start.{Start}
 use Rattle.words_core.specs.declared.usage.UsageReason.{UsageReason}
 use Rattle.words_core.specs.declared.usage.UsageReason.TheVariants.{CommandMissing, CommandUnknown, OptionEarly, OptionUnknown, OptionRepeated, SecondKind, ValueGiven, ValueMissing, ValueBad, ScriptRepeated, TooManyOperands, OperandBad, OperandMissing, KindMissing, OptionMissing}
-use Rattle.words_core.specs.Grammar.{applet_site, attached_value, is_double_dash, is_option, start_of_command_line, next_word_of_command_line, option_name, reading_after_applet}
+use Rattle.words_core.specs.Grammar.{applet_site, attached_value, is_double_dash, is_option, start_of_command_line, next_word_of_command_line, option_name, reading_of_rest_of_command_words}
 use Rattle.words_core.specs.HelpTexts.{program_usage}
 use Rattle.words_core.specs.Options.{OptionSpec, applet_word, option_of_word, options_of}
 
@@ -101,7 +101,8 @@ early_reason (Ok site) next word = OptionUnknown
 
 -- which operands the command that was found takes, under all flags that are read
 abbrev pub operand_rule_of_words : List (List ℕ) → Start → Option OperandRule
-operand_rule_of_words words start = operand_rule start.applet (reading_after_applet start words).state.flags
+operand_rule_of_words words start =
+    operand_rule start.applet (reading_of_rest_of_command_words start words).state.flags
 
 -- why a place offends, by the start (the applet and the flags before it) that was found in the words, if one was
 abbrev pub usage_reason_after_start : List (List ℕ) → ℕ → Result Start ℕ → UsageReason

@@ -12,9 +12,9 @@ ghost use Rattle.words_core.specs.Options.{applets, common_options, own_options}
 ghost use Rattle.words_core.specs.Explained.{are_help_lines_of_options, are_applets_listed_in_help, help_and_version_options};
 ghost use Rattle.words_core.specs.HelpTexts.{common_option_help, option_help};
 ghost use Rattle.words_core.specs.Reasons.{IsUsageReason};
-ghost use Rattle.words_core.specs.Rows.{has_letter_of_short_word};
+ghost use Rattle.words_core.specs.Rows.{is_value_letter_that_of_short_word};
 ghost use Rattle.words_core.specs.Usage.{usage_reason};
-ghost use Rattle.words_core.specs.Stuck.{are_words_without_completion};
+ghost use Rattle.words_core.specs.Stuck.{is_command_line_stuck};
 
 /// If a command is read from words, the words are that command: its applet, its operands and its
 /// options, and nothing else; or one of the words asks for the command, as `--help` does.
@@ -51,7 +51,7 @@ pub fn words_offend_whatever_follows()
 /// Or `mkpkg` awaits one more script and has one of each of the seven types.
 pub fn words_before_a_usage_error_can_be_completed()
     ensures { (words : List (List ℕ)) (place : ℕ) →
-        IsTrue (not (are_words_without_completion (take (place - 1) words))) → command_of words
+        IsTrue (not (is_command_line_stuck (take (place - 1) words))) → command_of words
         ≡ Err place →
         (more : List (List ℕ)) × (command : CommandLine)
         × (command_of (take (place - 1) words ++ more) ≡ Ok command) }
@@ -59,7 +59,7 @@ pub fn words_before_a_usage_error_can_be_completed()
 
 /// Stuck words are no command, whatever words follow.
 pub fn stuck_words_are_no_command()
-    ensures { (words more : List (List ℕ)) → IsTrue (are_words_without_completion words) →
+    ensures { (words more : List (List ℕ)) → IsTrue (is_command_line_stuck words) →
         (place : ℕ) × (command_of (words ++ more) ≡ Err place) }
 {}
 
@@ -74,7 +74,8 @@ pub fn what_follows_a_command_offends_after_it()
 
 /// The letter under which the values of an option are stored is that of the option's short word.
 pub fn letters_are_those_of_short_words()
-    ensures { (applet : Applet) → IsTrue (list_all has_letter_of_short_word (own_options applet)) }
+    ensures { (applet : Applet)
+        → IsTrue (list_all is_value_letter_that_of_short_word (own_options applet)) }
 {}
 
 /// The reason that the line after a usage error gives is true, of the word at the place or of the

@@ -4,7 +4,7 @@ ghost use Rattle.std.specs.Prelude.{◌≡◌, IfOk, IfErr, IsTrue, OnErr};
 ghost use Rattle.std.specs.Result.{is_ok};
 ghost use Rattle.command_core.specs.Sound.{is_valid_command};
 ghost use Rattle.words_core.specs.Faults.{HasStartIfOutOfMemory, IsWordsFault};
-ghost use Rattle.words_core.specs.Grammar.{applet_site, help_or_version_command, command_of, command_of_reading, spelled_command, start_of_command_line, help_topic_operands};
+ghost use Rattle.words_core.specs.Grammar.{applet_site, help_or_version_command, command_of, command_of_reading_with_end_place, spelled_command, start_of_command_line, help_topic_operands};
 ghost use Rattle.words_core.specs.Steps.{IsSoundReading};
 
 use crate::next::help_or_version_option_at;
@@ -137,12 +137,13 @@ fn read_line(alloc: Global, words: &Words) -> Result<Command, WordsFault>
 
 // The command that was read, or the first wrong place: an operand that is not taken, the word that
 // cannot be read, or the place after the last word (`behind`) if a word is missing.
-#[tactic(auto, unfolding(crate::specs::Grammar::command_of_reading))]
+#[tactic(auto, unfolding(crate::specs::Grammar::command_of_reading_with_end_place))]
 fn judge(applet: Applet, reading: Reading, behind: u32) -> Result<Command, WordsFault>
     requires { IsSoundReading applet reading }
-    ensures ok { IfOk result (λ command. command_of_reading behind applet reading ≡ Ok command) }
+    ensures ok { IfOk result (λ command. command_of_reading_with_end_place behind applet reading
+        ≡ Ok command) }
     ensures usage { IfErr result (λ fault. IsWordsFault fault
-        (command_of_reading behind applet reading)) }
+        (command_of_reading_with_end_place behind applet reading)) }
 {
     // Without the flag that selects its kind a command has no rule for its operands.
     let Some(rule) = applet.operands(reading.state.flags) else {

@@ -6,7 +6,7 @@ ghost use Rattle.std.specs.Option.{option_map};
 ghost use Rattle.command_core.specs.Applets.{required_option_letter};
 ghost use Rattle.command_core.specs.Flags.{no_flags};
 ghost use Rattle.command_core.specs.Values.{is_required_value_missing};
-ghost use Rattle.words_core.specs.Grammar.{applet_site, flags_with_early_options, option_state_at_start, is_option, is_option_or_value, start_of_command_line, operands_of, option_reading, reading_after_applet, words_reading_from_parts, reading_at_end_of_words, applet_site_of_word, applet_site_after_double_dash, with_flags_if_some, flags_with_meaning, state_with_meaning, with_value_option, with_option_word, with_option_value, with_option_or_value_word};
+ghost use Rattle.words_core.specs.Grammar.{applet_site, flags_with_early_options, option_state_at_start, is_option, is_option_or_value, start_of_command_line, words_as_operands_from_place, reading_of_words_from_place, reading_of_rest_of_command_words, words_reading_from_parts, reading_at_end_of_words, applet_site_of_word, applet_site_after_double_dash, with_flags_if_some, flags_with_meaning, state_with_meaning, with_value_option, with_option_word, with_option_value, with_option_or_value_word};
 ghost use Rattle.words_core.specs.Options.{options_of};
 ghost use Rattle.words_core.specs.Steps.{IsReadingStep};
 
@@ -337,14 +337,15 @@ impl Reading {
 }
 
 /// Reads the words after the applet, up to the first that cannot be read.
-#[tactic(auto, unfolding(crate::specs::Grammar::reading_after_applet))]
+#[tactic(auto, unfolding(crate::specs::Grammar::reading_of_rest_of_command_words))]
 pub(crate) fn read_after_applet(
     alloc: Global,
     words: &Words,
     start: &Start,
 ) -> Result<Reading, AllocError>
     requires { start.now.read ≤ length words.now }
-    ensures { IfOk result (λ reading. reading ≡ reading_after_applet start.now words.now) }
+    ensures { IfOk result (λ reading. reading
+        ≡ reading_of_rest_of_command_words start.now words.now) }
 {
     if !start.ended {
         return read_options(alloc, words, start);
@@ -359,7 +360,7 @@ pub(crate) fn read_after_applet(
 fn read_options(alloc: Global, words: &Words, start: &Start) -> Result<Reading, AllocError>
     requires { start.now.read ≤ length words.now }
     ensures { IfOk result (λ reading.
-        reading ≡ option_reading (options_of start.now.applet)
+        reading ≡ reading_of_words_from_place (options_of start.now.applet)
         (option_state_at_start start.now.flags)
         (start.now.read + 1) (drop start.now.read words.now)) }
 {
@@ -389,7 +390,7 @@ fn read_options(alloc: Global, words: &Words, start: &Start) -> Result<Reading, 
 fn add_operands(operands: &mut Operands, words: &Words, before: usize) -> Result<(), AllocError>
     requires { before ≤ length words.now }
     ensures { OnOk result (operands.new ≡ operands.old
-        ++ operands_of (before + 1) (drop before words.now)) }
+        ++ words_as_operands_from_place (before + 1) (drop before words.now)) }
 {
     for i in before..words.len() {
         operands.push(place_after_word(i), words.word(i))?;

@@ -4,7 +4,7 @@ ghost use Rattle.std.specs.Prelude.{◌≡◌, ◌-◌, ◌+◌, ◌<◌, ◌≤
 ghost use Rattle.std.specs.Option.{option_map};
 ghost use Rattle.base_core.specs.Sink.{sink_before_and_after};
 ghost use Rattle.base_core.specs.Write.{Writes};
-ghost use Rattle.words_core.specs.Grammar.{applet_site, option_state_at_start, is_option, start_of_command_line, next_word_of_command_line, option_reading, reading_after_applet};
+ghost use Rattle.words_core.specs.Grammar.{applet_site, option_state_at_start, is_option, start_of_command_line, next_word_of_command_line, reading_of_words_from_place, reading_of_rest_of_command_words};
 ghost use Rattle.words_core.specs.Options.{options_of};
 ghost use Rattle.words_core.specs.Rows.{option_spec};
 ghost use Rattle.words_core.specs.Steps.{operands_depend_on_flags, flags_with_spelled_option, has_no_values};
@@ -266,11 +266,11 @@ fn operands_depend_on_flags(applet: Applet) -> bool
 
 // The flags before the command, and those after it up to the first word that cannot be read. No
 // option of the command has values.
-#[tactic(auto, unfolding(crate::specs::Grammar::reading_after_applet))]
+#[tactic(auto, unfolding(crate::specs::Grammar::reading_of_rest_of_command_words))]
 fn read_flags(words: &Words, start: &Start) -> Flags
     requires read { start.now.read ≤ length words.now }
     requires plain { IsTrue (has_no_values start.now.applet) }
-    ensures { result ≡ (reading_after_applet start.now words.now).state.flags }
+    ensures { result ≡ (reading_of_rest_of_command_words start.now words.now).state.flags }
 {
     if start.ended {
         return start.flags;
@@ -283,7 +283,7 @@ fn read_flags(words: &Words, start: &Start) -> Flags
 fn flags_behind(words: &Words, start: &Start) -> Flags
     requires read { start.now.read ≤ length words.now }
     requires plain { IsTrue (has_no_values start.now.applet) }
-    ensures { result ≡ (option_reading (options_of start.now.applet)
+    ensures { result ≡ (reading_of_words_from_place (options_of start.now.applet)
         (option_state_at_start start.now.flags) (start.now.read + 1)
         (drop start.now.read words.now)).state.flags }
 {

@@ -5,7 +5,7 @@ use Rattle.std.specs.List.{list_any}
 use Rattle.std.proofs.lemmas.Bool.{ltb-false}
 use Rattle.engine_core.specs.adb_fields.FirstPair.{IsIn}
 use Rattle.engine_core.specs.adb_fields.Repeated.{entries_at, list_of}
-use Rattle.engine_core.specs.adb_schema.Soundness.{container_fault_except_contents, payload_in, root_value}
+use Rattle.engine_core.specs.adb_schema.Soundness.{container_fault_except_contents, payload_in, root_value_of_payload}
 use Rattle.adb_view.specs.FieldIndexes.{INDEX_PACKAGES}
 use Rattle.adb_view.specs.Values.{entries_in, entry_in}
 use Rattle.adb_view.specs.declared.tables.Which.TheVariants.{Index}
@@ -46,13 +46,13 @@ module _ (read : Reads) where
   AreValues n [] values = Unit {0}
   AreValues n (x ∷ rs) [] = ⊥
   AreValues n (x ∷ rs) (value ∷ values) =
-      ((file : List ℕ) × (read n x.path ≡ Some file) × (value ≡ root_value Index (payload_in file))) × AreValues (suc n) rs values
+      ((file : List ℕ) × (read n x.path ≡ Some file) × (value ≡ root_value_of_payload Index (payload_in file))) × AreValues (suc n) rs values
 
-  value_in : (number : ℕ) (file : List ℕ) (value : Plain) → index_in_file number file ≡ Ok value → value ≡ root_value Index (payload_in file)
+  value_in : (number : ℕ) (file : List ℕ) (value : Plain) → index_in_file number file ≡ Ok value → value ≡ root_value_of_payload Index (payload_in file)
   value_in number file value e = by (container_fault_except_contents Index file) e
     where
-      by : (fault : Option Cause) → unless_cause (IndexBad number) fault (root_value Index (payload_in file)) ≡ Ok value → value ≡ root_value Index (payload_in file)
-      by None e = let same : root_value Index (payload_in file) ≡ value = cc in sym same
+      by : (fault : Option Cause) → unless_cause (IndexBad number) fault (root_value_of_payload Index (payload_in file)) ≡ Ok value → value ≡ root_value_of_payload Index (payload_in file)
+      by None e = let same : root_value_of_payload Index (payload_in file) ≡ value = cc in sym same
       by (Some cause) e = absurd (cc (e))
 
   are_values : (n number : ℕ) (rs : List Repository) (files : List (List ℕ)) (values : List Plain) → index_files_from number (index_reads_from read n rs) ≡ Ok files → indexes_in_files number files ≡ Ok values → AreValues n rs values
@@ -87,7 +87,7 @@ module _ (read : Reads) where
     pub file : List ℕ
     pub is_index : read (n + place) repository.path ≡ Some file
     pub info : Plain
-    pub has : IsIn info (entries_at INDEX_PACKAGES (root_value Index (payload_in file)))
+    pub has : IsIn info (entries_at INDEX_PACKAGES (root_value_of_payload Index (payload_in file)))
     pub is : c ≡ candidate_of info (Some (m + place)) repository.tag false
 
   later : (n m : ℕ) (x : Repository) (rs : List Repository) (c : Candidate) → IsFromOne (suc n) (m + 1) rs c → IsFromOne n m (x ∷ rs) c
@@ -127,7 +127,7 @@ module _ (read : Reads) where
       ]
 
   from_all : (n m : ℕ) (rs : List Repository) (values : List Plain) → AreValues n rs values → (place : ℕ) (repository : Repository) (info : Plain) (file : List ℕ) → slice_get rs place ≡ Some repository
-      → read (n + place) repository.path ≡ Some file → IsIn info (entries_at INDEX_PACKAGES (root_value Index (payload_in file)))
+      → read (n + place) repository.path ≡ Some file → IsIn info (entries_at INDEX_PACKAGES (root_value_of_payload Index (payload_in file)))
       → IsIn (candidate_of info (Some (m + place)) repository.tag false) (candidates_of_repositories_from m rs values)
   from_all n m [] values are place repository info file listed found has = absurd (cc (listed))
   from_all n m (x ∷ rs) [] are place repository info file listed found has = absurd are
@@ -137,7 +137,7 @@ module _ (read : Reads) where
       let same : x ≡ repository = cc in
       let both : Some are.0.0 ≡ Some file = sym are.0.1 ∙ (ap (λ i. read i x.path) (sym k) ∙ (ap (λ (r : Repository). read (n + 0) r.path) same ∙ found)) in
       let one : are.0.0 ≡ file = cc in
-      let value_is : root_value Index (payload_in file) ≡ value = ap (λ f. root_value Index (payload_in f)) (sym one) ∙ sym are.0.2 in
+      let value_is : root_value_of_payload Index (payload_in file) ≡ value = ap (λ f. root_value_of_payload Index (payload_in f)) (sym one) ∙ sym are.0.2 in
       let here = in_index m x.tag (entries_in (entry_in value INDEX_PACKAGES)) info (subst (λ (v : Plain). IsIn info (entries_at INDEX_PACKAGES v)) value_is has) in
       let named : candidate_of info (Some m) x.tag false ≡ candidate_of info (Some (m + 0)) repository.tag false =
       ap (λ i. candidate_of info (Some i) x.tag false) j ∙ ap (λ (r : Repository). candidate_of info (Some (m + 0)) r.tag false) same in

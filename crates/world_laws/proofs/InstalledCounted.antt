@@ -4,7 +4,7 @@ use Rattle.std.specs.List.{list_any}
 use Rattle.std.proofs.lemmas.Bool.{or_cases, or_left, or_right}
 use Rattle.engine_core.specs.adb_fields.FirstPair.{IsIn}
 use Rattle.adb_view.specs.Plain.{Plain}
-use Rattle.engine_core.specs.candidate_core.Candidates.{Candidate, as_installed, as_installed_where_same, is_same_package, with_installed}
+use Rattle.engine_core.specs.candidate_core.Candidates.{Candidate, as_installed, marked_installed_where_same_as, is_same_package, with_installed_marked_or_added}
 use Rattle.engine_core.specs.change_inputs.Candidates.{installed_candidate, with_all_installed}
 
 -- ---- lists
@@ -58,12 +58,12 @@ is_same pkg c = is_same_package (installed_candidate pkg) c
 abbrev counted : Plain → Candidate → Candidate
 counted pkg c = cond (is_same pkg c) (as_installed c) c
 
-marked_back : (pkg : Plain) (cs : List Candidate) (c : Candidate) → IsIn c (as_installed_where_same (installed_candidate pkg) cs) → (was : Candidate) × IsIn was cs × (c ≡ counted pkg was)
+marked_back : (pkg : Plain) (cs : List Candidate) (c : Candidate) → IsIn c (marked_installed_where_same_as (installed_candidate pkg) cs) → (was : Candidate) × IsIn was cs × (c ≡ counted pkg was)
 marked_back pkg [] c here = absurd here
 marked_back pkg (x ∷ cs) c (inl is) = (x, inl refl, is)
 marked_back pkg (x ∷ cs) c (inr more) = let behind = marked_back pkg cs c more in (behind.0, inr behind.1, behind.2)
 
-marked_there : (pkg : Plain) (cs : List Candidate) (c : Candidate) → IsIn c cs → IsIn (counted pkg c) (as_installed_where_same (installed_candidate pkg) cs)
+marked_there : (pkg : Plain) (cs : List Candidate) (c : Candidate) → IsIn c cs → IsIn (counted pkg c) (marked_installed_where_same_as (installed_candidate pkg) cs)
 marked_there pkg [] c here = absurd here
 marked_there pkg (x ∷ cs) c (inl is) = inl (ap (counted pkg) is)
 marked_there pkg (x ∷ cs) c (inr more) = inr (marked_there pkg cs c more)
@@ -71,7 +71,7 @@ marked_there pkg (x ∷ cs) c (inr more) = inr (marked_there pkg cs c more)
 -- the list with one more, by whether an index has it
 abbrev one_counted : Bool → Plain → List Candidate → List Candidate
 one_counted known pkg cs =
-    cond known (as_installed_where_same (installed_candidate pkg) cs) (cs ++ installed_candidate pkg ∷ [])
+    cond known (marked_installed_where_same_as (installed_candidate pkg) cs) (cs ++ installed_candidate pkg ∷ [])
 
 not_same : (pkg : Plain) (c : Candidate) → is_same pkg c ≡ false → c ≡ counted pkg c
 not_same pkg c e = sym (ap (λ t. cond t (as_installed c) c) e)
@@ -89,7 +89,7 @@ back_by false pkg cs c e here = elim (in_append c cs (installed_candidate pkg �
   | inr behind ↦ elim behind [ inl is ↦ inr (e, is) | inr more ↦ absurd more ]
 ]
 
-back : (pkg : Plain) (cs : List Candidate) (c : Candidate) → IsIn c (with_installed cs (installed_candidate pkg)) → IsBefore pkg cs c
+back : (pkg : Plain) (cs : List Candidate) (c : Candidate) → IsIn c (with_installed_marked_or_added cs (installed_candidate pkg)) → IsBefore pkg cs c
 back pkg cs c here = back_by (list_any (is_same pkg) cs) pkg cs c refl here
 
 there_by : (known : Bool) (pkg : Plain) (cs : List Candidate) (c : Candidate) → list_any (is_same pkg) cs ≡ known → IsIn c cs → IsIn (counted pkg c) (one_counted known pkg cs)
@@ -97,14 +97,14 @@ there_by true pkg cs c e here = marked_there pkg cs c here
 there_by false pkg cs c e here =
     subst (λ (x : Candidate). IsIn x (cs ++ installed_candidate pkg ∷ [])) (not_same pkg c (none_in (is_same pkg) cs c e here)) (in_left c cs (installed_candidate pkg ∷ []) here)
 
-there : (pkg : Plain) (cs : List Candidate) (c : Candidate) → IsIn c cs → IsIn (counted pkg c) (with_installed cs (installed_candidate pkg))
+there : (pkg : Plain) (cs : List Candidate) (c : Candidate) → IsIn c cs → IsIn (counted pkg c) (with_installed_marked_or_added cs (installed_candidate pkg))
 there pkg cs c here = there_by (list_any (is_same pkg) cs) pkg cs c refl here
 
 added_by : (known : Bool) (pkg : Plain) (cs : List Candidate) → list_any (is_same pkg) cs ≡ known → known ≡ false → IsIn (installed_candidate pkg) (one_counted known pkg cs)
 added_by true pkg cs e none = absurd (true≢false none)
 added_by false pkg cs e none = in_right (installed_candidate pkg) cs (installed_candidate pkg ∷ []) (inl refl)
 
-added : (pkg : Plain) (cs : List Candidate) → list_any (is_same pkg) cs ≡ false → IsIn (installed_candidate pkg) (with_installed cs (installed_candidate pkg))
+added : (pkg : Plain) (cs : List Candidate) → list_any (is_same pkg) cs ≡ false → IsIn (installed_candidate pkg) (with_installed_marked_or_added cs (installed_candidate pkg))
 added pkg cs none = added_by (list_any (is_same pkg) cs) pkg cs refl none
 
 -- ---- all installed packages
@@ -141,15 +141,15 @@ same_counted pkg other was = by (is_same other was)
     by false = refl
 
 -- where none is the same once another is counted, none was before
-none_before : (pkg other : Plain) (cs : List Candidate) → list_any (is_same pkg) (with_installed cs (installed_candidate other)) ≡ false → list_any (is_same pkg) cs ≡ false
+none_before : (pkg other : Plain) (cs : List Candidate) → list_any (is_same pkg) (with_installed_marked_or_added cs (installed_candidate other)) ≡ false → list_any (is_same pkg) cs ≡ false
 none_before pkg other cs none =
-    no_any (is_same pkg) cs (λ c here. sym (same_counted pkg other c) ∙ none_in (is_same pkg) (with_installed cs (installed_candidate other)) (counted other c) none (there other cs c here))
+    no_any (is_same pkg) cs (λ c here. sym (same_counted pkg other c) ∙ none_in (is_same pkg) (with_installed_marked_or_added cs (installed_candidate other)) (counted other c) none (there other cs c here))
 
 -- a member is a candidate before, as it counts then, or an installed package that no index has
 pub all_back : (pkgs : List Plain) (cs : List Candidate) (c : Candidate) → IsIn c (with_all_installed cs pkgs)
     → ((was : Candidate) × IsIn was cs × IsCounted pkgs was c) ⊎ ((pkg : Plain) × IsIn pkg pkgs × (c ≡ installed_candidate pkg) × (list_any (is_same pkg) cs ≡ false))
 all_back [] cs c here = inl (c, here, inr (refl, λ pkg none. absurd none))
-all_back (pkg ∷ pkgs) cs c here = elim (all_back pkgs (with_installed cs (installed_candidate pkg)) c here) [
+all_back (pkg ∷ pkgs) cs c here = elim (all_back pkgs (with_installed_marked_or_added cs (installed_candidate pkg)) c here) [
   | inl of_list ↦ elim (back pkg cs of_list.0 of_list.1) [
     | inl was ↦ inl (was.0, was.1, counted_more pkg pkgs was.0 c (subst (λ (x : Candidate). IsCounted pkgs x c) was.2 of_list.2))
     | inr alone ↦ inr (pkg, inl refl, counted_alone pkg pkgs c (subst (λ (x : Candidate). IsCounted pkgs x c) alone.1 of_list.2), alone.0)
@@ -161,7 +161,7 @@ all_back (pkg ∷ pkgs) cs c here = elim (all_back pkgs (with_installed cs (inst
 pub all_there : (pkgs : List Plain) (cs : List Candidate) (was : Candidate) → IsIn was cs → (c : Candidate) × IsIn c (with_all_installed cs pkgs) × IsCounted pkgs was c
 all_there [] cs was here = (was, here, inr (refl, λ pkg none. absurd none))
 all_there (pkg ∷ pkgs) cs was here =
-    let more = all_there pkgs (with_installed cs (installed_candidate pkg)) (counted pkg was) (there pkg cs was here) in
+    let more = all_there pkgs (with_installed_marked_or_added cs (installed_candidate pkg)) (counted pkg was) (there pkg cs was here) in
     (more.0, more.1, counted_more pkg pkgs was more.0 more.2)
 
 -- each installed package is one, or a candidate counts for it
@@ -174,7 +174,7 @@ counted_for pkgs pkg was c here e (inr is) = absurd (true≢false (sym e ∙ is.
 
 pub installed_there : (pkgs : List Plain) (cs : List Candidate) (pkg : Plain) → IsIn pkg pkgs → (c : Candidate) × IsIn c (with_all_installed cs pkgs) × IsCountedFor pkg c
 installed_there [] cs pkg here = absurd here
-installed_there (first ∷ pkgs) cs pkg (inr more) = installed_there pkgs (with_installed cs (installed_candidate first)) pkg more
+installed_there (first ∷ pkgs) cs pkg (inr more) = installed_there pkgs (with_installed_marked_or_added cs (installed_candidate first)) pkg more
 installed_there (first ∷ pkgs) cs pkg (inl is) = by (list_any (is_same pkg) cs) refl
   where
     by : (t : Bool) → list_any (is_same pkg) cs ≡ t → (c : Candidate) × IsIn c (with_all_installed cs (first ∷ pkgs)) × IsCountedFor pkg c
@@ -184,6 +184,6 @@ installed_there (first ∷ pkgs) cs pkg (inl is) = by (list_any (is_same pkg) cs
         (there.0, there.1, counted_for (first ∷ pkgs) pkg found.0 there.0 (inl is) found.2 there.2)
     by false e =
         let alone : list_any (is_same first) cs ≡ false = ap (λ (p : Plain). list_any (is_same p) cs) (sym is) ∙ e in
-        let there = all_there pkgs (with_installed cs (installed_candidate first)) (installed_candidate first) (added first cs alone) in
+        let there = all_there pkgs (with_installed_marked_or_added cs (installed_candidate first)) (installed_candidate first) (added first cs alone) in
         let same : there.0 ≡ installed_candidate first = counted_alone first pkgs there.0 there.2 in
         (there.0, there.1, (ap (λ (x : Candidate). x.installed) same, inl (same ∙ ap installed_candidate (sym is))))

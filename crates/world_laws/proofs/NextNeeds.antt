@@ -8,10 +8,10 @@ use Rattle.std.proofs.lemmas.Bool.{and_from, and_parts, not-true}
 use Rattle.dep_core.specs.Dependency.{Dependency}
 use Rattle.base_core.specs.ByteOrder.{bytes_cmp, precedes}
 use Rattle.base_core.proofs.Orderings.{names_total}
-use Rattle.engine_core.specs.candidate_core.Candidates.{Candidate, Need, entry, named, has_usable_install_if}
+use Rattle.engine_core.specs.candidate_core.Candidates.{Candidate, Need, entry, named, is_eligible_with_positive_install_if}
 use Rattle.engine_core.specs.candidate_core.Options.{IsIn}
 use Rattle.engine_core.specs.candidate_core.Rank.{SealedPool, meets_at}
-use Rattle.engine_core.specs.search_tables.Selection.{depends_at, install_if_applies, is_met, is_unmet, least_name, lesser_name, names_by_install_if, next_need, positive_needs, needs_of_world_and_chosen}
+use Rattle.engine_core.specs.search_tables.Selection.{depends_at, install_if_applies, is_met, is_unmet, least_name, lesser_name, names_whose_install_if_applies, next_need, positive_needs, needs_of_world_and_chosen}
 use Rattle.engine_core.proofs.search_tables.PoolFacts.{any_in, filter_in, in_filter, in_map, least_in, least_none, map_in, in_any}
 use Rattle.world_laws.specs.NextNeed.{AreMetByChoices, AreDependenciesOfEachMet, IsAskedByInstallIf, IsFirstOfChoices, IsFirstUnmet, IsMetByChoice, IsNextNeedOrNone}
 
@@ -198,24 +198,24 @@ module _ (pool : SealedPool) (chosen : List ℕ) where
   -- ---- by install-if
 
   abbrev unmet_names : List (List ℕ)
-  unmet_names = filter (λ name. is_unmet pool chosen (named name)) (names_by_install_if pool chosen)
+  unmet_names = filter (λ name. is_unmet pool chosen (named name)) (names_whose_install_if_applies pool chosen)
 
   asked_in : (name : List ℕ) → IsAskedByInstallIf pool chosen name → IsIn name unmet_names
   asked_in name a =
       let applies : install_if_applies pool chosen a.candidate ≡ true =
-      and_from (has_usable_install_if pool.world a.candidate) (list_all (λ (d : Dependency). is_met pool chosen (entry d)) a.candidate.install_if) a.usable
+      and_from (is_eligible_with_positive_install_if pool.world a.candidate) (list_all (λ (d : Dependency). is_met pool chosen (entry d)) a.candidate.install_if) a.usable
       (all_pass (λ (d : Dependency). is_met pool chosen (entry d)) a.candidate.install_if (λ d here. is_met_by (entry d) (a.applies d here))) in
       let here = in_filter (install_if_applies pool chosen) a.candidate pool.candidates a.located applies in
-      let there : IsIn a.candidate.name (names_by_install_if pool chosen) = in_map (λ (c : Candidate). c.name) a.candidate (filter (install_if_applies pool chosen) pool.candidates) here in
-      in_filter (λ n. is_unmet pool chosen (named n)) name (names_by_install_if pool chosen) (subst (λ (n : List ℕ). IsIn n (names_by_install_if pool chosen)) a.is_named there)
+      let there : IsIn a.candidate.name (names_whose_install_if_applies pool chosen) = in_map (λ (c : Candidate). c.name) a.candidate (filter (install_if_applies pool chosen) pool.candidates) here in
+      in_filter (λ n. is_unmet pool chosen (named n)) name (names_whose_install_if_applies pool chosen) (subst (λ (n : List ℕ). IsIn n (names_whose_install_if_applies pool chosen)) a.is_named there)
       (is_unmet_by (named name) a.unmet (is_met pool chosen (named name)) refl)
 
   in_asked : (name : List ℕ) → IsIn name unmet_names → IsAskedByInstallIf pool chosen name
   in_asked name here =
-      let kept = filter_in (λ n. is_unmet pool chosen (named n)) name (names_by_install_if pool chosen) here in
+      let kept = filter_in (λ n. is_unmet pool chosen (named n)) name (names_whose_install_if_applies pool chosen) here in
       let from = map_in (λ (c : Candidate). c.name) name (filter (install_if_applies pool chosen) pool.candidates) kept.0 in
       let there = filter_in (install_if_applies pool chosen) from.0 pool.candidates from.1 in
-      let parts = and_parts (has_usable_install_if pool.world from.0) (list_all (λ (d : Dependency). is_met pool chosen (entry d)) from.0.install_if) there.1 in
+      let parts = and_parts (is_eligible_with_positive_install_if pool.world from.0) (list_all (λ (d : Dependency). is_met pool chosen (entry d)) from.0.install_if) there.1 in
       record {
         candidate = from.0;
         located = there.0;

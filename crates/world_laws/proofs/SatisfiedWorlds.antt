@@ -6,11 +6,11 @@ use Rattle.std.specs.List.{filter, filter_map, list_all}
 use Rattle.std.proofs.lemmas.Bool.{and_from, and_parts, eqb-false, eqb-true, not_from_false}
 use Rattle.std.proofs.lemmas.Slice.Eq.{bytes_eq-Decides}
 use Rattle.dep_core.specs.Dependency.{Dependency}
-use Rattle.engine_core.specs.candidate_core.Candidates.{Candidate, Need, entry, named, has_usable_install_if, is_allowed_by_tags_of_world, is_barred_by_world, is_eligible, meets_dependency, meets_need, occupies_name}
+use Rattle.engine_core.specs.candidate_core.Candidates.{Candidate, Need, entry, named, is_eligible_with_positive_install_if, is_allowed_by_tags_of_world, is_barred_by_world, is_eligible, meets_dependency, meets_need, occupies_name}
 use Rattle.engine_core.specs.candidate_core.Options.{IsIn}
 use Rattle.engine_core.specs.candidate_core.Rank.{SealedPool, candidate_at, candidate_at_passes, meets_at}
 use Rattle.engine_core.specs.package_changes.Placed.{candidates_at}
-use Rattle.engine_core.specs.search_tables.Selection.{IsBestMember, IsSatisfying, IsRestOfWalk, conflicts_with, depends_at, install_if_applies, is_met, names_by_install_if, next_need, positive_needs}
+use Rattle.engine_core.specs.search_tables.Selection.{IsBestMember, IsSatisfying, IsSelectionWithChosenAndRestOfWalk, is_conflict_of_first_met_by_second, depends_at, install_if_applies, is_met, names_whose_install_if_applies, next_need, positive_needs}
 use Rattle.engine_core.proofs.search_tables.PoolFacts.{any_in, in_filter, in_map}
 use Rattle.world_laws.specs.NextNeed.{IsFirstUnmet, IsMetByChoice, IsNextNeedOrNone}
 use Rattle.world_laws.specs.SatisfiedWorld.{InstallIfApplies, IsNeededByWorldOrPackages, IsMetByOne, MeetsOneDependency, SatisfyWorld}
@@ -111,7 +111,7 @@ module _ (pool : SealedPool) (trace : List ℕ) (are : IsSatisfying pool trace) 
       by a b one two e f true t = other_same a b c other e f (eqb-true a b t)
       by a b one two e f false t =
           let none = are.no_conflict a b one two (eqb-false a b t) in
-          let some : conflicts_with pool a b ≡ true =
+          let some : is_conflict_of_first_met_by_second pool a b ≡ true =
           Lists.in_any (λ (x : Dependency). x.conflict && candidate_at_passes pool (meets_dependency x) b) (depends_at pool a) d (subst (IsIn d) (sym (depends_of a c e)) among) (meets_it b f) in
           absurd (true≢false (sym some ∙ none))
 
@@ -128,8 +128,8 @@ module _ (pool : SealedPool) (trace : List ℕ) (are : IsSatisfying pool trace) 
 
   installs : (c : Candidate) → InstallIfApplies pool.candidates pool.world packages c → (other : Candidate) × IsIn other packages × (other.name ≡ c.name)
   installs c h =
-      let applies : install_if_applies pool trace c ≡ true = and_from (has_usable_install_if pool.world c) (list_all (λ (d : Dependency). is_met pool trace (entry d)) c.install_if) h.usable (all_met c.install_if h.met) in
-      let name_in : IsIn c.name (names_by_install_if pool trace) = in_map (λ (x : Candidate). x.name) c (filter (install_if_applies pool trace) pool.candidates) (in_filter (install_if_applies pool trace) c pool.candidates h.is_candidate applies) in
+      let applies : install_if_applies pool trace c ≡ true = and_from (is_eligible_with_positive_install_if pool.world c) (list_all (λ (d : Dependency). is_met pool trace (entry d)) c.install_if) h.usable (all_met c.install_if h.met) in
+      let name_in : IsIn c.name (names_whose_install_if_applies pool trace) = in_map (λ (x : Candidate). x.name) c (filter (install_if_applies pool trace) pool.candidates) (in_filter (install_if_applies pool trace) c pool.candidates h.is_candidate applies) in
       let one = any_in (λ k. meets_at pool k (named c.name)) trace (are.asked_met c.name name_in) in
       let other = at_test pool (meets_need (named c.name)) one.0 one.2 in
       (other.0, at_in pool trace one.0 other.0 one.1 other.1, sym ((bytes_eq-Decides c.name other.0.name).0 other.2))
@@ -193,7 +193,7 @@ module _ (pool : SealedPool) (trace : List ℕ) (are : IsSatisfying pool trace) 
       | inr behind ↦ elim behind [ inl is ↦ subst (λ (x : ℕ). IsIn x trace) (sym is) here | inr none ↦ absurd none ]
     ]
 
-    needed_from : (chosen rest : List ℕ) → AreOfTrace chosen → IsRestOfWalk pool trace chosen rest → (place : ℕ) (c : Candidate) → IsIn place rest → candidate_at pool place ≡ Some c → IsNeededByWorldOrPackages pool.candidates pool.world packages c
+    needed_from : (chosen rest : List ℕ) → AreOfTrace chosen → IsSelectionWithChosenAndRestOfWalk pool trace chosen rest → (place : ℕ) (c : Candidate) → IsIn place rest → candidate_at pool place ≡ Some c → IsNeededByWorldOrPackages pool.candidates pool.world packages c
     needed_from chosen [] of_trace walk place c here e = absurd here
     needed_from chosen (p ∷ rest) of_trace walk place c (inl is) e =
         let best : IsBestMember pool trace walk.0 p = walk.2 in
@@ -203,5 +203,5 @@ module _ (pool : SealedPool) (trace : List ℕ) (are : IsSatisfying pool trace) 
         let best : IsBestMember pool trace walk.0 p = walk.2 in
         needed_from (chosen ++ p ∷ []) rest (more_of chosen p of_trace best.0) walk.3 place c behind e
 
-    pub needed : IsRestOfWalk pool trace [] trace → (c : Candidate) → IsIn c packages → IsNeededByWorldOrPackages pool.candidates pool.world packages c
+    pub needed : IsSelectionWithChosenAndRestOfWalk pool trace [] trace → (c : Candidate) → IsIn c packages → IsNeededByWorldOrPackages pool.candidates pool.world packages c
     needed walk c here = let place = in_at pool trace c here in needed_from [] trace (λ x none. absurd none) walk place.0 c place.1 place.2

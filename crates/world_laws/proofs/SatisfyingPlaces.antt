@@ -6,14 +6,14 @@ use Rattle.std.proofs.lemmas.Bool.{and_from, and_parts, or_left, not-true, not_f
 use Rattle.std.proofs.lemmas.Slice.Eq.{bytes_eq-Decides}
 use Rattle.base_core.proofs.AtName.{own_name}
 use Rattle.dep_core.specs.Dependency.{Dependency}
-use Rattle.engine_core.specs.candidate_core.Candidates.{Candidate, Need, entry, is_name_occupied_by_provides_entry, named, has_usable_install_if, is_allowed_by_tags_of_world, is_barred_by_world, is_eligible, meets_dependency, meets_need, occupies_name}
+use Rattle.engine_core.specs.candidate_core.Candidates.{Candidate, Need, entry, is_name_occupied_by_provides_entry, named, is_eligible_with_positive_install_if, is_allowed_by_tags_of_world, is_barred_by_world, is_eligible, meets_dependency, meets_need, occupies_name}
 use Rattle.engine_core.specs.candidate_core.Options.{IsIn}
 use Rattle.engine_core.specs.candidate_core.Rank.{SealedPool, candidate_at, candidate_at_passes, is_eligible_at, meets_at}
 use Rattle.engine_core.proofs.candidate_core.Places.{place_of}
 use Rattle.engine_core.specs.package_changes.Placed.{candidates_at}
-use Rattle.engine_core.specs.search_tables.Selection.{AreDistinct, IsSatisfying, conflicts_with, depends_at, install_if_applies, is_met, names_by_install_if, positive_needs}
+use Rattle.engine_core.specs.search_tables.Selection.{AreDistinct, IsSatisfying, is_conflict_of_first_met_by_second, depends_at, install_if_applies, is_met, names_whose_install_if_applies, positive_needs}
 use Rattle.engine_core.proofs.search_tables.PoolFacts.{any_in, filter_in, map_in}
-use Rattle.world_laws.specs.SatisfiedWorld.{AreSamePackages, InstallIfApplies, IsMetByOne, SatisfyWorld}
+use Rattle.world_laws.specs.SatisfiedWorld.{AreEqualSetsOfCandidates, InstallIfApplies, IsMetByOne, SatisfyWorld}
 use Rattle.world_laws.proofs.InstalledCounted.{in_any, no_any}
 use Rattle.world_laws.proofs.InstalledCounted as Lists
 use Rattle.world_laws.proofs.NextNeeds.{all_in}
@@ -140,10 +140,10 @@ module _ (pool : SealedPool) (packages : List Candidate) (are : SatisfyWorld poo
     same_place : (a b : ℕ) (c other : Candidate) → IsIn a places → IsIn b places → candidate_at pool a ≡ Some c → candidate_at pool b ≡ Some other → other ≡ c → a ≡ b
     same_place a b c other here there e f same = p.one a b c here there e (f ∙ ap Some same)
 
-    no_conflict : (a b : ℕ) → IsIn a places → IsIn b places → a ≢ b → conflicts_with pool a b ≡ false
-    no_conflict a b here there differ = by (conflicts_with pool a b) refl
+    no_conflict : (a b : ℕ) → IsIn a places → IsIn b places → a ≢ b → is_conflict_of_first_met_by_second pool a b ≡ false
+    no_conflict a b here there differ = by (is_conflict_of_first_met_by_second pool a b) refl
       where
-        by : (t : Bool) → conflicts_with pool a b ≡ t → t ≡ false
+        by : (t : Bool) → is_conflict_of_first_met_by_second pool a b ≡ t → t ≡ false
         by false e = refl
         by true e =
             let q = p.each a here in
@@ -163,7 +163,7 @@ module _ (pool : SealedPool) (packages : List Candidate) (are : SatisfyWorld poo
     -- an install-if that applies to the places applies to the packages
     applies : (c : Candidate) → IsIn c pool.candidates → install_if_applies pool places c ≡ true → InstallIfApplies pool.candidates pool.world packages c
     applies c here e =
-        let parts = and_parts (has_usable_install_if pool.world c) (list_all (λ (d : Dependency). is_met pool places (entry d)) c.install_if) e in
+        let parts = and_parts (is_eligible_with_positive_install_if pool.world c) (list_all (λ (d : Dependency). is_met pool places (entry d)) c.install_if) e in
         record {
           is_candidate = here;
           usable = parts.0;
@@ -176,7 +176,7 @@ module _ (pool : SealedPool) (packages : List Candidate) (are : SatisfyWorld poo
         let led = p.all c here in
         in_any (λ k. meets_at pool k (named name)) places led.0 led.1 (test_at pool (meets_need (named name)) led.0 c led.2 ∙ (bytes_eq-Decides name c.name).1 is)
 
-    asked_met : (name : List ℕ) → IsIn name (names_by_install_if pool places) → is_met pool places (named name) ≡ true
+    asked_met : (name : List ℕ) → IsIn name (names_whose_install_if_applies pool places) → is_met pool places (named name) ≡ true
     asked_met name at =
         let mapped = map_in (λ (c : Candidate). c.name) name (filter (install_if_applies pool places) pool.candidates) at in
         let kept = filter_in (install_if_applies pool places) mapped.0 pool.candidates mapped.1 in
@@ -194,7 +194,7 @@ module _ (pool : SealedPool) (packages : List Candidate) (are : SatisfyWorld poo
       asked_met = asked_met;
     }
 
-    same_packages : AreSamePackages (candidates_at pool places) packages
+    same_packages : AreEqualSetsOfCandidates (candidates_at pool places) packages
     same_packages c = (back, λ here. (let led = p.all c here in at_in pool places led.0 c led.1 led.2))
       where
         back : IsIn c (candidates_at pool places) → IsIn c packages
@@ -205,7 +205,7 @@ module _ (pool : SealedPool) (packages : List Candidate) (are : SatisfyWorld poo
             let same : q.0 ≡ c = cc in
             subst (λ (x : Candidate). IsIn x packages) same q.1
 
-  pub selection_of : (selection : List ℕ) × IsSatisfying pool selection × AreSamePackages (candidates_at pool selection) packages
+  pub selection_of : (selection : List ℕ) × IsSatisfying pool selection × AreEqualSetsOfCandidates (candidates_at pool selection) packages
   selection_of =
       let made = places_of packages (λ c here. here) in
       (made.0, satisfying made.0 made.1, same_packages made.0 made.1)

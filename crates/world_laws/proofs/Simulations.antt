@@ -3,16 +3,16 @@ use Rattle.std.proofs.Common.{◌≡◌, ℕ, Bool, false, List, ◌++◌, lengt
 use Rattle.std.specs.Prelude.{if◌then◌else◌, sum_by}
 use Rattle.base_core.specs.Files.{Files}
 use Rattle.engine_core.specs.change_files.FileChange.{FileChange}
-use Rattle.engine_core.specs.change_files.PlanLists.{paths_with_apk_new_file, kept_paths_of}
+use Rattle.engine_core.specs.change_files.PlanLists.{paths_with_apk_new_file, kept_left_over_paths_of}
 use Rattle.engine_core.specs.change_inputs.Chains.{and_then}
 use Rattle.engine_core.specs.change_inputs.Inputs.{Inputs, inputs_of}
 use Rattle.engine_core.specs.change_outcome.Made.{IsChangeMade}
 use Rattle.engine_core.specs.change_outcome.ChangeOutcome.{ChangeDone, ChangeWishes, change_or_refusal, change_report, file_change, member_installed_size, touched_paths}
-use Rattle.engine_core.specs.change_outcome.ConfigurationLines.{configuration_lines}
+use Rattle.engine_core.specs.change_outcome.ConfigurationLines.{lines_of_apk_new_and_kept_paths}
 use Rattle.engine_core.specs.change_outcome.Triggers.{trigger_lines}
 use Rattle.command_core.specs.Command.{CommandLine}
 use Rattle.engine_core.specs.Changed.{InputsAndReplacement, change_of_selected, change_of_command, selected_from_reads_by_choice, simulated_change}
-use Rattle.engine_core.specs.Choice.{IsChoiceFrom}
+use Rattle.engine_core.specs.Choice.{IsPreferredChoiceUnlessRefused}
 use Rattle.engine_core.specs.Selecting.{pool_of_command}
 use Rattle.engine_core.specs.Wishes.{wishes_of}
 use Rattle.engine_core.specs.make_info.Reads.{Reads}
@@ -29,7 +29,7 @@ pub reports_alike : (r : Replacement) (wishes : ChangeWishes) (change : FileChan
 unfolding simulated_report
 reports_alike r wishes change files =
     let told = change_lines (changes_of r) ++ still_needed_lines r.before r.selected wishes.to_remove in
-    let configuration = configuration_lines (paths_with_apk_new_file change files) (kept_paths_of change files) in
+    let configuration = lines_of_apk_new_and_kept_paths (paths_with_apk_new_file change files) (kept_left_over_paths_of change files) in
     let triggers = trigger_lines (touched_paths change files) change.members in
     let sum = report_line (bytes_and_package_count_text (sum_by member_installed_size change.members) (length change.members)) in
     record {
@@ -50,7 +50,7 @@ IsMadeKnown = (inputs : Inputs) (r : Replacement) (wishes : ChangeWishes) (read 
 
 -- one thing is chosen
 abbrev pub IsOneChoice : Type 0
-IsOneChoice = (pool : Result SealedPool Refusal) (a b : Option (List ℕ)) → IsChoiceFrom pool a → IsChoiceFrom pool b → a ≡ b
+IsOneChoice = (pool : Result SealedPool Refusal) (a b : Option (List ℕ)) → IsPreferredChoiceUnlessRefused pool a → IsPreferredChoiceUnlessRefused pool b → a ≡ b
 
 -- both commands select alike
 selects_alike : (command : CommandLine) (read : Reads) (chosen : Option (List ℕ)) → selected_from_reads_by_choice (with_simulation command) read chosen ≡ selected_from_reads_by_choice command read chosen
@@ -75,11 +75,11 @@ by_selected known command read files other clash s simulation done real e d =
     (reports_alike s.replacement (wishes_of command) change files))
 
 module _ (one : IsOneChoice) (command : CommandLine) (read : Reads) (files : Files) (expected chosen : Option (List ℕ)) (other clash : Option NamePair) where
-  chosen_alike : IsChoiceFrom (pool_of_command (with_simulation command) read) expected → IsChoiceFrom (pool_of_command command read) chosen → expected ≡ chosen
-  chosen_alike a b = one (pool_of_command command read) expected chosen (subst (λ (p : Result SealedPool Refusal). IsChoiceFrom p expected) (pool_alike command read) a) b
+  chosen_alike : IsPreferredChoiceUnlessRefused (pool_of_command (with_simulation command) read) expected → IsPreferredChoiceUnlessRefused (pool_of_command command read) chosen → expected ≡ chosen
+  chosen_alike a b = one (pool_of_command command read) expected chosen (subst (λ (p : Result SealedPool Refusal). IsPreferredChoiceUnlessRefused p expected) (pool_alike command read) a) b
 
   pub foretold : IsMadeKnown → (simulation done : ChangeDone) → command.flags.simulate ≡ false
-      → IsChoiceFrom (pool_of_command (with_simulation command) read) expected → IsChoiceFrom (pool_of_command command read) chosen
+      → IsPreferredChoiceUnlessRefused (pool_of_command (with_simulation command) read) expected → IsPreferredChoiceUnlessRefused (pool_of_command command read) chosen
       → change_of_command (with_simulation command) read files expected other ≡ Ok simulation → change_of_command command read files chosen clash ≡ Ok done → IsReportPredicted simulation.report done.report
   unfolding change_of_command
   foretold known simulation done real a b e d =
@@ -95,7 +95,7 @@ module _ (one : IsOneChoice) (command : CommandLine) (read : Reads) (files : Fil
   refused_both (Err first) y same refusal e =
       ap (λ (z : Result InputsAndReplacement Refusal). and_then z (change_of_selected command read files clash)) (sym same) ∙ (let is : first ≡ refusal = cc in ap (λ (r : Refusal). Err r) is)
 
-  pub refused_alike : (refusal : Refusal) → IsChoiceFrom (pool_of_command (with_simulation command) read) expected → IsChoiceFrom (pool_of_command command read) chosen
+  pub refused_alike : (refusal : Refusal) → IsPreferredChoiceUnlessRefused (pool_of_command (with_simulation command) read) expected → IsPreferredChoiceUnlessRefused (pool_of_command command read) chosen
       → change_of_command (with_simulation command) read files expected other ≡ Err refusal → change_of_command command read files chosen clash ≡ Err refusal
   unfolding change_of_command
   refused_alike refusal a b e =

@@ -5,7 +5,7 @@
 use Rattle.std.specs.Prelude.{◌≡◌, ◌⊎◌, ◌↔◌, ◌≤◌, ◌+◌, ℕ, true, false, List, [], ◌∷◌, length, Some, Ok, slice_get}
 use Rattle.engine_core.specs.adb_fields.FirstPair.{IsIn}
 use Rattle.engine_core.specs.adb_fields.Repeated.{entries_at}
-use Rattle.engine_core.specs.adb_schema.Soundness.{payload_in, root_value}
+use Rattle.engine_core.specs.adb_schema.Soundness.{payload_in, root_value_of_payload}
 use Rattle.adb_view.specs.FieldIndexes.{INDEX_PACKAGES}
 use Rattle.adb_view.specs.declared.tables.Which.TheVariants.{Index}
 use Rattle.adb_view.specs.Plain.{Plain}
@@ -33,7 +33,7 @@ pub record IsIndexed (inputs : Inputs) (read : Reads) (place : ℕ) (repository 
   -- these bytes were read under the repository's path
   pub is_index : read (first_index_read_number + place) repository.path ≡ Some file
   -- the index has a package with this information
-  pub has : IsIn info (entries_at INDEX_PACKAGES (root_value Index (payload_in file)))
+  pub has : IsIn info (entries_at INDEX_PACKAGES (root_value_of_payload Index (payload_in file)))
 
 -- the candidate is the package with this information, of the repository with the index `place`, and is installed or
 -- not. Candidates number repositories from 1

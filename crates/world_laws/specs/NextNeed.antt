@@ -4,7 +4,7 @@
 use Rattle.std.specs.Prelude.{◌≡◌, ◌⊎◌, ℕ, true, false, List, ◌∷◌, ◌++◌, Option, Some, None}
 use Rattle.dep_core.specs.Dependency.{Dependency}
 use Rattle.base_core.specs.ByteOrder.{precedes}
-use Rattle.engine_core.specs.candidate_core.Candidates.{Candidate, Need, entry, named, has_usable_install_if}
+use Rattle.engine_core.specs.candidate_core.Candidates.{Candidate, Need, entry, named, is_eligible_with_positive_install_if}
 use Rattle.engine_core.specs.candidate_core.Options.{IsIn}
 use Rattle.engine_core.specs.candidate_core.Rank.{SealedPool, meets_at}
 use Rattle.engine_core.specs.search_tables.Selection.{depends_at}
@@ -72,7 +72,7 @@ pub record IsAskedByInstallIf (pool : SealedPool) (chosen name : List ℕ) : Typ
   -- it has the name
   pub is_named : candidate.name ≡ name
   -- it may be selected, and its install-if is not empty and has no conflict
-  pub usable : has_usable_install_if pool.world candidate ≡ true
+  pub usable : is_eligible_with_positive_install_if pool.world candidate ≡ true
   -- a chosen candidate meets each entry of its install-if
   pub applies : (d : Dependency) → IsIn d candidate.install_if
       → IsMetByChoice pool chosen (entry d)

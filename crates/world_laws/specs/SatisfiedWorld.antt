@@ -2,7 +2,7 @@
 -- `docs/selection.md`, "What satisfies world", 1 to 4, and "Which selection is taken", the end of its second paragraph.
 use Rattle.std.specs.Prelude.{◌≡◌, ◌⊎◌, ◌↔◌, ℕ, true, false, List}
 use Rattle.engine_core.specs.adb_fields.FirstPair.{IsIn}
-use Rattle.engine_core.specs.candidate_core.Candidates.{Candidate, has_usable_install_if, is_allowed_by_tags_of_world, meets_dependency, occupies_name}
+use Rattle.engine_core.specs.candidate_core.Candidates.{Candidate, is_eligible_with_positive_install_if, is_allowed_by_tags_of_world, meets_dependency, occupies_name}
 use Rattle.dep_core.specs.Dependency.{Dependency}
 
 -- ---- world
@@ -19,7 +19,7 @@ pub record InstallIfApplies (candidates : List Candidate) (world : List Dependen
   -- `c` is one of the candidates
   pub is_candidate : IsIn c candidates
   -- `c` may be selected, and its install-if is not empty and has no conflict
-  pub usable : has_usable_install_if world c ≡ true
+  pub usable : is_eligible_with_positive_install_if world c ≡ true
   -- one of the packages meets each entry of its install-if
   pub met : (d : Dependency) → IsIn d c.install_if → IsMetByOne packages d
 
@@ -51,8 +51,8 @@ pub record SatisfyWorld (candidates : List Candidate) (world : List Dependency)
       → (other : Candidate) × IsIn other packages × (other.name ≡ c.name)
 
 -- the two lists have the same packages as elements, in any order and number
-abbrev pub AreSamePackages : List Candidate → List Candidate → Type 0
-AreSamePackages packages others = (c : Candidate) → IsIn c packages ↔ IsIn c others
+abbrev pub AreEqualSetsOfCandidates : List Candidate → List Candidate → Type 0
+AreEqualSetsOfCandidates packages others = (c : Candidate) → IsIn c packages ↔ IsIn c others
 
 -- no packages that are some of the candidates satisfy world
 abbrev pub IsUnsatisfiable : List Candidate → List Dependency → Type 0

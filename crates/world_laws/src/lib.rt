@@ -19,7 +19,7 @@ ghost use Rattle.engine_core.specs.change_files.FileChange.{FileChange};
 ghost use Rattle.engine_core.specs.change_outcome.ChangeOutcome.{ChangeDone, ChangeWishes, change_report};
 ghost use Rattle.command_core.specs.Command.{CommandLine};
 ghost use Rattle.engine_core.specs.Changed.{InputsAndReplacement, change_of_command, selected_from_reads_by_choice};
-ghost use Rattle.engine_core.specs.Choice.{IsPreferredChoice, IsChoiceFrom};
+ghost use Rattle.engine_core.specs.Choice.{IsPreferredChoice, IsPreferredChoiceUnlessRefused};
 ghost use Rattle.engine_core.specs.Selecting.{pool_of_command};
 ghost use Rattle.engine_core.specs.Wishes.{unknown_operand_place};
 ghost use Rattle.engine_core.specs.make_info.Reads.{Reads};
@@ -39,7 +39,7 @@ ghost use Rattle.dep_core.specs.Dependency.{Dependency};
 ghost use Rattle.dep_core.specs.World.{IsWorld};
 ghost use Rattle.world_laws.specs.CommandPool.{IsCommandPool};
 ghost use Rattle.world_laws.specs.NewWorld.{IsWorldAfterApplet, HasReadAndRequestedWorld};
-ghost use Rattle.world_laws.specs.SatisfiedWorld.{AreSamePackages, IsNeededByWorldOrPackages, SatisfyWorld};
+ghost use Rattle.world_laws.specs.SatisfiedWorld.{AreEqualSetsOfCandidates, IsNeededByWorldOrPackages, SatisfyWorld};
 ghost use Rattle.world_laws.specs.SatisfiedWorld.{IsUnsatisfiable};
 
 use engine_core::{a_change_that_is_made_passes_each_test, a_choice_is_unique};
@@ -72,8 +72,8 @@ pub fn a_simulation_predicts_the_change()
     ensures commands { (command : CommandLine) (read : Reads) (files : Files)
         (expected chosen : Option (List ℕ)) (other clash : Option NamePair)
         (simulation done : ChangeDone) → command.flags.simulate ≡ false
-        → IsChoiceFrom (pool_of_command (with_simulation command) read) expected
-        → IsChoiceFrom (pool_of_command command read) chosen
+        → IsPreferredChoiceUnlessRefused (pool_of_command (with_simulation command) read) expected
+        → IsPreferredChoiceUnlessRefused (pool_of_command command read) chosen
         → change_of_command (with_simulation command) read files expected other ≡ Ok simulation
         → change_of_command command read files chosen clash ≡ Ok done
         → IsReportPredicted simulation.report done.report }
@@ -90,8 +90,8 @@ pub fn a_refused_simulation_refuses_the_change()
     // `clash` are those of the command without `--simulate`.
     ensures { (command : CommandLine) (read : Reads) (files : Files)
         (expected chosen : Option (List ℕ)) (other clash : Option NamePair) (refusal : Refusal)
-        → IsChoiceFrom (pool_of_command (with_simulation command) read) expected
-        → IsChoiceFrom (pool_of_command command read) chosen
+        → IsPreferredChoiceUnlessRefused (pool_of_command (with_simulation command) read) expected
+        → IsPreferredChoiceUnlessRefused (pool_of_command command read) chosen
         → change_of_command (with_simulation command) read files expected other ≡ Err refusal
         → change_of_command command read files chosen clash ≡ Err refusal }
 {
@@ -129,13 +129,14 @@ pub fn a_command_chooses_from_its_indexes_and_its_database()
 pub fn the_selected_packages_satisfy_the_new_world()
     // The selected packages satisfy the new world.
     ensures satisfied { (command : CommandLine) (read : Reads) (chosen : Option (List ℕ))
-        (s : InputsAndReplacement) → IsChoiceFrom (pool_of_command command read) chosen
+        (s : InputsAndReplacement)
+        → IsPreferredChoiceUnlessRefused (pool_of_command command read) chosen
         → selected_from_reads_by_choice command read chosen ≡ Ok s
         → SatisfyWorld (candidates_of s.inputs) s.inputs.root.new_world s.replacement.selected }
     // Each selected package c is needed by world, by a selected package, or by an install-if.
     ensures needed { (command : CommandLine) (read : Reads) (chosen : Option (List ℕ))
         (s : InputsAndReplacement) (c : Candidate)
-        → IsChoiceFrom (pool_of_command command read) chosen
+        → IsPreferredChoiceUnlessRefused (pool_of_command command read) chosen
         → selected_from_reads_by_choice command read chosen ≡ Ok s → IsIn c s.replacement.selected
         → IsNeededByWorldOrPackages
         (candidates_of s.inputs) s.inputs.root.new_world s.replacement.selected c }
@@ -153,7 +154,7 @@ pub fn a_selection_satisfies_world_exactly_if_packages_do()
     ensures found { (pool : SealedPool) (packages : List Candidate)
         → SatisfyWorld pool.candidates pool.world packages
         → (selection : List ℕ) × IsSatisfying pool selection
-        × AreSamePackages (candidates_at pool selection) packages }
+        × AreEqualSetsOfCandidates (candidates_at pool selection) packages }
     // A command has no selection exactly if no packages satisfy its new world.
     ensures none { (command : CommandLine) (read : Reads) (inputs : Inputs) (pool : SealedPool)
         → inputs_of command read ≡ Ok inputs → pool_of_command command read ≡ Ok pool
@@ -161,14 +162,15 @@ pub fn a_selection_satisfies_world_exactly_if_packages_do()
         ↔ IsUnsatisfiable (candidates_of inputs) inputs.root.new_world }
     // If a command is refused as unsatisfied, no packages satisfy its new world.
     ensures refused { (command : CommandLine) (read : Reads) (chosen : Option (List ℕ))
-        → IsChoiceFrom (pool_of_command command read) chosen
+        → IsPreferredChoiceUnlessRefused (pool_of_command command read) chosen
         → selected_from_reads_by_choice command read chosen ≡ Err Unsatisfied
         → (inputs : Inputs) × (inputs_of command read ≡ Ok inputs)
         × IsUnsatisfiable (candidates_of inputs) inputs.root.new_world }
     // If no packages satisfy its new world, the command is refused as unsatisfied, unless an
     // earlier test refuses it.
     ensures refuses { (command : CommandLine) (read : Reads) (chosen : Option (List ℕ))
-        (inputs : Inputs) (pool : SealedPool) → IsChoiceFrom (pool_of_command command read) chosen
+        (inputs : Inputs) (pool : SealedPool)
+        → IsPreferredChoiceUnlessRefused (pool_of_command command read) chosen
         → inputs_of command read ≡ Ok inputs → pool_of_command command read ≡ Ok pool
         → unknown_operand_place command.applet inputs command.operands ≡ None
         → IsUnsatisfiable (candidates_of inputs) inputs.root.new_world

@@ -7,7 +7,7 @@ use Rattle.adb_view.specs.declared.tables.Kind.TheVariants as Kinds
 use Rattle.adb_values.specs.Drafts.{draft_with, draft_with_all, draft_with_open_list}
 use Rattle.adb_values.proofs.Lists.{closed_as, on_ok}
 use Rattle.adb_copy.specs.Fields.{ints_or_nulls}
-use Rattle.adb_copy.specs.Zeros.{info_with_id_and_size, int_or_null, without_zeros}
+use Rattle.adb_copy.specs.Zeros.{info_without_zeros_with_id_and_file_size, int_or_null, without_zeros}
 use Rattle.adb_copy.proofs.Known.{known_all, known_closed_object, known_more, known_opened}
 use Rattle.adb_copy.proofs.Shapes.{value_shape}
 use Rattle.adb_copy.proofs.Fields.{info_fields, info_written}
@@ -45,7 +45,7 @@ returns c =
     let texts = c.write_text_list.new.known in
     record {
       info =
-          closed_as trimmed_object_or_null (info_with_id_and_size v c.args.id.now c.args.len) vs c.args.draft.now _ _ c.close_object.result
+          closed_as trimmed_object_or_null (info_without_zeros_with_id_and_file_size v c.args.id.now c.args.len) vs c.args.draft.now _ _ c.close_object.result
           (info_written v c.args.id.now c.args.len (value_shape c.values_have_their_shape.ensures.word p (Kinds.Obj Tables.PkgInfo) c.args.info)
           (text_in (entry_in v 0)) (text_in (entry_in v 1)) (text_in (entry_in v 3)) (text_in (entry_in v 4)) (text_in (entry_in v 5))
           (text_in (entry_in v 6)) (text_in (entry_in v 7)) (text_in (entry_in v 8)) (text_in (entry_in v 9))

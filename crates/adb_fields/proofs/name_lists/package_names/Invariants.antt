@@ -4,7 +4,7 @@ use Rattle.std.specs.Vec.{vec_len}
 use Rattle.adb_view.specs.Adb.{payload_of}
 use Rattle.adb_view.specs.Entries.{array_entries}
 use Rattle.adb_fields.specs.Repeated.{numbered_from, package_name}
-use Rattle.adb_fields.specs.NamedTexts.{joined_name_with_position, plains_at}
+use Rattle.adb_fields.specs.NamedTexts.{joined_name_with_position, plains_of_array_words}
 use Rattle.adb_view.specs.declared.tables.Kind.TheVariants as Kinds
 use Rattle.adb_view.specs.declared.tables.Which.TheVariants as Tables
 use Rattle.adb_fields.proofs.name_lists.package_names.Given as goal
@@ -12,5 +12,5 @@ use Rattle.adb_fields.proofs.name_lists.package_names.Given as goal
 abbrev pub invariant-loop-i : goal.invariant-loop-i
 invariant-loop-i l =
     (vec_len l.names ≡ l.i)
-    × (map joined_name_with_position l.names.items ++ numbered_from (vec_len l.names + 1) (map package_name (drop l.i (plains_at (payload_of l.adb) (Kinds.Obj Tables.Package) (array_entries l.packages))))
-    ≡ numbered_from 1 (map package_name (plains_at (payload_of l.adb) (Kinds.Obj Tables.Package) (array_entries l.packages))))
+    × (map joined_name_with_position l.names.items ++ numbered_from (vec_len l.names + 1) (map package_name (drop l.i (plains_of_array_words (payload_of l.adb) (Kinds.Obj Tables.Package) (array_entries l.packages))))
+    ≡ numbered_from 1 (map package_name (plains_of_array_words (payload_of l.adb) (Kinds.Obj Tables.Package) (array_entries l.packages))))

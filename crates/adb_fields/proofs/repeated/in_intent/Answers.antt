@@ -8,8 +8,8 @@ use Rattle.adb_view.specs.Plain.{Plain}
 use Rattle.adb_view.specs.Values.{value_at, text_in, entries_in, entry_in, count_of}
 use Rattle.adb_fields.specs.Pairs.{least_pair_of_equal_names}
 use Rattle.adb_view.specs.FieldIndexes.{INTENT_WRITES}
-use Rattle.adb_fields.specs.Repeated.{field_number, numbered_from, list_of, repeated_cause}
-use Rattle.adb_fields.specs.NamedTexts.{joined_name_with_position, plains_at}
+use Rattle.adb_fields.specs.Repeated.{field_place_in_causes, numbered_from, list_of, repeated_cause}
+use Rattle.adb_fields.specs.NamedTexts.{joined_name_with_position, plains_of_array_words}
 use Rattle.adb_view.specs.declared.tables.Kind.TheVariants as Kinds
 use Rattle.adb_view.specs.declared.tables.Which.TheVariants as Tables
 use Rattle.adb_fields.proofs.FieldReads.{entry_count}
@@ -37,14 +37,14 @@ add_texts-requires-2-clause-few c =
 pub returns : goal.returns
 returns c =
     let p : List ℕ = payload_of c.args.adb in
-    let front : List (List ℕ) = map text_in (plains_at p Kinds.Text (array_entries c.texts_field-removals.result)) in
-    let back : List (List ℕ) = map text_in (plains_at p Kinds.Text (array_entries c.texts_field-writes.result)) in
+    let front : List (List ℕ) = map text_in (plains_of_array_words p Kinds.Text (array_entries c.texts_field-removals.result)) in
+    let back : List (List ℕ) = map text_in (plains_of_array_words p Kinds.Text (array_entries c.texts_field-writes.result)) in
     let one : map joined_name_with_position c.add_texts.new.names.items ≡ numbered_from 1 front =
     c.in_ok-add_texts.ensures.added ∙ (λ i. map joined_name_with_position (c.new-names.ensures.items i) ++ numbered_from (c.new-names.ensures.len i + 1) front) in
-    let count : length front ≡ length (array_entries c.texts_field-removals.result) = length-map (plains_at p Kinds.Text (array_entries c.texts_field-removals.result)) text_in ∙ plain_count p Kinds.Text (array_entries c.texts_field-removals.result) c.texts_field-removals.ensures.sound in
+    let count : length front ≡ length (array_entries c.texts_field-removals.result) = length-map (plains_of_array_words p Kinds.Text (array_entries c.texts_field-removals.result)) text_in ∙ plain_count p Kinds.Text (array_entries c.texts_field-removals.result) c.texts_field-removals.ensures.sound in
     let long : vec_len c.add_texts.new.names ≡ length front = (let l = c.in_ok-add_texts.ensures.len in omega arith) in
     let all : map joined_name_with_position c.add_texts-2.new.names.items ≡ numbered_from 1 (front ++ back) = texts_after front back _ _ (vec_len c.add_texts.new.names) one long c.in_ok-add_texts-2.ensures.added in
     c.repeated_cause.ensures
-    ∙ ap (repeated_cause (field_number Tables.Intent INTENT_WRITES)) (c.least_pair_of_equal_names.ensures
+    ∙ ap (repeated_cause (field_place_in_causes Tables.Intent INTENT_WRITES)) (c.least_pair_of_equal_names.ensures
     ∙ ap least_pair_of_equal_names (ap (map joined_name_with_position) c.deref_mut.ensures.value ∙ (all
     ∙ (λ i. numbered_from 1 (map text_in (list_of (entries_in (c.texts_field-removals.ensures.value i))) ++ map text_in (list_of (entries_in (c.texts_field-writes.ensures.value i))))))))

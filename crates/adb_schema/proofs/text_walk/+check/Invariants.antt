@@ -24,13 +24,13 @@ abbrev pub invariant-check_entries-loop-i : goal.invariant-check_entries-loop-i
 invariant-check_entries-loop-i l = record {
   payload : l.judged.adb ≡ l.fn.judged.adb;
   sound : are_all_sound (payload_of l.adb) l.kind (drop l.i (array_entries l.entries)) ≡ true;
-  so_far : first_bad_leaf (leaves_of_all_values (leaves (shape_of l.kind) l.field_number (surroundings_of l.around)) (values_at (payload_of l.adb) l.kind (drop l.i (array_entries l.entries)))) ≡ first_bad_leaf (leaves_of_all_values (leaves (shape_of l.kind) l.field_number (surroundings_of l.around)) (values_at (payload_of l.adb) l.kind (array_entries l.entries)));
-  before : (j : ℕ) → l.i ≡ suc j → None ≡ first_bad_leaf (leaves (shape_of l.kind) l.field_number (surroundings_of l.around) (value_at (payload_of l.adb) l.kind (get_or (array_entries l.entries) j 0)));
+  so_far : first_bad_leaf (leaves_of_all_values (leaves (shape_of l.kind) l.field_place_in_causes (surroundings_of l.around)) (values_at (payload_of l.adb) l.kind (drop l.i (array_entries l.entries)))) ≡ first_bad_leaf (leaves_of_all_values (leaves (shape_of l.kind) l.field_place_in_causes (surroundings_of l.around)) (values_at (payload_of l.adb) l.kind (array_entries l.entries)));
+  before : (j : ℕ) → l.i ≡ suc j → None ≡ first_bad_leaf (leaves (shape_of l.kind) l.field_place_in_causes (surroundings_of l.around) (value_at (payload_of l.adb) l.kind (get_or (array_entries l.entries) j 0)));
 }
 
 abbrev pub invariant-check_fields-loop-i : goal.invariant-check_fields-loop-i
 invariant-check_fields-loop-i l = record {
   payload : l.judged.adb ≡ l.fn.judged.adb;
-  field_number : l.field_number ≡ 100 * table_number l.fn.which + l.i;
-  so_far : first_bad_leaf (field_leaves (shapes_of (drop l.i (table l.fn.which))) (l.field_number + 1) (surroundings_of l.around) (behind l.i (entries_in (value_at (payload_of l.adb) (Obj l.fn.which) l.fn.object)))) ≡ first_bad_leaf (field_leaves (shapes_of (table l.fn.which)) (100 * table_number l.fn.which + 1) (surroundings_of l.around) (entries_in (value_at (payload_of l.adb) (Obj l.fn.which) l.fn.object)));
+  field_place_in_causes : l.field_place_in_causes ≡ 100 * table_number l.fn.which + l.i;
+  so_far : first_bad_leaf (field_leaves (shapes_of (drop l.i (table l.fn.which))) (l.field_place_in_causes + 1) (surroundings_of l.around) (behind l.i (entries_in (value_at (payload_of l.adb) (Obj l.fn.which) l.fn.object)))) ≡ first_bad_leaf (field_leaves (shapes_of (table l.fn.which)) (100 * table_number l.fn.which + 1) (surroundings_of l.around) (entries_in (value_at (payload_of l.adb) (Obj l.fn.which) l.fn.object)));
 }

@@ -4,7 +4,7 @@ use Rattle.adb_schema.specs.adb_fields.ListValue.{list_value}
 use Rattle.adb_schema.specs.Views.{dependency_value}
 use Rattle.adb_view.specs.Values.{count_of, entries_in}
 use Rattle.dep_core.specs.Meets.{dependency}
-use Rattle.candidate_core.specs.Candidates.{dependencies_of}
+use Rattle.candidate_core.specs.Candidates.{dependencies_among_values}
 use Rattle.candidate_core.proofs.DependencyLists.{all_dependencies, dependencies_to}
 use Rattle.candidate_core.proofs.JudgedLists.{none_passed, one_passed, stands_at}
 use Rattle.candidate_core.proofs.dependencies.read_judged.Goals as goal
@@ -36,5 +36,5 @@ pub unreachable-requires : goal.unreachable-requires
 unreachable-requires c =
     let values : Plains = entries_in (list_value c.args.list.now) in
     let last : c.loop-i.i ≡ count_of values = omega arith in
-    let all : c.loop-i.passed ≡ length (dependencies_of values) = c.loop-i.invariant.passed ∙ ap length (ap (λ (n : ℕ). dependencies_to n values) last ∙ all_dependencies values) in
+    let all : c.loop-i.passed ≡ length (dependencies_among_values values) = c.loop-i.invariant.passed ∙ ap length (ap (λ (n : ℕ). dependencies_to n values) last ∙ all_dependencies values) in
     omega (arith, all, c.requires, c.loop-i.invariant.before)

@@ -6,7 +6,7 @@ use Rattle.dep_core.specs.Repositories.{Repository}
 use Rattle.change_inputs.proofs.Handed.{handed_on, refused_part}
 use Rattle.change_inputs.specs.Answers.{Agrees}
 use Rattle.change_inputs.specs.Database.{Database, root_database}
-use Rattle.change_inputs.specs.Inputs.{root_from_files_found}
+use Rattle.change_inputs.specs.Inputs.{root_from_databases_world_repositories}
 use Rattle.change_inputs.specs.Repositories.{root_repositories}
 use Rattle.change_inputs.specs.Seen.{root_seen}
 use Rattle.change_inputs.specs.World.{root_world, found_text_or_empty}
@@ -16,7 +16,7 @@ use Rattle.change_inputs.proofs.root.test_root.Goals as goal
 repositories_refused : (command : CommandLine) (file text world_file repositories_file : Option (List ℕ)) (database : Database) (world : List Dependency) (fault : Refused)
     → root_database command.flags.initdb file text ≡ Ok database → root_world (found_text_or_empty world_file) ≡ Ok world
     → Agrees (λ (repositories : List Repository). repositories) (Err fault) (root_repositories command.flags.allow_untrusted (found_text_or_empty repositories_file))
-    → Agrees root_seen (Err fault) (root_from_files_found command file text world_file repositories_file)
+    → Agrees root_seen (Err fault) (root_from_databases_world_repositories command file text world_file repositories_file)
 repositories_refused command file text world_file repositories_file database world fault d w h =
     rw d (rw w (refused_part (λ (repositories : List Repository). repositories) root_seen _ fault _ h))
 

@@ -1,6 +1,6 @@
 use Rattle.std.proofs.Common.{◌≡◌, true, subst}
 use Rattle.command_core.specs.declared.values.TheConstants.{FILES, OUTPUT}
-use Rattle.command_core.specs.Sound.{value_rules, is_allowed_value, rule_for}
+use Rattle.command_core.specs.Sound.{value_rules, is_allowed_value, value_rule_of_letter}
 use Rattle.command_core.proofs.Parts.{folder_by, has_parts, output_by, script_by, value_at, value_found}
 use Rattle.command_core.proofs.operands.values_are_of_their_kind.Goals as goal
 
@@ -17,4 +17,4 @@ returns-clause-folder _ c v h f =
 
 pub returns-clause-script : goal.returns-clause-script
 returns-clause-script _ c i v h at s =
-    script_by c.applet v.text (subst (λ n. is_allowed_value (rule_for (value_rules c.applet) n) v.text ≡ true) s (value_at (value_rules c.applet) c.values i v (has_parts c h).values at))
+    script_by c.applet v.text (subst (λ n. is_allowed_value (value_rule_of_letter (value_rules c.applet) n) v.text ≡ true) s (value_at (value_rules c.applet) c.values i v (has_parts c h).values at))

@@ -15,8 +15,8 @@ use Rattle.adb_copy.specs.Zeros.{without_zeros}
 use Rattle.adb_copy.specs.declared.known_texts.KnownTexts.{KnownTexts}
 use Rattle.adb_copy.proofs.Known.{known_closed_array, known_opened}
 use Rattle.adb_copy.proofs.ReadWords.{word_sound, word_value}
-use Rattle.db_write.specs.NewDatabase.{owned_entries}
-use Rattle.db_write.proofs.Marking.{all_owned_flags, left_out, put_in}
+use Rattle.db_write.specs.NewDatabase.{owned_entries_without_zeros}
+use Rattle.db_write.proofs.Marking.{set_flags_of_all_listed_files, left_out, put_in}
 use Rattle.db_write.proofs.folders.write_files.Goals.{then-is_set+in_ok-write_file, else-is_set}
 use Rattle.db_write.proofs.folders.write_files.Goals as goal
 
@@ -62,9 +62,9 @@ returns c =
     let p : List ℕ = payload_of c.args.adb in
     let ws : List ℕ = array_entries c.args.files in
     let vs : Plains = entries_in (array_at p (Kinds.Obj Tables.File) ws) in
-    let owned : Plains = owned_entries (list_of vs) c.args.flags.now in
+    let owned : Plains = owned_entries_without_zeros (list_of vs) c.args.flags.now in
     let given : c.loop-i.draft ≡ draft_with_all owned (draft_with_open_list c.args.draft.now) =
-    all_owned_flags vs c.args.flags.now c.loop-i.i _ _ _ (omega (arith, entry_count p (Kinds.Obj Tables.File) ws c.requires.sound, c.len-i-end.ensures.value, c.loop-i-test.false, c.loop-i.auto.i-end)) c.loop-i.invariant.left c.in_ok-open_list.ensures.ok in
+    set_flags_of_all_listed_files vs c.args.flags.now c.loop-i.i _ _ _ (omega (arith, entry_count p (Kinds.Obj Tables.File) ws c.requires.sound, c.len-i-end.ensures.value, c.loop-i-test.false, c.loop-i.auto.i-end)) c.loop-i.invariant.left c.in_ok-open_list.ensures.ok in
     record {
       files = closed array_or_null owned c.args.draft.now _ _ c.close_array.result c.close_array.ensures.ok given;
       known =

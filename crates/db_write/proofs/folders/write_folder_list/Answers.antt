@@ -11,7 +11,7 @@ use Rattle.adb_copy.specs.adb_values.Drafts.{draft_with_all, draft_with_open_lis
 use Rattle.adb_copy.proofs.adb_values.Lists.{closed, on_ok}
 use Rattle.adb_copy.proofs.Known.{known_closed_array, known_opened}
 use Rattle.adb_copy.proofs.ReadWords.{word_sound}
-use Rattle.db_write.specs.NewDatabase.{file_count, folder_in_new_database, folders_in_new_database}
+use Rattle.db_write.specs.NewDatabase.{folder_file_count, folder_in_new_database, folders_in_new_database}
 use Rattle.db_write.proofs.Segments.{all_given, given_more}
 use Rattle.db_write.proofs.Words.{word_listed, words_listed}
 use Rattle.db_write.proofs.folders.write_folder_list.Goals as goal
@@ -45,7 +45,7 @@ loop-i-preserved c =
     let within : c.loop-i.i < length ws = omega (arith, c.len-i-end.ensures.value, c.loop-i-test.true) in
     record {
       left =
-          given_more file_count folder_in_new_database (list_of vs) c.loop-i.i (value_at p (Kinds.Obj Tables.Dir) c.entry_word-folder.result) c.loop-i.left.now _ _ _ _
+          given_more folder_file_count folder_in_new_database (list_of vs) c.loop-i.i (value_at p (Kinds.Obj Tables.Dir) c.entry_word-folder.result) c.loop-i.left.now _ _ _ _
           (word_listed p (Kinds.Obj Tables.Dir) ws c.requires.sound c.loop-i.i c.entry_word-folder.result within c.entry_word-folder.ensures) c.loop-i.invariant.left c.in_ok-write_folder.ensures.folder c.flags_after_folder-left.ensures;
       known = c.in_ok-write_folder.ensures.known;
     }
@@ -57,7 +57,7 @@ returns c =
     let vs : Plains = entries_in (array_at p (Kinds.Obj Tables.Dir) ws) in
     let folders : Plains = folders_in_new_database (list_of vs) c.args.flags.now in
     let given : c.loop-i.draft ≡ draft_with_all folders (draft_with_open_list c.args.draft.now) =
-    all_given file_count folder_in_new_database (list_of vs) c.args.flags.now c.loop-i.left.now c.loop-i.i _ _ _
+    all_given folder_file_count folder_in_new_database (list_of vs) c.args.flags.now c.loop-i.left.now c.loop-i.i _ _ _
     (omega (arith, words_listed p (Kinds.Obj Tables.Dir) ws c.requires.sound, c.len-i-end.ensures.value, c.loop-i-test.false, c.loop-i.auto.i-end)) c.loop-i.invariant.left c.in_ok-open_list.ensures.ok in
     record {
       folders = closed array_or_null folders c.args.draft.now _ _ c.close_array.result c.close_array.ensures.ok given;

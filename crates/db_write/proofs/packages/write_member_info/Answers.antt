@@ -7,7 +7,7 @@ use Rattle.adb_view.specs.declared.tables.Kind.TheVariants as Kinds
 use Rattle.adb_view.specs.declared.tables.Which.TheVariants as Tables
 use Rattle.adb_copy.specs.adb_values.Drafts.{draft_with}
 use Rattle.adb_copy.proofs.adb_values.Lists.{on_ok}
-use Rattle.adb_copy.specs.Zeros.{info_with_id_and_size}
+use Rattle.adb_copy.specs.Zeros.{info_without_zeros_with_id_and_file_size}
 use Rattle.db_write.proofs.packages.write_member_info.Goals as goal
 
 pub returns-clause-info : goal.returns-clause-info
@@ -18,4 +18,4 @@ returns-clause-info c =
     let hash : c.hash_after.result.now ≡ unwrap_or c.args.id (text_in (entry_in info 2)) =
     c.hash_after.ensures ∙ ap (λ (b : List ℕ). unwrap_or c.args.id b) (c.hash_field-own.ensures ∙ ap (λ (v : Plain). text_in (entry_in v 2)) value) in
     let len : c.int_field-len.result ≡ int_in (entry_in info 12) = c.int_field-len.ensures ∙ ap (λ (v : Plain). int_in (entry_in v 12)) value in
-    on_ok _ _ (λ e. e ∙ (λ j. draft_with (info_with_id_and_size (value j) (hash j) (len j)) c.args.draft.now)) c.write_info.result c.write_info.ensures.info
+    on_ok _ _ (λ e. e ∙ (λ j. draft_with (info_without_zeros_with_id_and_file_size (value j) (hash j) (len j)) c.args.draft.now)) c.write_info.result c.write_info.ensures.info

@@ -1,7 +1,7 @@
 use Rattle.std.proofs.Common.{◌≡◌, ℕ, List, Ok, Err, Result, sym, subst, ap, ◌∙◌}
 use Rattle.std.proofs.lemmas.Result.{err_from_is_err_and}
 use Rattle.adb_values.specs.Drafts.{DraftState, empty_draft}
-use Rattle.adb_values.specs.adb_write.Canonical.{PayloadCounts}
+use Rattle.adb_values.specs.adb_write.Canonical.{ByteAndValueCounts}
 use Rattle.adb_values.specs.adb_write.File.{file_of}
 use Rattle.gen_core.specs.Generated.{IsGenFault, dumped_root, file_unless_too_large, generated_file, schema_word_or_zero}
 use Rattle.gen_core.specs.Reads.{IsTextFault, table_and_draft_of_root}

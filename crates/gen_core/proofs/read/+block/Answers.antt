@@ -11,7 +11,7 @@ use Rattle.adb_view.specs.declared.tables.Kind.{Kind}
 use Rattle.adb_view.specs.declared.tables.Kind.TheVariants.{Int, Text, Obj, TextArr, ObjArr}
 use Rattle.adb_values.specs.Drafts.{DraftState, draft_with, draft_with_open_list}
 use Rattle.adb_dump.specs.Dump.{Line}
-use Rattle.adb_dump.specs.ReadBack.{ResultOrBadLine, strip_prefix, array_unless_empty, block_read, entries_read, fields_read, named_read, object_unless_empty}
+use Rattle.adb_dump.specs.ReadBack.{ResultOrBadLine, strip_prefix, array_unless_empty, block_read, entries_read_with_recursion_bound, fields_read, named_read, object_unless_empty}
 use Rattle.gen_core.specs.Cursors.{CursorState, cursor_after_line, block_at, line_of_block}
 use Rattle.gen_core.specs.Reads.{DraftOrBadLine, IsTextFault, block_taken, end_or_bad_line, entry_block_read, line_read, draft_and_cursor_after_line, values_taken}
 use Rattle.gen_core.specs.declared.generate.GenFault.{GenFault}
@@ -33,7 +33,7 @@ pub read_array-returns-in_err-read_entries-clause-err : goal.read_array-returns-
 read_array-returns-in_err-read_entries-clause-err t c =
     let s = shape_of c.args.kind in
     let block = block_at c.args.depth c.args.cursor.now.lines in
-    let read = entries_read (block_read s) (length block.0) block.0 in
+    let read = entries_read_with_recursion_bound (block_read s) (length block.0) block.0 in
     let whole = block_taken (block_read (array s) block.0) block c.args.draft.now c.args.cursor.now in
     handed_on c.from_residual-in_err-read_entries.result c.in_err-read_entries.field-0.0 (λ (fault : GenFault). IsTextFault fault whole) (err_from_is_err_and c.from_residual-in_err-read_entries.result c.from_residual-in_err-read_entries.ensures.1)
     (same_fault c.in_err-read_entries.field-0.0 (values_taken read block c.open_list.new.self c.args.cursor.now) whole
@@ -44,7 +44,7 @@ pub read_array-returns-clause-ok : goal.read_array-returns-clause-ok
 read_array-returns-clause-ok t c =
     let s = shape_of c.args.kind in
     let block = block_at c.args.depth c.args.cursor.now.lines in
-    let read = entries_read (block_read s) (length block.0) block.0 in
+    let read = entries_read_with_recursion_bound (block_read s) (length block.0) block.0 in
     ap (λ (r : ResultOrBadLine Plain). block_taken r block c.args.draft.now c.args.cursor.now) (array_read s block.0)
     ∙ list_closed read array_unless_empty array_or_null block c.args.draft.now c.args.cursor.now (array_made (block_read s) block.0 c.in-Some._line.now c.in-Some.ensures) (c.read_entries.new.draft, c.read_entries.new.cursor)
     (subst (λ (d : DraftState). values_taken read block d c.args.cursor.now ≡ taken c.read_entries.new.draft c.read_entries.new.cursor) c.in_ok-open_list.ensures.ok c.in_ok-read_entries.ensures.ok) c.close_array.new.self c.in_ok-close_array.ensures.ok
@@ -97,7 +97,7 @@ pub read_entries-returns-in_err-read_entry-clause-err : goal.read_entries-return
 read_entries-returns-in_err-read_entry-clause-err t c =
     let f = block_read (shape_of c.args.kind) in
     let start = block_at c.args.depth c.args.cursor.now.lines in
-    let whole = values_taken (entries_read f (length start.0) start.0) start c.args.draft.now c.args.cursor.now in
+    let whole = values_taken (entries_read_with_recursion_bound f (length start.0) start.0) start c.args.draft.now c.args.cursor.now in
     let inner = block_at (c.args.depth + 1) c.read_dash.new.self.lines in
     handed_on c.from_residual.result c.in_err-read_entry.field-0.0 (λ (fault : GenFault). IsTextFault fault whole) (err_from_is_err_and c.from_residual.result c.from_residual.ensures.1)
     (same_fault c.in_err-read_entry.field-0.0 (block_taken (entry_block_read f inner.0) inner c.loop-line.draft c.read_dash.new.self) whole

@@ -3,7 +3,7 @@ use Rattle.std.specs.Prelude.{option_copied}
 use Rattle.adb_view.specs.Rank.{rank, rank_of_all}
 use Rattle.adb_view.specs.Schema.{shape_of, shapes_of}
 use Rattle.adb_view.specs.declared.tables.Kind.TheVariants.{Obj}
-use Rattle.adb_dump.specs.ReadBack.{block_read, entries_read, fields_read}
+use Rattle.adb_dump.specs.ReadBack.{block_read, entries_read_with_recursion_bound, fields_read}
 use Rattle.gen_core.specs.Cursors.{block_at, line_of_block}
 use Rattle.gen_core.specs.Reads.{values_taken}
 use Rattle.gen_core.proofs.read.+block.Given as goal
@@ -33,8 +33,8 @@ decreases-read_named l = 4 * rank l.kind + 2
 abbrev pub invariant-read_entries-loop-line : goal.invariant-read_entries-loop-line
 invariant-read_entries-loop-line l = record {
   within : l.cursor.levels ≤ l.depth;
-  so_far : values_taken (entries_read (block_read (shape_of l.kind)) (length (block_at l.depth l.cursor.lines).0) (block_at l.depth l.cursor.lines).0) (block_at l.depth l.cursor.lines) l.draft l.cursor
-      ≡ values_taken (entries_read (block_read (shape_of l.kind)) (length (block_at l.depth l.initial.cursor.lines).0) (block_at l.depth l.initial.cursor.lines).0) (block_at l.depth l.initial.cursor.lines) l.initial.draft l.initial.cursor;
+  so_far : values_taken (entries_read_with_recursion_bound (block_read (shape_of l.kind)) (length (block_at l.depth l.cursor.lines).0) (block_at l.depth l.cursor.lines).0) (block_at l.depth l.cursor.lines) l.draft l.cursor
+      ≡ values_taken (entries_read_with_recursion_bound (block_read (shape_of l.kind)) (length (block_at l.depth l.initial.cursor.lines).0) (block_at l.depth l.initial.cursor.lines).0) (block_at l.depth l.initial.cursor.lines) l.initial.draft l.initial.cursor;
 }
 
 abbrev pub decreases-read_entries-loop-line : goal.decreases-read_entries-loop-line

@@ -1,7 +1,7 @@
 use Rattle.std.proofs.Common.{◌∙◌, sym, ap, subst}
 use Rattle.std.proofs.lemmas.Result.{err_from_is_err_and}
 use Rattle.base_core.specs.Read.{bytes_in}
-use Rattle.hint_core.specs.Hints.{hints_of, subject_file, subject_of}
+use Rattle.hint_core.specs.Hints.{hints_by_words_and_subject_file, subject_file, subject_of}
 use Rattle.hint_core.specs.Lines.{hint_lines}
 use Rattle.hint_core.specs.Told.{IsFoundForSubject}
 use Rattle.hint_core.proofs.Steps.{behind_reading, found_now, is_found_now, silent, tells_none, tells_nothing, tells_same, told_all}
@@ -35,7 +35,7 @@ returns-clause-told g c =
     let found = bytes_in c.in_ok-found.found in (
       found,
       subst (λ subject. IsFoundForSubject (g.T.Tree.history c.args.tree.now) subject found) c.subject_of.ensures c.in_ok-found.ensures.found,
-      tells_same _ _ _ _ (ap (λ file. hint_lines (hints_of words refusal file)) c.bytes_of.ensures
+      tells_same _ _ _ _ (ap (λ file. hint_lines (hints_by_words_and_subject_file words refusal file)) c.bytes_of.ensures
           ∙ sym (told_all words refusal found (sym c.in_ok-is_explained.ensures ∙ c.if-not-branch.false))) c.tell.ensures.told,
     )
 

@@ -3,7 +3,7 @@ use Rattle.std.specs.Prelude.{is_some}
 use Rattle.std.specs.Option.{option_map_or}
 use Rattle.command_core.specs.declared.operands.Operand.{Operand}
 use Rattle.file_owners.specs.db_core.Seen.{packages_of}
-use Rattle.installed_info.specs.Info.{info_unless_refused, operand_info, operands_info, package_info}
+use Rattle.installed_info.specs.Info.{info_unless_refused, operand_info, operands_info, package_info_for_operand_text}
 use Rattle.installed_info.specs.Packages.{package_meant_by_operand_text}
 use Rattle.installed_info.proofs.LineSteps.{left_at, told}
 use Rattle.installed_info.proofs.OperandSteps.{passed, refused}
@@ -24,7 +24,7 @@ loop-i-preserved c =
     let o : Operand = c.get-operand.result.now in
     record {
       report = told _ _ (operand_info c.args.form packages o) _ (operands_info c.args.form packages (drop (c.loop-i.i + 1) c.args.operands.now)) _
-          (c.in_ok-push_operand.ensures.told ∙ ap (λ t. c.loop-i.report.items ++ option_map_or (package_info c.args.form t) (package_meant_by_operand_text c.args.form packages t) []) c.as_bytes.ensures)
+          (c.in_ok-push_operand.ensures.told ∙ ap (λ t. c.loop-i.report.items ++ option_map_or (package_info_for_operand_text c.args.form t) (package_meant_by_operand_text c.args.form packages t) []) c.as_bytes.ensures)
           (ap (operands_info c.args.form packages) (left_at c.args.operands.now c.loop-i.i o c.get-operand.ensures)) c.loop-i.invariant.report;
       refusal = sym (passed c.args.form packages c.args.operands.now c.loop-i.i o c.get-operand.ensures _
           (c.in_ok-push_operand.ensures.found ∙ ap (λ t. is_some (package_meant_by_operand_text c.args.form packages t)) c.as_bytes.ensures) c.if-not-branch.false)

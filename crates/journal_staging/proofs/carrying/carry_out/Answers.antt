@@ -4,7 +4,7 @@ use Rattle.base_core.specs.Crash.{Since}
 use Rattle.base_core.specs.Tree.{files_of}
 use Rattle.base_core.specs.declared.cause.Cause.{Cause}
 use Rattle.journal_commit.specs.journal_core.Recovery.{files_after_actions}
-use Rattle.journal_commit.specs.journal_core.Staged.{AreJournalPathsFree, Staging, files_with_staged}
+use Rattle.journal_commit.specs.journal_core.Staged.{AreIntentAndStagedPathsFree, Staging, files_with_staged}
 use Rattle.journal_staging.specs.Carried.{IsCarriedTo}
 use Rattle.journal_staging.specs.Sources.{EachMayDenote}
 use Rattle.journal_staging.specs.declared.writes.StageFault.TheVariants.{Bad, Disk}
@@ -32,7 +32,7 @@ returns-in_err-stage_each-clause-bad g c = λ member cause is.
 pub returns-in_err-stage_each-clause-proper : goal.returns-in_err-stage_each-clause-proper
 returns-in_err-stage_each-clause-proper g c =
     carried c.a_new_stage_is_staging.ensures (g.T.Tree.history c.args.tree.now) (g.T.Tree.history c.check_targets.new.tree) c.args.stage.now _ _ c.args.writes.now c.requires.new c.check_targets.ensures.tree.same
-    (λ v contents. AreJournalPathsFree (files_of v) → AreJournalPathsFree (files_after_actions c.args.stage.now.intent (files_with_staged 1 contents (files_of v))) → (g.T.Tree.counts c.stage_each.new.tree).misuses ≡ (g.T.Tree.counts c.args.tree.now).misuses)
+    (λ v contents. AreIntentAndStagedPathsFree (files_of v) → AreIntentAndStagedPathsFree (files_after_actions c.args.stage.now.intent (files_with_staged 1 contents (files_of v))) → (g.T.Tree.counts c.stage_each.new.tree).misuses ≡ (g.T.Tree.counts c.args.tree.now).misuses)
     (λ v contents staging stand room more.
     c.in_err-stage_each.ensures.proper contents v (g.T.Tree.history c.args.tree.now) staging stand room ∙ where_seen (g.T.Tree.history c.args.tree.now) v _ staging.start c.check_targets.ensures.tree.proper)
 
@@ -50,10 +50,10 @@ returns-in_err-carry_through-clause-run g c =
 pub returns-in_err-carry_through-clause-proper : goal.returns-in_err-carry_through-clause-proper
 returns-in_err-carry_through-clause-proper g c =
     carried c.a_new_stage_is_staging.ensures (g.T.Tree.history c.args.tree.now) (g.T.Tree.history c.check_targets.new.tree) c.args.stage.now _ _ c.args.writes.now c.requires.new c.check_targets.ensures.tree.same
-    (λ v contents. AreJournalPathsFree (files_of v) → AreJournalPathsFree (files_after_actions c.args.stage.now.intent (files_with_staged 1 contents (files_of v))) → (g.T.Tree.counts c.carry_through.new.tree).misuses ≡ (g.T.Tree.counts c.args.tree.now).misuses)
+    (λ v contents. AreIntentAndStagedPathsFree (files_of v) → AreIntentAndStagedPathsFree (files_after_actions c.args.stage.now.intent (files_with_staged 1 contents (files_of v))) → (g.T.Tree.counts c.carry_through.new.tree).misuses ≡ (g.T.Tree.counts c.args.tree.now).misuses)
     (λ v contents staging stand room more.
     c.in_err-carry_through.ensures.proper contents v (g.T.Tree.history c.args.tree.now) (c.in_ok-stage_each.ensures.staging contents v (g.T.Tree.history c.args.tree.now) staging stand) room
-    (subst (λ (s : Staging). AreJournalPathsFree (files_after_actions s.intent (files_with_staged 1 contents (files_of v)))) (sym c.in_ok-stage_each.ensures.view) more)
+    (subst (λ (s : Staging). AreIntentAndStagedPathsFree (files_after_actions s.intent (files_with_staged 1 contents (files_of v)))) (sym c.in_ok-stage_each.ensures.view) more)
     ∙ (c.in_ok-stage_each.ensures.proper contents v (g.T.Tree.history c.args.tree.now) staging stand room ∙ where_seen (g.T.Tree.history c.args.tree.now) v _ staging.start c.check_targets.ensures.tree.proper))
 
 pub returns-clause-run : goal.returns-clause-run
@@ -71,10 +71,10 @@ returns-clause-run g c =
 pub returns-clause-proper : goal.returns-clause-proper
 returns-clause-proper g c =
     carried c.a_new_stage_is_staging.ensures (g.T.Tree.history c.args.tree.now) (g.T.Tree.history c.check_targets.new.tree) c.args.stage.now _ _ c.args.writes.now c.requires.new c.check_targets.ensures.tree.same
-    (λ v contents. AreJournalPathsFree (files_of v) → AreJournalPathsFree (files_after_actions c.args.stage.now.intent (files_with_staged 1 contents (files_of v))) → (g.T.Tree.counts c.carry_through.new.tree).misuses ≡ (g.T.Tree.counts c.args.tree.now).misuses)
+    (λ v contents. AreIntentAndStagedPathsFree (files_of v) → AreIntentAndStagedPathsFree (files_after_actions c.args.stage.now.intent (files_with_staged 1 contents (files_of v))) → (g.T.Tree.counts c.carry_through.new.tree).misuses ≡ (g.T.Tree.counts c.args.tree.now).misuses)
     (λ v contents staging stand room more.
     c.in_ok-carry_through.ensures.proper contents v (g.T.Tree.history c.args.tree.now) (c.in_ok-stage_each.ensures.staging contents v (g.T.Tree.history c.args.tree.now) staging stand) room
-    (subst (λ (s : Staging). AreJournalPathsFree (files_after_actions s.intent (files_with_staged 1 contents (files_of v)))) (sym c.in_ok-stage_each.ensures.view) more)
+    (subst (λ (s : Staging). AreIntentAndStagedPathsFree (files_after_actions s.intent (files_with_staged 1 contents (files_of v)))) (sym c.in_ok-stage_each.ensures.view) more)
     ∙ (c.in_ok-stage_each.ensures.proper contents v (g.T.Tree.history c.args.tree.now) staging stand room ∙ where_seen (g.T.Tree.history c.args.tree.now) v _ staging.start c.check_targets.ensures.tree.proper))
 
 pub returns-in_err-stage_each-clause-listed : goal.returns-in_err-stage_each-clause-listed

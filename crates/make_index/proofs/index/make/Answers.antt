@@ -1,6 +1,6 @@
 use Rattle.std.proofs.Common.{◌∙◌, ap, Err}
 use Rattle.std.proofs.lemmas.Result.{err_from_is_err_and}
-use Rattle.make_index.specs.Index.{description_in}
+use Rattle.make_index.specs.Index.{first_description_or_empty}
 use Rattle.make_index.specs.Views.{entries_view}
 use Rattle.make_index.proofs.IndexWhole.{files_by, found_made, found_refused, told_made, told_refused}
 use Rattle.make_index.proofs.index.make.Goals as goal
@@ -20,8 +20,8 @@ returns-in_err-entries-clause-found g c =
 
 pub returns-clause-made : goal.returns-clause-made
 returns-clause-made g c =
-    told_made c.args.command.now c.description.result.now _ (c.description.ensures ∙ ap description_in c.values.ensures.value) c.operands.ensures.value (λ file. file.items) _ (entries_view c.in_ok-entries.entries) c.index_file.result c.in_ok-entries.ensures.made c.index_file.ensures
+    told_made c.args.command.now c.description.result.now _ (c.description.ensures ∙ ap first_description_or_empty c.values.ensures.value) c.operands.ensures.value (λ file. file.items) _ (entries_view c.in_ok-entries.entries) c.index_file.result c.in_ok-entries.ensures.made c.index_file.ensures
 
 pub returns-clause-found : goal.returns-clause-found
 returns-clause-found g c =
-    found_made c.args.command.now c.description.result.now _ (c.description.ensures ∙ ap description_in c.values.ensures.value) c.operands.ensures.value (λ file. file.items) (entries_view c.in_ok-entries.entries) c.index_file.result c.in_ok-entries.ensures.found c.index_file.ensures
+    found_made c.args.command.now c.description.result.now _ (c.description.ensures ∙ ap first_description_or_empty c.values.ensures.value) c.operands.ensures.value (λ file. file.items) (entries_view c.in_ok-entries.entries) c.index_file.result c.in_ok-entries.ensures.found c.index_file.ensures

@@ -2,7 +2,7 @@ use Rattle.std.proofs.Common.{refl}
 use Rattle.adb_view.proofs.ValueEntries.{nth_obj}
 use Rattle.adb_view.specs.Plain.{none, more, blob_or_null}
 use Rattle.dep_core.specs.Value.{dep_value}
-use Rattle.make_core.specs.make_info.Values.{number_value}
+use Rattle.make_core.specs.make_info.Values.{number_or_null}
 use Rattle.make_laws.proofs.values.a_value_is_stored_as_given.Goals as goal
 
 pub returns : goal.returns
@@ -12,6 +12,6 @@ returns c =
       number = λ n. refl;
       need = λ d.
           let v = dep_value d in
-          let fields = more (blob_or_null v.name) (more (blob_or_null v.version) (more (number_value v.matching) none)) in
+          let fields = more (blob_or_null v.name) (more (blob_or_null v.version) (more (number_or_null v.matching) none)) in
           (nth_obj fields 0, nth_obj fields 1, nth_obj fields 2);
     }

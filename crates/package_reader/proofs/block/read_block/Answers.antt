@@ -2,7 +2,7 @@
 use Rattle.std.proofs.Common.{◌≡◌, ◌-◌, ◌+◌, ◌≤◌, ℕ, List, [], ◌++◌, length, drop, ap, sym, subst, ◌∙◌, arith, rules}
 use Rattle.std.specs.Prelude.{IfSome}
 use Rattle.std.proofs.lemmas.List.{length-drop}
-use Rattle.adb_block.specs.Frames.{IsFrameOrEndOfStep, head_len}
+use Rattle.adb_block.specs.Frames.{IsFrameOrEndOfBlockResult, head_len}
 use Rattle.pkg_core.specs.Seen.{HasBytesAtOffset, tree_fault}
 use Rattle.pkg_core.specs.Places.{block_step_at}
 use Rattle.pkg_core.proofs.SeenBytes.{has_front, reads_err, reads_failed, reads_in_a_row, reads_ok}
@@ -30,7 +30,7 @@ returns-in_err-framing-clause-block g c =
       not_ok _ _ _ c.from_residual-in_err-framing.ensures.1,
       λ file long has.
           let left : length (drop place.at file) ≡ place.len - place.at = length-drop place.at file ∙ ap (λ (n : ℕ). n - place.at) long in
-          let step = subst (λ r. IsFrameOrEndOfStep r (drop place.at file) (block_step_at place file)) c.in_err-framing.was (c.frame_of.ensures.exact (drop place.at file) left (subst (λ (xs : List ℕ). HasBytesAtOffset file place.at xs) (sym c.bytes.ensures) has)) in
+          let step = subst (λ r. IsFrameOrEndOfBlockResult r (drop place.at file) (block_step_at place file)) c.in_err-framing.was (c.frame_of.ensures.exact (drop place.at file) left (subst (λ (xs : List ℕ). HasBytesAtOffset file place.at xs) (sym c.bytes.ensures) has)) in
           read_bad place file c.in_err-framing.field-0.0 _ c.from_residual-in_err-framing.ensures.1 (block_failed place file c.in_err-framing.field-0.0 step),
     )
 
@@ -54,7 +54,7 @@ returns-clause-block g c =
       in_block head positions p.0 (place.len - place.at) framing c.in_ok-head.ensures.holds c.in_ok-head.ensures.short is c.in_ok-framing.ensures.fits (search rules) p.1,
       λ file long has.
           let left : length (drop place.at file) ≡ place.len - place.at = length-drop place.at file ∙ ap (λ (n : ℕ). n - place.at) long in
-          let step = subst (λ r. IsFrameOrEndOfStep r (drop place.at file) (block_step_at place file)) c.in_ok-framing.was (c.frame_of.ensures.exact (drop place.at file) left (subst (λ (xs : List ℕ). HasBytesAtOffset file place.at xs) (sym c.bytes.ensures) (has_front file place.at head p.0 has))) in
+          let step = subst (λ r. IsFrameOrEndOfBlockResult r (drop place.at file) (block_step_at place file)) c.in_ok-framing.was (c.frame_of.ensures.exact (drop place.at file) left (subst (λ (xs : List ℕ). HasBytesAtOffset file place.at xs) (sym c.bytes.ensures) (has_front file place.at head p.0 has))) in
           (step, positions_in place file head positions p.0 (place.len - place.at) framing c.in_ok-head.ensures.holds c.in_ok-head.ensures.short is c.in_ok-framing.ensures.fits (search rules) p.1 has),
     )
 

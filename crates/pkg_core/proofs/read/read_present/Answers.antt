@@ -1,10 +1,10 @@
 -- What was seen read by read is the witness.
 use Rattle.std.proofs.Common.{◌≡◌, ◌≤◌, ◌+◌, ◌-◌, ℕ, ◌++◌, ◌∙◌, sym, ap, refl, subst, length, drop, min, None, arith}
 use Rattle.std.proofs.lemmas.List.{length-append, length-drop}
-use Rattle.adb_block.specs.Framing.{next_step}
+use Rattle.adb_block.specs.Framing.{next_block_result_at_offset}
 use Rattle.adb_block.specs.Piece.{padding_of}
 use Rattle.adb_view.specs.Head.{payload_head_fault}
-use Rattle.adb_block.specs.Frames.{IsFrameOfStep}
+use Rattle.adb_block.specs.Frames.{IsFrameOfBlockResult}
 use Rattle.pkg_core.specs.Seen.{HasBytesAtOffset, tree_fault}
 use Rattle.pkg_core.specs.declared.front.FrontFault.TheVariants.{Bad, Disk as DiskFault}
 use Rattle.pkg_core.proofs.FrontSeen.{bad_not_disk, head_seen, header_is, header_seen, padded, payload_seen, present_bad, present_disk}
@@ -74,7 +74,7 @@ returns-in_err-framed-clause-front g c =
           let front = header_is file header c.args.len c.args.schema c.in_ok-found.found n long (has_front file 0 header head has) (sym c.schema.ensures ∙ c.in_ok-found.was) c.if-found-schema.false in
           let left : length (drop 8 file) ≡ c.args.len - 8 = length-drop 8 file ∙ ap (λ (k : ℕ). k - 8) long in
           let here : HasBytesAtOffset file 8 head = subst (λ (k : ℕ). HasBytesAtOffset file k head) (zero_and long_header) (has_rest file 0 header head has) in
-          let step = subst (λ r. IsFrameOfStep r (drop 8 file) (next_step None 8 (drop 8 file))) c.in_err-framed.was (c.first_framed.ensures.exact (drop 8 file) left here) in
+          let step = subst (λ r. IsFrameOfBlockResult r (drop 8 file) (next_block_result_at_offset None 8 (drop 8 file))) c.in_err-framed.was (c.first_framed.ensures.exact (drop 8 file) left here) in
           present_bad c.args.schema c.from_residual-in_err-framed.result (length (header ++ head)) file c.in_err-framed.field-0.0 c.from_residual-in_err-framed.ensures.1 (first_bad file c.args.schema c.in_err-framed.field-0.0 front (first_failed file c.in_err-framed.field-0.0 step c.args.schema)),
     )
 
@@ -120,7 +120,7 @@ returns-in_err-new-clause-front g c =
           let left : length (drop 8 file) ≡ c.args.len - 8 = length-drop 8 file ∙ ap (λ (k : ℕ). k - 8) long in
           let here : HasBytesAtOffset file 8 head = subst (λ (k : ℕ). HasBytesAtOffset file k head) (zero_and long_header) (has_rest file 0 header head before) in
           let there : HasBytesAtOffset file (8 + framed.head_len) payload = subst (λ (k : ℕ). HasBytesAtOffset file k payload) (zero_and (sym starts)) (has_rest file 0 (header ++ head) payload has) in
-          let step = subst (λ r. IsFrameOfStep r (drop 8 file) (next_step None 8 (drop 8 file))) c.in_ok-framed.was (c.first_framed.ensures.exact (drop 8 file) left here) in
+          let step = subst (λ r. IsFrameOfBlockResult r (drop 8 file) (next_block_result_at_offset None 8 (drop 8 file))) c.in_ok-framed.was (c.first_framed.ensures.exact (drop 8 file) left here) in
           let blocks = first_blocks file payload framed c.padding_after-padding.result _ step c.in_ok-framed.ensures.order (subst (λ (k : ℕ). framed.head_len + framed.payload_len ≤ k) (sym left) room) (pad ∙ ap (λ (k : ℕ). min (padding_of (framed.head_len + framed.payload_len)) (k - (framed.head_len + framed.payload_len))) (sym left)) payload_len there refl in
           present_bad c.args.schema c.from_residual-in_err-new.result (length ((header ++ head) ++ payload)) file c.in_err-new.field-0.0 c.from_residual-in_err-new.ensures.1 (first_bad file c.args.schema c.in_err-new.field-0.0 front (first_head_bad file payload _ c.in_err-new.field-0.0 blocks (sym (c.in_err-new.ensures.exact ∙ ap payload_head_fault c.deref.ensures.value)) c.args.schema)),
     )
@@ -167,7 +167,7 @@ returns-clause-front g c =
           let left : length (drop 8 file) ≡ c.args.len - 8 = length-drop 8 file ∙ ap (λ (k : ℕ). k - 8) long in
           let here : HasBytesAtOffset file 8 head = subst (λ (k : ℕ). HasBytesAtOffset file k head) (zero_and long_header) (has_rest file 0 header head before) in
           let there : HasBytesAtOffset file (8 + framed.head_len) payload = subst (λ (k : ℕ). HasBytesAtOffset file k payload) (zero_and (sym starts)) (has_rest file 0 (header ++ head) payload whole) in
-          let step = subst (λ r. IsFrameOfStep r (drop 8 file) (next_step None 8 (drop 8 file))) c.in_ok-framed.was (c.first_framed.ensures.exact (drop 8 file) left here) in
+          let step = subst (λ r. IsFrameOfBlockResult r (drop 8 file) (next_block_result_at_offset None 8 (drop 8 file))) c.in_ok-framed.was (c.first_framed.ensures.exact (drop 8 file) left here) in
           let at_is : 8 + framed.head_len + framed.payload_len + padding ≡ 8 + (framed.head_len + framed.payload_len + padding) = omega arith in
           let blocks = first_blocks file payload framed padding (8 + framed.head_len + framed.payload_len + padding) step c.in_ok-framed.ensures.order (subst (λ (k : ℕ). framed.head_len + framed.payload_len ≤ k) (sym left) room) (pad ∙ ap (λ (k : ℕ). min (padding_of (framed.head_len + framed.payload_len)) (k - (framed.head_len + framed.payload_len))) (sym left)) payload_len there at_is in
           (record { header = front; same_schema = refl; long = long; blocks = blocks c.args.schema; head = sym (c.in_ok-new.ensures.exact ∙ ap payload_head_fault c.deref.ensures.value) }, omega (arith, starts, payload_len, all, full, last.long)),

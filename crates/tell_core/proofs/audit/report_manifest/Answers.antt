@@ -3,18 +3,18 @@ use Rattle.change_inputs.proofs.Handed.{handed_on}
 use Rattle.change_inputs.specs.Inputs.{database_for}
 use Rattle.change_inputs.specs.Seen.{installed_seen}
 use Rattle.tell_core.proofs.ReportSteps.{report_read, report_unread}
-use Rattle.tell_core.specs.AuditResult.{manifest_report}
+use Rattle.tell_core.specs.AuditResult.{manifest_report_or_refusal}
 use Rattle.tell_core.proofs.audit.report_manifest.Goals as goal
 
 pub returns-in_err-installed-clause-told : goal.returns-in_err-installed-clause-told
 returns-in_err-installed-clause-told g c =
-    report_unread installed_seen (database_for c.args.command.now) _ c.from_residual.result (λ read. manifest_report c.args.command.now) _ c.from_residual.ensures.1 c.in_err-installed.ensures.found
+    report_unread installed_seen (database_for c.args.command.now) _ c.from_residual.result (λ read. manifest_report_or_refusal c.args.command.now) _ c.from_residual.ensures.1 c.in_err-installed.ensures.found
 
 pub returns-in_err-done-clause-told : goal.returns-in_err-done-clause-told
 returns-in_err-done-clause-told g c =
-    report_read installed_seen (database_for c.args.command.now) _ c.from_residual-in_err-done.result (manifest_report c.args.command.now) c.in_ok-installed.installed c.in_ok-installed.ensures.found
-    (handed_on (λ done. done) (manifest_report c.args.command.now (installed_seen c.in_ok-installed.installed)) c.from_residual-in_err-done.result _ c.from_residual-in_err-done.ensures.1 c.in_err-done.ensures)
+    report_read installed_seen (database_for c.args.command.now) _ c.from_residual-in_err-done.result (manifest_report_or_refusal c.args.command.now) c.in_ok-installed.installed c.in_ok-installed.ensures.found
+    (handed_on (λ done. done) (manifest_report_or_refusal c.args.command.now (installed_seen c.in_ok-installed.installed)) c.from_residual-in_err-done.result _ c.from_residual-in_err-done.ensures.1 c.in_err-done.ensures)
 
 pub returns-clause-told : goal.returns-clause-told
 returns-clause-told g c =
-    report_read installed_seen (database_for c.args.command.now) _ (Ok c.in_ok-done.done) (manifest_report c.args.command.now) c.in_ok-installed.installed c.in_ok-installed.ensures.found c.in_ok-done.ensures
+    report_read installed_seen (database_for c.args.command.now) _ (Ok c.in_ok-done.done) (manifest_report_or_refusal c.args.command.now) c.in_ok-installed.installed c.in_ok-installed.ensures.found c.in_ok-done.ensures

@@ -6,7 +6,7 @@ use Rattle.std.specs.Slice.Iter.{split_rest, split_done, split_callee}
 use Rattle.std.proofs.lemmas.Iterator.Splits.{YieldsList-from_slice_split}
 use Rattle.std.proofs.lemmas.Iterator.Consumers.{YieldsList-turn, YieldsList-end}
 use Rattle.std.proofs.lemmas.List.{length_push}
-use Rattle.make_info.specs.Fields.{dependency_values_in, nonempty_parts}
+use Rattle.make_info.specs.Fields.{dependency_values_in, nonempty_parts_between_spaces}
 use Rattle.make_info.specs.Reading.{nonempty_part}
 use Rattle.v2_lines.specs.InfoValues.{with_needs}
 use Rattle.v2_lines.specs.Views.{needs_view}
@@ -15,7 +15,7 @@ use Rattle.v2_lines.proofs.value.read_needs.Goals as goal
 
 pub loop-part-init : goal.loop-part-init
 loop-part-init c =
-    no_needs_before c.new-needs.result (dependency_values_in (nonempty_parts c.args.text.now)) c.new-needs.ensures.items
+    no_needs_before c.new-needs.result (dependency_values_in (nonempty_parts_between_spaces c.args.text.now)) c.new-needs.ensures.items
 
 pub returns-then-not-branch : goal.returns-then-not-branch
 returns-then-not-branch c =

@@ -1,5 +1,5 @@
 use Rattle.std.proofs.Common.{arith, subst, sym, ◌∙◌}
-use Rattle.version_core.specs.Matching.{all_fit}
+use Rattle.version_core.specs.Matching.{are_wanted_tokens_met_by}
 use Rattle.version_core.specs.Reading.{AreEqualUpToMark, AreEqualUpToParting, AreEqualUpToPlaceInHash, hash_fits}
 use Rattle.version_core.proofs.EqualFront.{fit_from_hash, fit_from_mark, fit_whole, mark_before, mark_within}
 use Rattle.version_core.proofs.fuzzy.is_fuzzy_match.Goals as goal
@@ -26,15 +26,15 @@ behind-requires-in-InHash c =
 
 pub returns-in-AtFront : goal.returns-in-AtFront
 returns-in-AtFront c =
-    c.all_fit.ensures
-    ∙ (λ i. all_fit (c.of.ensures i) (c.of-in-AtFront.ensures i))
+    c.are_wanted_tokens_met_by.ensures
+    ∙ (λ i. are_wanted_tokens_met_by (c.of.ensures i) (c.of-in-AtFront.ensures i))
     ∙ fit_whole c.args.wanted.now c.args.found.now
 
 pub returns-in-AtMark : goal.returns-in-AtMark
 returns-in-AtMark c =
     let parted : AreEqualUpToMark c.args.wanted.now c.args.found.now c.in-AtMark.at = subst (AreEqualUpToParting c.args.wanted.now c.args.found.now) c.in-AtMark.is c.parting_of.ensures in
-    c.all_fit-in-AtMark.ensures
-    ∙ (λ i. all_fit (c.tokens_from_mark.ensures i) (c.tokens_from_mark-in-AtMark.ensures i))
+    c.are_wanted_tokens_met_by-in-AtMark.ensures
+    ∙ (λ i. are_wanted_tokens_met_by (c.tokens_from_mark.ensures i) (c.tokens_from_mark-in-AtMark.ensures i))
     ∙ sym (fit_from_mark c.args.wanted.now c.args.found.now parted.len c.in-AtMark.at parted.equal parted.last c.requires.wanted c.requires.found)
 
 pub returns-in-InHash : goal.returns-in-InHash

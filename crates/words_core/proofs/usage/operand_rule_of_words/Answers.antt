@@ -1,5 +1,5 @@
 use Rattle.std.proofs.Common.{◌+◌, length, sym, ◌∙◌, arith}
-use Rattle.words_core.specs.Grammar.{reading_after_applet}
+use Rattle.words_core.specs.Grammar.{reading_of_rest_of_command_words}
 use Rattle.words_core.proofs.Hints.{plain_asked, rule_same}
 use Rattle.words_core.proofs.KindsKept.{IsPlain, start_known}
 use Rattle.words_core.proofs.usage.operand_rule_of_words.Goals as goal
@@ -15,4 +15,4 @@ read_flags-requires-clause-plain c = plain_asked c.args.start.now.applet (sym c.
 pub returns : goal.returns
 returns c =
     c.operands-2.ensures
-    ∙ rule_same c.args.start.now.applet _ (reading_after_applet c.args.start.now c.args.words.now).state.flags (sym c.operands_depend_on_flags.ensures ∙ c.if-operands_depend_on_flags.false)
+    ∙ rule_same c.args.start.now.applet _ (reading_of_rest_of_command_words c.args.start.now c.args.words.now).state.flags (sym c.operands_depend_on_flags.ensures ∙ c.if-operands_depend_on_flags.false)

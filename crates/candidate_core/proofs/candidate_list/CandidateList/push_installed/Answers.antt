@@ -6,7 +6,7 @@ use Rattle.adb_view.specs.declared.adb.Adb.{Adb}
 use Rattle.adb_view.specs.Values.{value_at}
 use Rattle.adb_view.specs.declared.tables.Kind.TheVariants as Kinds
 use Rattle.adb_view.specs.declared.tables.Which.TheVariants as Tables
-use Rattle.candidate_core.specs.Candidates.{Candidate, candidate_of, is_same_package, with_installed}
+use Rattle.candidate_core.specs.Candidates.{Candidate, candidate_of, is_same_package, with_installed_marked_or_added}
 use Rattle.candidate_core.specs.Packages.{candidates_of_packages}
 use Rattle.candidate_core.specs.Values.{IsPoolFault}
 use Rattle.candidate_core.specs.declared.candidate_list.PoolFault.{PoolFault}
@@ -37,6 +37,6 @@ returns-clause-fault c =
     let none : list_any (is_same_package installed) old ≡ false = ap (λ (i : Candidate). list_any (is_same_package i) old) (sym first) ∙ (sym c.mark_same.ensures.some ∙ c.if-mark_same.false) in
     let same : length (candidates_of_packages c.add_source.new.self) ≡ length old =
     ap length (c.add_source.ensures.same ∙ (c.mark_same.ensures.same ∙ (none_same c.of.result old (sym c.mark_same.ensures.some ∙ c.if-mark_same.false)))) in
-    let last : length (with_installed old installed) ≡ length old + 1 = ap length (stands_last old installed none) ∙ length-append old (installed ∷ []) in
-    if_err c.push.result (λ (fault : PoolFault). IsPoolFault fault (length (candidates_of_packages c.add_source.new.self) + 1)) (λ (fault : PoolFault). IsPoolFault fault (length (with_installed old installed)))
-    (λ fault h. fault_more fault (length (candidates_of_packages c.add_source.new.self) + 1) (length (with_installed old installed)) (omega (arith, same, last)) h) c.push.ensures.fault
+    let last : length (with_installed_marked_or_added old installed) ≡ length old + 1 = ap length (stands_last old installed none) ∙ length-append old (installed ∷ []) in
+    if_err c.push.result (λ (fault : PoolFault). IsPoolFault fault (length (candidates_of_packages c.add_source.new.self) + 1)) (λ (fault : PoolFault). IsPoolFault fault (length (with_installed_marked_or_added old installed)))
+    (λ fault h. fault_more fault (length (candidates_of_packages c.add_source.new.self) + 1) (length (with_installed_marked_or_added old installed)) (omega (arith, same, last)) h) c.push.ensures.fault

@@ -2,7 +2,7 @@ use Rattle.std.proofs.Common.{◌≡◌, refl, sym, ap}
 use Rattle.base_core.specs.Crash.{Since}
 use Rattle.journal_core.specs.Acting.{stage_with_actions_done}
 use Rattle.journal_core.specs.Kept.{KeepsOldOrNewBytes, RecoversTo}
-use Rattle.journal_core.specs.Staged.{Staging, AreJournalPathsFree}
+use Rattle.journal_core.specs.Staged.{Staging, AreIntentAndStagedPathsFree}
 use Rattle.journal_core.proofs.Again.{moments_as, after_as, told_as}
 use Rattle.journal_core.proofs.Keeping.{action_keeps_as}
 use Rattle.journal_core.proofs.stage.Stage.apply_one.Goals as goal
@@ -42,10 +42,10 @@ returns-clause-others g c = action_keeps_as _ _ _ _ _ _ (ap (λ (s : Staging). s
 
 pub returns-in_err-acted-clause-proper : goal.returns-in_err-acted-clause-proper
 returns-in_err-acted-clause-proper g c =
-    told_as c.args.self.now (stage_with_actions_done c.self.inside.intent c.self.inside.acted) _ (λ files v. AreJournalPathsFree files → (g.T.Tree.counts c.act.new.tree).misuses ≡ (g.T.Tree.counts c.args.tree.now).misuses)
+    told_as c.args.self.now (stage_with_actions_done c.self.inside.intent c.self.inside.acted) _ (λ files v. AreIntentAndStagedPathsFree files → (g.T.Tree.counts c.act.new.tree).misuses ≡ (g.T.Tree.counts c.args.tree.now).misuses)
     (ap (λ (s : Staging). s.intent) (sym c.self.view_is)) (ap (λ (s : Staging). s.acted) (sym c.self.view_is)) c.act.ensures.proper
 
 pub returns-clause-proper : goal.returns-clause-proper
 returns-clause-proper g c =
-    told_as c.args.self.now (stage_with_actions_done c.self.inside.intent c.self.inside.acted) _ (λ files v. AreJournalPathsFree files → (g.T.Tree.counts c.act.new.tree).misuses ≡ (g.T.Tree.counts c.args.tree.now).misuses)
+    told_as c.args.self.now (stage_with_actions_done c.self.inside.intent c.self.inside.acted) _ (λ files v. AreIntentAndStagedPathsFree files → (g.T.Tree.counts c.act.new.tree).misuses ≡ (g.T.Tree.counts c.args.tree.now).misuses)
     (ap (λ (s : Staging). s.intent) (sym c.self.view_is)) (ap (λ (s : Staging). s.acted) (sym c.self.view_is)) c.act.ensures.proper

@@ -6,7 +6,7 @@ use Rattle.base_core.specs.Tree.{files_of}
 use Rattle.journal_core.specs.Acting.{stage_with_actions_done}
 use Rattle.journal_core.specs.Recovery.{EachCrashLeavesStateOf, files_after_actions, intent_name}
 use Rattle.journal_core.specs.Kept.{RecoversTo}
-use Rattle.journal_core.specs.Staged.{Staging, AreStagingPathsFree, IsCarryingOutActions, IsOldUntilCommit, IsHistoryThatCommitsFiles}
+use Rattle.journal_core.specs.Staged.{Staging, HasEmptyStageAndFreeJournalPaths, IsCarryingOutActions, IsOldUntilCommit, IsHistoryThatCommitsFiles}
 use Rattle.journal_core.proofs.Again.{acting_published, publish_as, publish_durable}
 use Rattle.journal_core.proofs.stage.Stage.publish.Goals as goal
 
@@ -22,7 +22,7 @@ returns-in_err-publish_intent-clause-publishing g c = record {
 
 pub returns-in_err-publish_intent-clause-proper : goal.returns-in_err-publish_intent-clause-proper
 returns-in_err-publish_intent-clause-proper g c =
-    publish_as (λ i base v. AreStagingPathsFree base → (g.T.Tree.counts c.publish_intent.new.tree).misuses ≡ (g.T.Tree.counts c.args.tree.now).misuses) c.self.inside.intent c.args.self.now _ (ap (λ (s : Staging). s.intent) c.self.view_is) c.requires.all c.in_err-publish_intent.ensures.proper
+    publish_as (λ i base v. HasEmptyStageAndFreeJournalPaths base → (g.T.Tree.counts c.publish_intent.new.tree).misuses ≡ (g.T.Tree.counts c.args.tree.now).misuses) c.self.inside.intent c.args.self.now _ (ap (λ (s : Staging). s.intent) c.self.view_is) c.requires.all c.in_err-publish_intent.ensures.proper
 
 pub returns-clause-publishing : goal.returns-clause-publishing
 returns-clause-publishing g c = record {
@@ -36,7 +36,7 @@ returns-clause-publishing g c = record {
 
 pub returns-clause-proper : goal.returns-clause-proper
 returns-clause-proper g c =
-    publish_as (λ i base v. AreStagingPathsFree base → (g.T.Tree.counts c.publish_intent.new.tree).misuses ≡ (g.T.Tree.counts c.args.tree.now).misuses) c.self.inside.intent c.args.self.now _ (ap (λ (s : Staging). s.intent) c.self.view_is) c.requires.all c.in_ok-publish_intent.ensures.proper
+    publish_as (λ i base v. HasEmptyStageAndFreeJournalPaths base → (g.T.Tree.counts c.publish_intent.new.tree).misuses ≡ (g.T.Tree.counts c.args.tree.now).misuses) c.self.inside.intent c.args.self.now _ (ap (λ (s : Staging). s.intent) c.self.view_is) c.requires.all c.in_ok-publish_intent.ensures.proper
 
 pub returns-clause-acting : goal.returns-clause-acting
 returns-clause-acting g c =

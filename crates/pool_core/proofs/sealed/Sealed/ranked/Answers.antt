@@ -5,7 +5,7 @@ use Rattle.option_ranks.specs.candidate_core.Candidates.{Need}
 use Rattle.option_ranks.specs.candidate_core.Values.{need_of_ref}
 use Rattle.option_ranks.specs.candidate_core.Rank.{SealedPool, is_better}
 use Rattle.option_ranks.specs.Ranking.{Ranking, ranking_cmp}
-use Rattle.option_ranks.specs.candidate_core.Options.{is_eligible_for_need, options_for, places_passing_from}
+use Rattle.option_ranks.specs.candidate_core.Options.{is_eligible_for_need, options_for, places_passing_counted_from}
 use Rattle.option_ranks.specs.declared.rank.VersionKey.{VersionKey}
 use Rattle.option_ranks.proofs.candidate_core.OptionLists.{chain, one_of, places_apart, options_ranked}
 use Rattle.option_ranks.proofs.candidate_core.Answering.{compares_by}
@@ -23,7 +23,7 @@ returns c =
     let total = c.rank_is_total.ensures.total pool need in
     let better : ℕ → ℕ → Bool = is_better pool need in
     let weak = ranks_by total (λ (k : ℕ). k) in
-    let places : List ℕ = places_passing_from 0 (is_eligible_for_need pool need) pool.candidates in
+    let places : List ℕ = places_passing_counted_from 0 (is_eligible_for_need pool need) pool.candidates in
     let key : VersionKey = c.in_ok-key.key in
     let read : List Ranking = c.in_ok-rankings.rankings.items in
     let ready : List Ranking = c.rank_long_versions.new.options.items in

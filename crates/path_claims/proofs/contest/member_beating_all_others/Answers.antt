@@ -1,7 +1,7 @@
 use Rattle.std.proofs.Common.{◌≡◌, ℕ, Some, None, ap, sym, ◌∙◌}
 use Rattle.std.specs.Prelude.{if◌then◌else◌, Option}
 use Rattle.path_claims.proofs.Contests.{none_wins, one_wins}
-use Rattle.path_claims.proofs.contest.winner.Goals as goal
+use Rattle.path_claims.proofs.contest.member_beating_all_others.Goals as goal
 
 pub returns-then-is_empty : goal.returns-then-is_empty
 returns-then-is_empty g c = none_wins (g.C.Contest.beats c.args.contest.now) (λ c. c.member) c.args.claims.now (sym c.is_empty.ensures ∙ c.if-is_empty.true)

@@ -8,7 +8,7 @@ use Rattle.std.proofs.lemmas.List.Splits.{length-slice_split}
 use Rattle.base_core.specs.Name.{path_parts_of}
 use Rattle.change_outcome.specs.star_patterns.Patterns.{is_whole_text_matched}
 use Rattle.change_report.proofs.PatternParts.{unlike, zipped}
-use Rattle.change_report.proofs.pattern.do_patterns_match_parts.Goals as goal
+use Rattle.change_report.proofs.pattern.do_patterns_match_parts_one_to_one.Goals as goal
 
 pub returns-then-count_slashes : goal.returns-then-count_slashes
 returns-then-count_slashes c =

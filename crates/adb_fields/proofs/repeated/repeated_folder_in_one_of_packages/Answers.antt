@@ -4,12 +4,12 @@ use Rattle.adb_view.specs.Adb.{payload_of}
 use Rattle.adb_view.specs.Entries.{array_entries}
 use Rattle.adb_view.specs.Plain.{Plain}
 use Rattle.adb_fields.specs.Repeated.{least_pair_of_repeated_name, name_of, folders_in}
-use Rattle.adb_fields.specs.NamedTexts.{plains_at}
+use Rattle.adb_fields.specs.NamedTexts.{plains_of_array_words}
 use Rattle.adb_fields.specs.declared.pairs.Pair.{Pair}
 use Rattle.adb_view.specs.declared.tables.Kind.TheVariants as Kinds
 use Rattle.adb_view.specs.declared.tables.Which.TheVariants as Tables
 use Rattle.adb_fields.proofs.FirstKinds.{one_first, no_first, one_each}
-use Rattle.adb_fields.proofs.repeated.repeated_folder_name_in_package.Goals as goal
+use Rattle.adb_fields.proofs.repeated.repeated_folder_in_one_of_packages.Goals as goal
 
 pub loop-i-preserved : goal.loop-i-preserved
 loop-i-preserved c =
@@ -23,4 +23,4 @@ pub returns : goal.returns
 returns c =
     let g : Plain → Option Pair = λ pkg. least_pair_of_repeated_name (map name_of (folders_in pkg)) in
     no_first (payload_of c.args.adb) (Kinds.Obj Tables.Package) g (array_entries c.args.packages) c.loop-i.i c.loop-i.first _ c.requires (grind arith) c.loop-i.invariant.so_far
-    ∙ one_each (λ pkg. map name_of (folders_in pkg)) (plains_at (payload_of c.args.adb) (Kinds.Obj Tables.Package) (array_entries c.args.packages))
+    ∙ one_each (λ pkg. map name_of (folders_in pkg)) (plains_of_array_words (payload_of c.args.adb) (Kinds.Obj Tables.Package) (array_entries c.args.packages))

@@ -2,7 +2,7 @@
 use Rattle.std.proofs.Common.{sym, ◌∙◌}
 use Rattle.version_core.specs.Reading.{token_view, tokens_left}
 use Rattle.version_core.proofs.Fits.{all_fit_after}
-use Rattle.version_core.proofs.fuzzy.all_fit.Goals as goal
+use Rattle.version_core.proofs.fuzzy.are_wanted_tokens_met_by.Goals as goal
 
 pub loop-found_tokens-preserved : goal.loop-found_tokens-preserved
 loop-found_tokens-preserved c =
