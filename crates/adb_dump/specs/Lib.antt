@@ -1,6 +1,6 @@
 -- The definitions of this crate, whose rules are in `docs/formats.md`, "Dump text".
 
--- passed on: a crate above that names this one need not name these
+-- re-exported crates: a crate that depends on this one can use their definitions without depending on them too
 pub use Rattle.adb_schema.specs as adb_schema
 -- cited by the contract of `apk`
 pub mod Dump

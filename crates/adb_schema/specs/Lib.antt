@@ -1,6 +1,6 @@
 -- The definitions of `adb_schema`. The head of each file names the section with its rule.
 
--- passed on: a crate above that names this one need not name these
+-- re-exported crates: a crate that depends on this one can use their definitions without depending on them too
 pub use Rattle.adb_fields.specs as adb_fields
 -- cited by the contract of `apk`
 pub mod Soundness

@@ -1,6 +1,6 @@
 -- The definitions of `adb_sound`. The head of each file names the section with its rule.
 
--- passed on: a crate above that names this one need not name these
+-- re-exported crates: a crate that depends on this one can use their definitions without depending on them too
 pub use Rattle.adb_write.specs as adb_write
 pub use Rattle.pkg_core.specs as pkg_core
 pub use Rattle.pkg_core.specs.adb_fields as adb_fields

@@ -1,6 +1,6 @@
 -- The definitions of `adb_values`. The head of each file names the section with its rule.
 
--- passed on: a crate above that names this one need not name these
+-- re-exported crates: a crate that depends on this one can use their definitions without depending on them too
 pub use Rattle.adb_write.specs as adb_write
 -- cited by the contracts of this crate's calls, in reading order
 pub mod Drafts

@@ -1,4 +1,4 @@
--- passed on: a crate above that names this one need not name these
+-- re-exported crates: a crate that depends on this one can use their definitions without depending on them too
 pub use Rattle.file_replacement.proofs as file_replacement
 pub use Rattle.journal_core.proofs as journal_core
 pub use Rattle.journal_core.proofs.journal_intent as journal_intent

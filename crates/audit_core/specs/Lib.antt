@@ -1,4 +1,4 @@
--- passed on: a crate above that names this one need not name these
+-- re-exported crates: a crate that depends on this one can use their definitions without depending on them too
 pub use Rattle.db_core.specs as db_core
 pub use Rattle.file_guard.specs as file_guard
 pub use Rattle.path_clashes.specs as path_clashes

@@ -1,4 +1,4 @@
--- passed on: a crate above that names this one need not name these
+-- re-exported crates: a crate that depends on this one can use their definitions without depending on them too
 pub use Rattle.change_inputs.proofs as change_inputs
 pub use Rattle.change_inputs.proofs.candidate_core as candidate_core
 pub use Rattle.change_inputs.proofs.v2_core as v2_core

@@ -1,7 +1,7 @@
 -- The definitions of this crate, whose rules are in `docs/formats.md`, "Schemas" and "The
 -- database after a change".
 
--- passed on: a crate above that names this one need not name these
+-- re-exported crates: a crate that depends on this one can use their definitions without depending on them too
 pub use Rattle.pkg_core.specs as pkg_core
 pub use Rattle.pkg_core.specs.adb_fields as adb_fields
 pub use Rattle.pkg_core.specs.adb_schema as adb_schema

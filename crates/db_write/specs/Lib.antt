@@ -1,7 +1,7 @@
 -- The definitions of this crate, whose rules are in `docs/formats.md`, "The database after a
 -- change".
 
--- passed on: a crate above that names this one need not name these
+-- re-exported crates: a crate that depends on this one can use their definitions without depending on them too
 pub use Rattle.adb_copy.specs.adb_fields as adb_fields
 pub use Rattle.adb_sound.specs as adb_sound
 pub use Rattle.adb_sound.specs.adb_schema as adb_schema

@@ -1,7 +1,7 @@
 -- The definitions of this crate, whose rules are in `docs/commands.md`, "Files that several
 -- packages list".
 
--- definitions of other crates, passed on: a crate that imports this module need not import theirs
+-- re-exported crates: a crate that depends on this one can use their definitions without depending on them too
 pub use Rattle.db_core.specs as db_core
 pub use Rattle.path_claims.specs as path_claims
 -- modules that the contract of `apk` cites

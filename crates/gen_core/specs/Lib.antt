@@ -1,6 +1,6 @@
 -- The definitions of `gen_core`. The head of each file says where its rule is.
 
--- passed on: a crate above that names this one need not name these
+-- re-exported crates: a crate that depends on this one can use their definitions without depending on them too
 pub use Rattle.adb_dump.specs as adb_dump
 pub use Rattle.adb_dump.specs.adb_schema as adb_schema
 pub use Rattle.adb_values.specs.adb_write as adb_write

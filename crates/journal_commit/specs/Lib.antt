@@ -1,4 +1,4 @@
--- definitions of other crates, passed on: a crate that imports this module need not import theirs
+-- re-exported crates: a crate that depends on this one can use their definitions without depending on them too
 pub use Rattle.journal_core.specs as journal_core
 -- modules that the contract of `apk` cites
 pub mod StageRun

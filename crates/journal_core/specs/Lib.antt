@@ -1,4 +1,4 @@
--- definitions of other crates, passed on: a crate that imports this module need not import theirs
+-- re-exported crates: a crate that depends on this one can use their definitions without depending on them too
 pub use Rattle.journal_intent.specs as journal_intent
 pub use Rattle.journal_intent.specs.adb_schema as adb_schema
 -- The definitions of this crate. Each file names the document with its rule.

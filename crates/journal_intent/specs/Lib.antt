@@ -1,4 +1,4 @@
--- definitions of other crates, passed on: a crate that imports this module need not import theirs
+-- re-exported crates: a crate that depends on this one can use their definitions without depending on them too
 pub use Rattle.adb_sound.specs.adb_fields as adb_fields
 pub use Rattle.adb_sound.specs.adb_schema as adb_schema
 pub use Rattle.adb_sound.specs.adb_write as adb_write

@@ -1,4 +1,4 @@
--- passed on: a crate above that names this one need not name these
+-- re-exported crates: a crate that depends on this one can use their definitions without depending on them too
 pub use Rattle.adb_copy.proofs as adb_copy
 pub use Rattle.adb_copy.proofs.adb_fields as adb_fields
 pub use Rattle.make_info.proofs as make_info

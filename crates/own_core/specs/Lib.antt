@@ -1,7 +1,7 @@
 -- The definitions of this crate, whose rules are in `docs/commands.md`, "What a change does
 -- with files".
 
--- definitions of other crates, passed on: a crate that imports this module need not import theirs
+-- re-exported crates: a crate that depends on this one can use their definitions without depending on them too
 pub use Rattle.change_files.specs as change_files
 pub use Rattle.change_files.specs.file_owners as file_owners
 pub use Rattle.path_claim_lists.specs.path_claims as path_claims

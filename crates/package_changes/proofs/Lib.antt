@@ -1,4 +1,4 @@
--- passed on: a crate above that names this one need not name these
+-- re-exported crates: a crate that depends on this one can use their definitions without depending on them too
 pub use Rattle.change_files.proofs as change_files
 pub use Rattle.change_files.proofs.path_clashes as path_clashes
 pub use Rattle.solve_core.proofs as solve_core

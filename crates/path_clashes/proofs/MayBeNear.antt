@@ -1,4 +1,4 @@
--- What may be a clash with one name, over a tree whose files no contract knows.
+-- What may be a clash with one name, over a tree that is not observable.
 use Rattle.std.proofs.Common.{◌≡◌, ◌⊎◌, ⊎_elim, inl, inr, ℕ, ◌<◌, ◌≤◌, true, List, length, take, Option, Some, None, refl, sym, subst, arith}
 use Rattle.std.proofs.lemmas.Bool.{cases_lt}
 use Rattle.base_core.specs.Files.{IsFolderOf}

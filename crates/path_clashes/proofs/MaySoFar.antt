@@ -1,4 +1,4 @@
--- What may be the first clash of the names so far, over a tree whose files no contract knows.
+-- What may be the first clash of the names so far, over a tree that is not observable.
 use Rattle.std.proofs.Common.{◌≡◌, ◌⊎◌, ⊎_elim, inl, inr, ℕ, zero, suc, ◌+◌, ◌<◌, ◌≤◌, Bool, true, false, List, [], length, get_or, Option, Some, None, refl, sym, ap, subst, ◌∙◌, arith, true≢false}
 use Rattle.std.specs.Prelude.{IfSome, if◌then◌else◌, bytes_eq}
 use Rattle.std.specs.List.{All, list_any}

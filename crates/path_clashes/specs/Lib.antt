@@ -1,7 +1,7 @@
 -- The definitions of this crate, whose rule is in `docs/commands.md`, "What a change does
 -- with files", test 2.
 
--- definitions of other crates, passed on: a crate that imports this module need not import theirs
+-- re-exported crates: a crate that depends on this one can use their definitions without depending on them too
 pub use Rattle.adb_fields.specs as adb_fields
 -- modules that the contract of `apk` cites
 pub mod Clash

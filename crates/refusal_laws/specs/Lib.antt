@@ -1,4 +1,4 @@
--- passed on: a crate above that names this one need not name these
+-- re-exported crates: a crate that depends on this one can use their definitions without depending on them too
 pub use Rattle.outcome.specs as outcome
 pub use Rattle.outcome.specs.words_core as words_core
 -- cited by laws of changes

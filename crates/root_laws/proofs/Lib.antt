@@ -1,4 +1,4 @@
--- passed on: a crate above that names this one need not name these
+-- re-exported crates: a crate that depends on this one can use their definitions without depending on them too
 pub use Rattle.engine_core.proofs.change_files as change_files
 pub use Rattle.engine_core.proofs.change_outcome as change_outcome
 pub use Rattle.engine_core.proofs.file_owners as file_owners

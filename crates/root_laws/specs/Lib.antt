@@ -1,4 +1,4 @@
--- definitions of other crates, passed on: a crate that imports this module need not import theirs
+-- re-exported crates: a crate that depends on this one can use their definitions without depending on them too
 pub use Rattle.engine_core.specs as engine_core
 pub use Rattle.engine_core.specs.candidate_core as candidate_core
 pub use Rattle.engine_core.specs.change_files as change_files

@@ -1,4 +1,4 @@
--- passed on: a crate above that names this one need not name these
+-- re-exported crates: a crate that depends on this one can use their definitions without depending on them too
 pub use Rattle.pool_core.proofs as pool_core
 pub use Rattle.pool_core.proofs.candidate_core as candidate_core
 pub mod Theory

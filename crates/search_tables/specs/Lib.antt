@@ -1,7 +1,7 @@
 -- The definitions of this crate, whose rules are in `docs/selection.md`, "What satisfies world", "Which
 -- selection is taken", and "How the search works".
 
--- passed on: a crate above that names this one need not name these
+-- re-exported crates: a crate that depends on this one can use their definitions without depending on them too
 pub use Rattle.pool_core.specs.candidate_core as candidate_core
 -- cited by the contract of `apk`
 pub mod Selection

@@ -1,4 +1,4 @@
--- passed on: a crate above that names this one need not name these
+-- re-exported crates: a crate that depends on this one can use their definitions without depending on them too
 pub use Rattle.audit_core.proofs.path_clashes as path_clashes
 pub use Rattle.change_inputs.proofs.adb_sound as adb_sound
 pub use Rattle.installed_info.proofs as installed_info

@@ -1,4 +1,4 @@
--- passed on: a crate above that names this one need not name these
+-- re-exported crates: a crate that depends on this one can use their definitions without depending on them too
 pub use Rattle.v2_lines.specs as v2_lines
 -- The definitions of this crate. Each file names the document with its rule.
 -- cited by the contract of `apk`

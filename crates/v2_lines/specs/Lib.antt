@@ -1,4 +1,4 @@
--- passed on: a crate above that names this one need not name these
+-- re-exported crates: a crate that depends on this one can use their definitions without depending on them too
 pub use Rattle.adb_schema.specs as adb_schema
 pub use Rattle.make_info.specs as make_info
 pub use Rattle.make_info.specs.adb_values as adb_values
