@@ -47,8 +47,8 @@ AreFilesReadWithoutRecovery IsOne effect output v old now =
 -- The effect of a run on a tree in state v, after recovery, if its outcome is one of these.
 pub record IsRunAfterRecovery (IsOne : Outcome → Type 0) (effect : Effect) (output : Option (List ℕ))
     (judged : Result Verdict TreeFault) (v : TreeState) (old now : List TreeState) : Type 0 where
-  -- at each moment the tree is durable, and a crash leaves a state from before or that of the files of
-  -- an outcome that commits
+  -- if the tree `v` is durable, each later moment is durable, and a crash at it leaves a state from before or that of
+  -- the files of an outcome that commits
   pub moments : (ignored : List ℕ → Bool)
       → IsDurable (StateDependsOn ignored) v → IgnoresScratchNameOfOutput output ignored
       → AreStatesOldOrLeadToOutcome IsOne (is_some output) ignored v old now
@@ -70,8 +70,8 @@ pub record IsRunAfterRecovery (IsOne : Outcome → Type 0) (effect : Effect) (ou
       (IsDurableAndLeavesFiles (ignored_except_output output ignored) outcome.files))
   -- in each state the files as read are those at the start, or the states are those of a run that commits
   pub reads : AreFilesReadWithoutRecovery IsOne effect output v old now
-  -- Suppose that no crash undoes a change of a name at the start. Then none does so as long as no intent is read,
-  -- except for the names of the output and of staged files
+  -- if at the start no crash undoes a change of a name outside the journal: at each moment at which the intent is
+  -- absent, a crash undoes no change of a name, except for those of the output and of staged files
   pub last : NamesOutsideJournalAreDurable v → Since (NamesAreDurableWithoutIntentExcept output) old now
   -- if there is a verdict, the files as read are those of the outcome
   pub leaves : (outcome : Outcome) → IsOne outcome
@@ -115,7 +115,8 @@ pub record IsRunWithRecovery (IsOne : Outcome → Type 0) (effect : Effect) (out
   pub bad : IsSome (recovery_fault effect (files_of v)) → now ≡ old
   -- which files are read at each moment of the run
   pub reads : AreStatesOfRecoveryOrCommittingRun IsOne effect output v old now
-  -- if there was an intent, crashes undo no change of a name from the moment at which no intent is read
+  -- if the intent is present at the start: at each moment at which it is absent, a crash undoes no change of a name,
+  -- except for those of the output and of staged files
   pub last : IsSome (v.names intent_name) → Since (NamesAreDurableWithoutIntentExcept output) old now
   -- if there is a verdict, the files as read are those of the outcome
   pub leaves : (outcome : Outcome) → IsOne outcome

@@ -159,9 +159,9 @@ pub fn apk<T: Tree, O: Sink, E: Sink>(
         (effect_of_arguments (command_of words.now)) (output words.now) v (T.history tree.old)
         (T.history tree.new)) }
 
-    // If an intent was found, then from the moment at which no intent is read a crash undoes no
-    // change of a name: the change of the intent is durable. This excludes OUTPUT, OUTPUT.apk-tmp
-    // and staged files.
+    // If the intent is present at the start: at each moment at which it is absent, a crash undoes
+    // no change of a name, so that the change of the intent is durable. This excludes OUTPUT,
+    // OUTPUT.apk-tmp and staged files.
     ensures last { IfObservable (T.history tree.old) (λ v. IsSome (v.names intent_name)
         → Since (NamesAreDurableWithoutIntentExcept (output words.now)) (T.history tree.old)
         (T.history tree.new)) }

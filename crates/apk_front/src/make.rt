@@ -118,10 +118,10 @@ pub(crate) fn mkndx<T: Tree>(
 // Reads the inputs of a package, and makes its container in memory.
 fn package<T: Tree>(alloc: Global, command: &Command, tree: &mut T) -> Result<Vec<u8>, MakeFault>
     requires { command.now.applet ≡ Mkpkg }
-    // On an observable tree: what is made of its files.
+    // On an observable tree: what is made of its files, or the reason why nothing is made.
     ensures made { IfObservable (T.history tree.old) (λ v.
         OnMade result (IsPackageMade command.now (files_of v))) }
-    // On every tree: what is made of some contents at each read.
+    // On every tree: what is made of some contents at each read, or the reason why nothing is made.
     ensures found { OnMade result (IsMadeBySomeReads command.now) }
     // The tree is only read; an I/O error has its cause there.
     ensures tree { OnlyReads MakeFault.Disk (T.history tree.old) (T.history tree.new)
@@ -135,10 +135,10 @@ fn package<T: Tree>(alloc: Global, command: &Command, tree: &mut T) -> Result<Ve
 // Reads the packages of an index, and makes its container in memory.
 fn index<T: Tree>(alloc: Global, command: &Command, tree: &mut T) -> Result<Vec<u8>, MakeFault>
     requires { command.now.applet ≡ Mkndx }
-    // On an observable tree: what is made of its files.
+    // On an observable tree: what is made of its files, or the reason why nothing is made.
     ensures made { IfObservable (T.history tree.old) (λ v.
         OnMade result (IsIndexMade command.now (files_of v))) }
-    // On every tree: what is made of some contents at each read.
+    // On every tree: what is made of some contents at each read, or the reason why nothing is made.
     ensures found { OnMade result (IsIndexFound command.now) }
     // The tree is only read; an I/O error has its cause there.
     ensures tree { OnlyReads MakeFault.Disk (T.history tree.old) (T.history tree.new)

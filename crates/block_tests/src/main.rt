@@ -1,7 +1,7 @@
 //! Answers questions about `adb_block`: the blocks of a container, the first failed test, and the
-//! headers of blocks. The rules are in `docs/formats.md`, "Container". The stored run of this
-//! program (`stdin`, `stdout`) has all rows. `tests/lines.md` describes the form of rows, and the
-//! README of this crate has a row for each question.
+//! headers of blocks. The rules are in `docs/formats.md`, "Container". All rows (questions with
+//! their expected answers) are in the file `stdin` of this crate; `tests/lines.md` describes their
+//! form. The README of this crate has a row for each question.
 #![tactic(auto)]
 
 use adb_block::{Block, BlockKind, Blocks, Frame, block_head, frame_of, head_len};

@@ -91,7 +91,7 @@ added_package_or_refusal c (Some file) =
 
 -- ---- scripts
 
--- the script of a package with this number in the table of scripts, which count from 1, or no bytes
+-- the script of a package with this number in the table of scripts (numbers count from 1), or no bytes if there is none
 abbrev pub script_of : Plain → ℕ → List ℕ
 script_of pkg number = text_in (entry_in (entry_in pkg PACKAGE_SCRIPTS) (number - 1))
 

@@ -1,8 +1,8 @@
 //! Runs the command lines of the rows on standard input with `apk`, over trees in memory, and
 //! prints a line for each row. `tests/rows.md` describes the form of rows.
 //!
-//! The stored run of this program has all rows. The exit status is 0 if no row failed, and 1
-//! otherwise.
+//! All rows (files, and command lines with their expected results) are in the file `stdin` of this
+//! crate. The exit status is 0 if no row failed, and 1 otherwise.
 #![tactic(auto)]
 
 use apk_front::{apk, status};

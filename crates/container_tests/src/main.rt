@@ -1,7 +1,7 @@
 //! Answers questions about `adb_write`, `adb_values` and `pkg_core`: the words (32-bit references)
-//! and the payloads of written values, which may exceed a limit, and the files of a package. The
-//! stored run of this program has all rows; `tests/lines.md` describes their form. The README of
-//! this crate has a row for each question.
+//! and the payloads of written values, which may exceed a limit, and the files of a package. All
+//! rows (questions with their expected answers) are in the file `stdin` of this crate;
+//! `tests/lines.md` describes their form. The README of this crate has a row for each question.
 #![tactic(auto)]
 
 mod files;

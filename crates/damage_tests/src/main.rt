@@ -1,9 +1,9 @@
 //! Tests of damaged containers: each byte of a small container is set to each value, each word
 //! (four bytes) is replaced by each other word, and the file is cut off at each length. An answer
-//! counts the results by their kinds, and has a digest over all results. The rows are in the stored
-//! run of this crate; `tests/model/verify.py` computes their expected answers, and `tests/lines.md`
-//! describes their form. A container is kept from one row to the next. The README of this crate has
-//! a row for each question.
+//! counts the results by their kinds, and has a digest over all results. All rows (questions with
+//! their expected answers) are in the file `stdin` of this crate; `tests/model/verify.py` computes
+//! these answers, and `tests/lines.md` describes the form of rows. A container is kept from one row
+//! to the next. The README of this crate has a row for each question.
 #![tactic(auto)]
 
 ghost use Rattle.std.specs.Prelude.{◌+◌, ◌≤◌, length};
@@ -28,13 +28,15 @@ enum Question {
     Itself(Test),
     /// Each file is tested that differs from the container in one byte.
     Changes(Test),
-    /// Each file is tested in which one word of the container replaces another one.
+    /// Each file is tested in which one word (four bytes) of the container is replaced by a word of
+    /// the container.
     Words(Test),
     /// The container is tested, cut off at each length.
     Cuts(Test),
 }
 
-// The first word of the rows of each question.
+// The first word of the rows of each question. The words of `.._words` are those of the container,
+// four bytes each.
 #[rattlefmt::skip]
 const QUESTIONS: [(&[u8], Question); 13] = [
     (b"container", Question::Container),

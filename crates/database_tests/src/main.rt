@@ -1,7 +1,8 @@
 //! Answers questions about `db_core` and `db_write`: packages are added to a database and removed
-//! from it, and then packages and paths are looked up. The stored run of this program has all rows;
-//! `tests/lines.md` describes their form. Each row has the database, and the packages to be added,
-//! that the rows before it left. The README of this crate has a row for each question.
+//! from it, and then packages and paths are looked up. All rows (questions with their expected
+//! answers) are in the file `stdin` of this crate; `tests/lines.md` describes their form. Each row
+//! has the database, and the packages to be added, that the rows before it left. The README of this
+//! crate has a row for each question.
 #![tactic(auto)]
 
 mod change;

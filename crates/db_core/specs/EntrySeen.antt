@@ -19,6 +19,7 @@ abbrev pub payload_of_database : Option IdbView → List ℕ
 payload_of_database None = []
 payload_of_database (Some idb) = payload_of idb.adb
 
--- whether an entry has an id, so that its package is added, or has this payload
+-- whether the entry `e` (its parts are as in *member_of_entry*) is that of an added package, which has an id, or is
+-- read from this payload
 abbrev pub is_added_or_has_payload : List ℕ → List ℕ × ℕ × Option (List ℕ) → Bool
 is_added_or_has_payload payload e = is_some e.2 || bytes_eq e.0 payload

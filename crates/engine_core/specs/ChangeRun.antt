@@ -115,15 +115,16 @@ IsUnchangedOrCommit wanted v old now result =
 
 -- ---- the answer and the effect together
 
--- How a run ends whose change has the result `wanted`, and for which the reads find these packages. The run answers the
--- report or the refusal of `wanted`, or that one of these packages has changed, or that the tree failed or memory ran
--- out. Suppose that there is neither an intent nor a staged file at the start. Then the tree is unchanged, or the
--- change is committed, or the tree fails on the way. No call is a misuse if the paths are free for the stage of a
--- change that commits.
+-- How a run ends. `wanted` is the result of its change: what is done, or a refusal. `packages` is what its reads find:
+-- the packages after the change, or a refusal. The run answers the report or the refusal of `wanted`; or it refuses one
+-- of `packages`, whose file is no longer what was tested; or the tree failed, or memory ran out. Suppose that there is
+-- neither an intent nor a staged file at the start. Then the tree is unchanged, or the change is committed, or the tree
+-- fails on the way. No call is a misuse if the paths are free for the stage of a change that commits.
 pub record IsEndOfRunOfWantedChange (packages : Result (List MemberFound) Refusal)
     (wanted : Result ChangeDone Refusal) (old now : List TreeState) (before after : Counts)
     (result : Result (List ℕ) Refused) : Type 0 where
-  -- the run reports what was wanted, or that a package is no longer what was tested
+  -- the run answers the report or the refusal of `wanted`, unless the tree failed or memory ran out; or it refuses a
+  -- package whose file is no longer what was tested
   pub told : AgreesUnlessDiskOrMemory report_as_is result (report_of_result wanted)
       ⊎ IsPackageFileChangedSinceTested packages wanted old result
   -- without an intent and staged files at the start, the change is committed, or the tree is unchanged or failed

@@ -15,14 +15,13 @@ use Rattle.file_owners.specs.declared.questions.Question.{Question}
 abbrev pub entry_of_question : List ℕ → Question → Plain
 entry_of_question payload q = value_at payload (Obj Dep) q.word
 
--- whether the question is about the member with the index `place`, whose package is `pkg`, and the question's entry
--- names this package
+-- Whether the question `q` is about the member with the index `place`, and its entry, read from the payload, names
+-- `pkg`. Here `pkg` is the package of this member; this is not tested.
 abbrev pub question_names_package : List ℕ → ℕ → Plain → Question → Bool
 question_names_package payload place pkg q =
     (q.place == place) && does_replaces_entry_name_package (entry_of_question payload q) pkg
 
--- whether there is a question, it is about the member with the index `place`, whose package is `pkg`, and its entry
--- names this package
+-- as *question_names_package*; false if there is no question
 abbrev pub question_names_if_any : List ℕ → ℕ → Plain → Option Question → Bool
 question_names_if_any payload place pkg None = false
 question_names_if_any payload place pkg (Some q) = question_names_package payload place pkg q

@@ -1,7 +1,7 @@
 //! Answers questions about `host_tree`, the tree of the host, on the folder in which this program
-//! runs. The rules are in `docs/crash-safety.md`, "What the host's tree does". The stored run of
-//! this program (`stdin`, `stdout`) has all rows. `tests/lines.md` describes the form of rows, and
-//! the README of this crate has a row for each question.
+//! runs. The rules are in `docs/crash-safety.md`, "What the host's tree does". All rows (questions
+//! with their expected answers) are in the file `stdin` of this crate; `tests/lines.md` describes
+//! their form. The README of this crate has a row for each question.
 #![tactic(auto)]
 
 use base_core::{Disk, Name, Tree, TreeFault, Words};

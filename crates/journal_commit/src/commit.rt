@@ -72,8 +72,8 @@ fn enact<T: Tree>(stage: &mut Stage, tree: &mut T) -> Result<(), Disk>
     // If the actions that the stage counts as done are done in the tree, the state is unchanged at
     // each moment, and recovery yields the same files.
     ensures actions { CarriesOutActions stage.old (T.history tree.old) (T.history tree.new) }
-    // If an intent is read at the call: as soon as none is read, no crash undoes a change of a name
-    // outside the journal.
+    // If the intent is present at the call: at each moment at which it is absent, no crash undoes a
+    // change of a name outside the journal.
     ensures last { IfObservable (T.history tree.old) (λ v. IsSome (v.names intent_name)
         → Since NamesOutsideJournalAreDurableIfNoIntent (T.history tree.old) (T.history tree.new)) }
     // Once Ok is returned, each crash leaves the state of `files`, which recovery yields at the

@@ -89,7 +89,8 @@ pub record HasCommittedIntent (ignored : List ℕ → Bool) (files : Files) (mad
 
 -- in a run from the history `old` to `now`, only the intent's name, and that of the staged file 0, have changed
 pub record ChangesOnlyIntentNames (old now : List TreeState) : Type 0 where
-  -- if no intent was read before: as soon as one is read, no crash undoes a change of any other name
+  -- if the intent is absent at the start: at each moment at which it is present, no crash undoes a change of any other
+  -- name than these two
   pub last : IfObservable old (λ v. v.names intent_name ≡ None
       → Since (λ w. IsSome (w.names intent_name)
       → NamesAreDurableExcept (intent_name ∷ stage_name 0 ∷ []) w)

@@ -12,7 +12,7 @@ pub fn remove<T: Tree>(tree: &mut T, name: &Name) -> Result<(), Disk>
     // The state that the call adds to the tree's history on success, and the one on an error.
     ensures moves { ChangesHistory IsAlwaysAllowed (after_remove name.now) (after_remove name.now)
         (T.history tree.old) (T.history tree.new) result }
-    // How the tree's counts change. The call is a misuse in a state that does not allow it.
+    // How the tree's counts change. Each state allows the call, so that it is never a misuse.
     ensures counts { IsCounted IsAlwaysAllowed (T.history tree.old) (T.counts tree.old)
         (T.counts tree.new) result }
 {
@@ -75,7 +75,7 @@ pub fn sync_all_names<T: Tree>(tree: &mut T) -> Result<(), Disk>
     // The state that the call adds to the tree's history on success, and the one on an error.
     ensures moves { ChangesHistory IsAlwaysAllowed after_sync_names unchanged_after_failed_call
         (T.history tree.old) (T.history tree.new) result }
-    // How the tree's counts change. The call is a misuse in a state that does not allow it.
+    // How the tree's counts change. Each state allows the call, so that it is never a misuse.
     ensures counts { IsCounted IsAlwaysAllowed (T.history tree.old) (T.counts tree.old)
         (T.counts tree.new) result }
 {

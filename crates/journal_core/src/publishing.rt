@@ -119,7 +119,8 @@ fn enter<T: Tree>(tree: &mut T, place: &Name, name: &Name) -> Result<(), Disk>
         (files_after_actions intent base)))) }
     // Only the names of the intent and of the staged file 0 have changed.
     ensures names { ChangesOnlyIntentNames (T.history tree.old) (T.history tree.new) }
-    // As soon as the intent is read, recovery yields the files after all its actions.
+    // At each moment at which the intent is present, recovery yields the files after all its
+    // actions.
     ensures reads { IfObservable (T.history tree.old) (λ v. (intent : Intent) (base : Files)
         (made : ℕ) → IsReadyToPublish intent base made v → Since (λ w. IsSome (w.names intent_name)
         → RecoversTo (files_after_actions intent base) w) (T.history tree.old)

@@ -483,8 +483,8 @@ impl Stage {
             → IsCarryingOutActions self.old files v
             → Since (RecoversTo files) (T.history tree.old) (T.history tree.new)) }
 
-        // If an intent is read at the call: as soon as none is read, no crash undoes a change of
-        // another name than the intent's.
+        // If the intent is present at the call: at each moment at which it is absent, no crash
+        // undoes a change of another name than the intent's.
         ensures last { IfObservable (T.history tree.old) (λ v. IsSome (v.names intent_name)
             → Since (λ w. w.names intent_name ≡ None → NamesAreDurableExcept (intent_name ∷ []) w)
             (T.history tree.old) (T.history tree.new)) }

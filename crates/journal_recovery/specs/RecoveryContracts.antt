@@ -20,8 +20,8 @@ use Rattle.journal_core.specs.declared.fault.RecoverFault.TheVariants.{Disk, Int
 pub record RemovesIntentLast (old now : List TreeState) : Type 0 where
   -- at each moment the intent and each staged file are unchanged or gone
   pub waiting : IfObservable old (λ v. Since (JournalOnlyShrinks v) old now)
-  -- if an intent was read at the start: as soon as none is read, no crash undoes a change of a name outside the
-  -- journal
+  -- if the intent is present at the start: at each moment at which it is absent, no crash undoes a change of a name
+  -- outside the journal
   pub last : IfObservable old (λ v. IsSome (v.names intent_name)
       → Since (λ w. w.names intent_name ≡ None → NamesOutsideJournalAreDurable w) old now)
 

@@ -45,12 +45,12 @@ abbrev pub rank_among : VersionKind → List (Option (List ℕ)) → Option (Lis
 rank_among kind versions version =
     length (filter (λ one. is_lt (version_order kind one version)) versions)
 
--- the ranking, in which the version of this kind has the rank `n`
+-- the ranking with the rank of its version of this kind set to `n`
 abbrev pub with_version_rank : VersionKind → ℕ → Ranking → Ranking
 with_version_rank Under n r = record r { under = record r.under { rank = n } }
 with_version_rank Own n r = record r { version = record r.version { rank = n } }
 
--- the ranking, in which the version of this kind has its rank among these versions
+-- the ranking with the rank of its version of this kind set to the rank of this version among `versions`
 abbrev pub with_rank_among : VersionKind → List (Option (List ℕ)) → Ranking → Ranking
 with_rank_among kind versions r =
     with_version_rank kind (rank_among kind versions (version_of kind r).version) r

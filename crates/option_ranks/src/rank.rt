@@ -201,9 +201,9 @@ fn by_version_key(
     }
 }
 
-/// The order of two versions of one kind: the greater first. Equal own versions of candidates are
-/// ordered by the bytes of their texts. If two versions under which a need is met are equal, their
-/// texts make no difference.
+/// The order of two versions of one kind: the greater is first. Equal own versions of candidates
+/// (`Own`) are ordered by the bytes of their texts. Equal versions under which candidates meet a
+/// need (`Under`) give `Equal`, whatever their texts are.
 pub(crate) fn compare_versions(
     kind: VersionKind,
     one: &Option<Version<'_>>,
@@ -217,7 +217,7 @@ pub(crate) fn compare_versions(
     }
 }
 
-// The order of two versions: the greater first. Equal versions are ordered by the bytes of their
+// The order of two versions: the greater is first. Equal versions are ordered by the bytes of their
 // texts, which are compared only then, since they may be long.
 fn by_version_and_text(one: &Option<Version<'_>>, other: &Option<Version<'_>>) -> Ordering
     ensures { result ≡ then_cmp greater_version_first_cmp (option_cmp bytes_cmp) one.now other.now }

@@ -1,6 +1,6 @@
-//! Tests of `file_owners`: who owns the files that packages list. The rows are in the stored run of
-//! this crate; `tests/lines.md` describes their form. The README of this crate has a row for each
-//! question.
+//! Tests of `file_owners`: who owns the files that packages list. All rows (questions with their
+//! expected answers) are in the file `stdin` of this crate; `tests/lines.md` describes their form.
+//! The README of this crate has a row for each question.
 #![tactic(auto)]
 
 mod answer;

@@ -28,8 +28,8 @@ pub record IsOpenFile (o : OpenFile) (so_far pkg : List ℕ)
   -- the pieces that are still to be read are those of the unread bytes, and then the further ones
   pub come : pieces ≡ pieces_in o.file so_far (unread_bytes o pkg) further
 
--- the bytes `left` are the unread ones of an open file. Together with the bytes that were returned
--- before, they have the size and the digest of the file
+-- The bytes `left` are the unread ones of an open file in the package of the bytes `pkg`. Together with the bytes that
+-- were returned before, they have the size and the digest of the file.
 pub record AreLeftOf (o : OpenFile) (pkg left : List ℕ) : Type 0 where
   -- the bytes that were returned before
   pub so_far : List ℕ
@@ -42,7 +42,9 @@ pub record AreLeftOf (o : OpenFile) (pkg left : List ℕ) : Type 0 where
   -- together they have the digest of the file
   pub good : hash_fault o.file.wanted.hash.now (so_far ++ left) ≡ None
 
--- the bytes `left` are the unread ones of the open file; if none is open there are none
+-- `left` are the bytes of the open file that are still to be read from the package of the bytes `pkg`. Together with
+-- the bytes that were returned before, they have the size and the digest of the file. If no file is open, `left` is
+-- empty.
 abbrev pub AreUnreadBytes : Option OpenFile → List ℕ → List ℕ → Type 0
 AreUnreadBytes None pkg left = left ≡ []
 AreUnreadBytes (Some o) pkg left = AreLeftOf o pkg left

@@ -1,7 +1,8 @@
 //! Answers questions about `pkg_core`, `package_reader` and `package_verifier`: the contents of a
 //! file in pieces, and a block of contents that names a file; the front (header and first block) of
-//! a package, and the pieces of all its files in a tree. Its stored run has all rows;
-//! `tests/lines.md` describes their form. The README of this crate has a row for each question.
+//! a package, and the pieces of all its files in a tree. All rows (questions with their expected
+//! answers) are in the file `stdin` of this crate; `tests/lines.md` describes their form. The
+//! README of this crate has a row for each question.
 #![tactic(auto)]
 
 ghost use Rattle.std.specs.Prelude.{◌≡◌, IfSome};

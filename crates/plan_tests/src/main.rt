@@ -1,6 +1,7 @@
-//! Tests of `own_core`: what a change of packages does with files. The rows are in the stored run
-//! of this crate; `tests/lines.md` describes their form, and the README of this crate has a row for
-//! each question. The tree and the packages are kept from one row to the next.
+//! Tests of `own_core`: what a change of packages does with files. All rows (questions with their
+//! expected answers) are in the file `stdin` of this crate; `tests/lines.md` describes their form,
+//! and the README of this crate has a row for each question. The tree and the packages are kept
+//! from one row to the next.
 #![tactic(auto)]
 
 mod answer;

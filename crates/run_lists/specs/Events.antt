@@ -72,8 +72,8 @@ pub record IsRunFrom (v : TreeState) (run : Run) : Type 0 where
   pub reads : AreStatesOfRecoveryOrCommittingRun (IsOutcomeFrom v run)
       (effect_of_arguments (command_of run.words))
       (output run.words) v run.old run.now
-  -- if an intent was found, crashes undo no change of a name from the moment at which no intent is read; names of the
-  -- output and of staged files are left out
+  -- if the intent is present at the start: at each moment at which it is absent, a crash undoes no change of a name,
+  -- except for those of the output and of staged files
   pub last : IsSome (v.names intent_name)
       → Since (NamesAreDurableWithoutIntentExcept (output run.words)) run.old run.now
   -- a run that is refused, runs out of memory or commits nothing leaves the state of a durable tree unchanged

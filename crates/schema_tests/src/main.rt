@@ -1,8 +1,8 @@
 //! Answers questions about `adb_view`, `adb_fields` and `adb_schema`: words (32-bit references) of
 //! a payload, the shapes (types of values) of payloads, the rules of texts, the fields that views
-//! show, and whole containers. Its stored run has all rows; `tests/lines.md` describes their form,
-//! and the README of this crate has a row for each question. A payload is kept from one row to the
-//! next.
+//! show, and whole containers. All rows (questions with their expected answers) are in the file
+//! `stdin` of this crate; `tests/lines.md` describes their form, and the README of this crate has a
+//! row for each question. A payload is kept from one row to the next.
 #![tactic(auto)]
 
 mod payloads;

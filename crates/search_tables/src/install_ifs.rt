@@ -31,6 +31,7 @@ impl<'p> InstallIfs<'p> {
         ensures { IfOk result (λ found. AreUsableInstallIfsByName pool.entry.now found.by_name.items
             found.waiting) }
     {
+        // The candidates whose install-if can apply, in byte order of their names.
         let by_name = in_byte_order(alloc, pool)?;
         let mut waiting = NameTable::new(alloc);
         for rank in 0..by_name.len() {

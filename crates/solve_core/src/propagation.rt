@@ -323,8 +323,10 @@ impl Propagation {
         }
     }
 
-    /// Learns a clause that follows from `conflict`, which the choices contradict. Returns the
-    /// clause that follows about choices alone.
+    /// Learns the clause that resolution derives from `conflict`, which the choices contradict,
+    /// once only one member is of the latest level. Then resolves further, and returns the
+    /// resulting clause. Its members are all choices, and it has no options, unless resolution
+    /// ended early.
     pub(crate) fn learn_from(
         &mut self,
         conflict: Clause,
@@ -344,7 +346,7 @@ impl Propagation {
     }
 
     /// A clause of the candidate `id` and of choices, by resolution, if the trail rules the
-    /// candidate out.
+    /// candidate out. It may have other members, too, if resolution ended early.
     pub(crate) fn clause_against(
         &self,
         id: CandId,

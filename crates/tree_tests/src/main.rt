@@ -1,8 +1,8 @@
 //! Answers questions to `base_core` and `tree_memory`: names and lists of names, and a sink (output
 //! stream) in memory; a tree in memory with its misuses (invalid calls), its planned failures, and
-//! the files that a crash leaves of it. Its stored run has all rows; `tests/lines.md` describes
-//! their form. The tree and the sink are kept from one row to the next. The README of this crate
-//! has a row for each question.
+//! the files that a crash leaves of it. All rows (questions with their expected answers) are in the
+//! file `stdin` of this crate; `tests/lines.md` describes their form. The tree and the sink are
+//! kept from one row to the next. The README of this crate has a row for each question.
 #![tactic(auto)]
 
 mod calls;

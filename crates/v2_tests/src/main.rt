@@ -1,6 +1,6 @@
-//! Answers questions about `v2_core`: how text databases are read. The stored run of this program
-//! has all rows; `tests/lines.md` describes their form. The README of this crate has a row for each
-//! question.
+//! Answers questions about `v2_core`: how text databases are read. All rows (questions with their
+//! expected answers) are in the file `stdin` of this crate; `tests/lines.md` describes their form.
+//! The README of this crate has a row for each question.
 #![tactic(auto)]
 
 mod texts;

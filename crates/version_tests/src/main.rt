@@ -1,6 +1,7 @@
 //! Answers questions about `version_core` and `dep_core`: versions and their order, dependencies,
-//! worlds and lists of repositories. Its stored run has all rows; `tests/lines.md` describes their
-//! form. The README of this crate has a row for each question.
+//! worlds and lists of repositories. All rows (questions with their expected answers) are in the
+//! file `stdin` of this crate; `tests/lines.md` describes their form. The README of this crate has
+//! a row for each question.
 #![tactic(auto)]
 
 mod versions;

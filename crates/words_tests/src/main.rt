@@ -1,6 +1,7 @@
 //! Answers questions about `command_core`, `words_core` and `report_core`: command lines, kinds of
-//! operands and values, the lines of refusals, and reports. Its stored run has all rows;
-//! `tests/lines.md` describes their form. The README of this crate has a row for each question.
+//! operands and values, the lines of refusals, and reports. All rows (questions with their expected
+//! answers) are in the file `stdin` of this crate; `tests/lines.md` describes their form. The
+//! README of this crate has a row for each question.
 #![tactic(auto)]
 
 mod lines;
