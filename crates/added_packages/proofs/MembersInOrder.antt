@@ -13,7 +13,7 @@ use Rattle.change_outcome.proofs.change_files.InOrder.{order_rises}
 use Rattle.change_outcome.specs.change_files.PlanLists.{sorted_distinct_names}
 use Rattle.change_outcome.specs.change_inputs.Chains.{and_then}
 use Rattle.change_outcome.specs.change_inputs.Inputs.{first_index_read_number}
-use Rattle.change_outcome.specs.MembersAfter.{MemberFound, added_package_by_path, added_member_found, members_after, found_members, member_of_name_after, member_of_name_by_change, member_of_removed_name, members_of_names_after, kept_member_found}
+use Rattle.change_outcome.specs.MembersAfter.{MemberFound, added_package_by_path, added_member_found, members_after, found_members, member_of_name_after, member_of_name_by_change, no_member_unless_removal_needs_script, members_of_names_after, kept_member_found}
 use Rattle.change_outcome.specs.PackageFiles.{AddedPackage, first_script_number_of_package, package_file_path_of_candidate, added_package_or_refusal, package_in_file, scripts_of_change, package_unless_bad_or_different, package_unless_other_than_candidate, unless_script_number, unless_script_needed}
 use Rattle.change_outcome.specs.db_core.Members.{AreMembersInNameOrder, Member, member_name}
 use Rattle.change_outcome.specs.db_core.Packages.{is_package_named}
@@ -21,7 +21,7 @@ use Rattle.dep_core.specs.Repositories.{Repository}
 use Rattle.change_outcome.specs.file_owners.Replaces.{package_version_text}
 use Rattle.change_outcome.specs.make_info.Reads.{Reads}
 use Rattle.change_outcome.specs.package_changes.Changes.{Replacement, change_between, change_of_name, is_candidate_named, names_before_and_selected}
-use Rattle.change_outcome.specs.package_changes.Placed.{PlacedReplacement, candidates_at, replacement_of}
+use Rattle.change_outcome.specs.package_changes.Placed.{ReplacementWithCandidatePlaces, candidates_at, replacement_of}
 use Rattle.package_verifier.specs.pkg_core.Whole.{package_fault}
 use Rattle.change_outcome.specs.candidate_core.Candidates.{Candidate}
 use Rattle.change_outcome.specs.candidate_core.Rank.{SealedPool, candidate_at}
@@ -67,7 +67,7 @@ by_scripts : {A : Type 0} (no_scripts : Bool) (name : List ℕ) (pkg : Plain) (n
 by_scripts true name pkg numbers a b is = cc
 by_scripts false name pkg numbers a b is = by_number name (first_script_number_of_package pkg numbers) a b is
 
-none_goes : (no_scripts : Bool) (name : List ℕ) (change : Change) (before : Option Plain) (m : MemberFound) → member_of_removed_name no_scripts name change before ≡ Ok (Some m) → ⊥
+none_goes : (no_scripts : Bool) (name : List ℕ) (change : Change) (before : Option Plain) (m : MemberFound) → no_member_unless_removal_needs_script no_scripts name change before ≡ Ok (Some m) → ⊥
 none_goes no_scripts name change None m is = cc
 none_goes no_scripts name change (Some pkg) m is =
     let same : None ≡ Some m = by_scripts no_scripts name pkg (scripts_of_change change) None (Some m) is in cc
@@ -227,7 +227,7 @@ count_candidates : (cs : List Candidate) → length (names_of_selected cs) ≡ l
 count_candidates [] = refl
 count_candidates (c ∷ cs) = ap suc (count_candidates cs)
 
-pub members_few : (p : PlacedReplacement) (read : Reads) (repositories : List Repository) (no_scripts : Bool) (found : List MemberFound) → members_after (replacement_of p) read repositories no_scripts ≡ Ok found → length found ≤ length p.pool.candidates
+pub members_few : (p : ReplacementWithCandidatePlaces) (read : Reads) (repositories : List Repository) (no_scripts : Bool) (found : List MemberFound) → members_after (replacement_of p) read repositories no_scripts ≡ Ok found → length found ≤ length p.pool.candidates
 members_few p read repositories no_scripts found is =
     let are = after_named (replacement_of p) read repositories no_scripts found is in
     let most = no_more (found_names found) (names_of_selected p.pool.candidates) are.rises (λ q here. at_places p.pool p.trace q (are.selected q here)) in

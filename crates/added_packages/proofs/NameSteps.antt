@@ -4,7 +4,7 @@ use Rattle.std.specs.Prelude.{option_map}
 use Rattle.adb_view.specs.Plain.{Plain}
 use Rattle.base_core.specs.Tree.{TreeState}
 use Rattle.change_outcome.specs.change_inputs.Chains.{and_then}
-use Rattle.change_outcome.specs.MembersAfter.{MemberFound, added_package_by_path, added_member_found, member_of_name_by_change, member_of_name_by_selected, member_of_added_name, member_of_removed_name, kept_member_found}
+use Rattle.change_outcome.specs.MembersAfter.{MemberFound, added_package_by_path, added_member_found, member_of_name_by_change, member_of_name_by_selected, added_member_unless_script_needed, no_member_unless_removal_needs_script, kept_member_found}
 use Rattle.change_outcome.specs.PackageFiles.{AddedPackage, first_script_number_of_package, package_file_path_of_candidate, scripts_of_change, unless_script_number, unless_script_needed}
 use Rattle.dep_core.specs.Repositories.{Repository}
 use Rattle.change_outcome.specs.make_info.Reads.{Reads}
@@ -39,7 +39,7 @@ module _ (before : List Plain) (pool : SealedPool) (repositories : List Reposito
   pub by_none : (h : List TreeState) → n.change ≡ None → IsByRead h (member_of_name_by_read before pool repositories no_scripts n) (Ok (option_map kept_member_found (package_at_old_place before n)))
   by_none h is = by_any_read h _ _ (λ read k. ap (λ o. member_of_name_by_change read repositories no_scripts k n.name o (package_at_old_place before n) (candidate_at_new_place pool n)) is)
 
-  pub goes : (change : Change) → n.change ≡ Some change → candidate_at_new_place pool n ≡ None → (read : Reads) (k : ℕ) → member_of_name_by_read before pool repositories no_scripts n read k ≡ member_of_removed_name no_scripts n.name change (package_at_old_place before n)
+  pub goes : (change : Change) → n.change ≡ Some change → candidate_at_new_place pool n ≡ None → (read : Reads) (k : ℕ) → member_of_name_by_read before pool repositories no_scripts n read k ≡ no_member_unless_removal_needs_script no_scripts n.name change (package_at_old_place before n)
   goes change is none read k =
       ap (λ o. member_of_name_by_change read repositories no_scripts k n.name o (package_at_old_place before n) (candidate_at_new_place pool n)) is
       ∙ ap (member_of_name_by_selected read repositories no_scripts k n.name change (package_at_old_place before n)) none

@@ -9,7 +9,7 @@ ghost use Rattle.added_packages.specs.Arrivals.{AreReadMembersThoseFound, CanBeM
 ghost use Rattle.added_packages.specs.NameReads.{IsAnswerByRead, IsNameRead, IsReadOfKeptPackage, member_of_name_by_read};
 ghost use Rattle.base_core.specs.Read.{OnlyReads};
 ghost use Rattle.change_outcome.specs.change_inputs.Answers.{Agrees};
-ghost use Rattle.change_outcome.specs.MembersAfter.{members_after, member_of_removed_name, MemberFound, found_members};
+ghost use Rattle.change_outcome.specs.MembersAfter.{members_after, no_member_unless_removal_needs_script, MemberFound, found_members};
 ghost use Rattle.change_outcome.specs.db_core.Seen.{packages_of_old_database, packages_of, members_of};
 ghost use Rattle.change_outcome.specs.db_core.declared.members.TheConstants.{MOST_MEMBERS};
 ghost use Rattle.change_outcome.specs.package_files.Runs.{HoldsOfSomeReadsOfTree};
@@ -226,7 +226,8 @@ fn test_removed(
     change: &Change<'_>,
 ) -> Result<(), Refused>
     // Refused as the definition refuses the removed package, unless memory runs out.
-    ensures { Agrees (λ _. None) result (member_of_removed_name no_scripts (placed_name_seen
+    ensures { Agrees (λ _. None) result (no_member_unless_removal_needs_script no_scripts
+        (placed_name_seen
         name.now).name
         (change_seen change.now) (package_at_old_place (packages_of db.now)
         (placed_name_seen name.now))) }

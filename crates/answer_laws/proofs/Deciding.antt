@@ -18,7 +18,7 @@ use Rattle.installed_info.specs.file_owners.Replaces.{package_version_text}
 use Rattle.change_outcome.specs.package_changes.Changes.{Replacement, change_between, change_of_name, is_candidate_named, candidate_version_text, change_by_is_same_and_is_again, version_change, version_text_cmp}
 use Rattle.report_core.specs.Reports.{Change, Downgrade, Reinstall, Replace, Upgrade}
 use Rattle.base_core.specs.Lists.{IsIn}
-use Rattle.answer_laws.specs.WhichChange.{AreInstalledAndRepositoryOneWithVersions, IsSameVersionAndId}
+use Rattle.answer_laws.specs.WhichChange.{AreOldAndRepositoryOneWithValidVersions, IsSameVersionAndId}
 
 -- the change, by the test of the text, that of the id, whether the name is asked for again, and the order
 abbrev decided : List ℕ → List ℕ → List ℕ → Bool → Bool → Bool → Ordering → Option Change
@@ -44,7 +44,7 @@ record Tests (r : Replacement) (name : List ℕ) (pkg : Plain) (c : Candidate) :
       (is_same_id (installed_id pkg) c.id) (list_any (bytes_eq name) r.again) (version_cmp (package_version_text pkg) (candidate_version_text c))
   tied : bytes_eq (package_version_text pkg) (candidate_version_text c) ≡ true → version_cmp (package_version_text pkg) (candidate_version_text c) ≡ Equal
 
-tests : (r : Replacement) (name : List ℕ) (pkg : Plain) (c : Candidate) → AreInstalledAndRepositoryOneWithVersions r name pkg c → Tests r name pkg c
+tests : (r : Replacement) (name : List ℕ) (pkg : Plain) (c : Candidate) → AreOldAndRepositoryOneWithValidVersions r name pkg c → Tests r name pkg c
 unfolding change_of_name
 tests r name pkg c both =
     let again : Bool = list_any (bytes_eq name) r.again in
@@ -123,7 +123,7 @@ is_kept name old new false id again order = (λ e. absurd cc, λ e. absurd (true
 -- ---- each kind, in the words of the law
 
 abbrev pub Kind : (Replacement → List ℕ → Plain → Candidate → Type 0) → Type 0
-Kind P = (r : Replacement) (name : List ℕ) (pkg : Plain) (c : Candidate) → AreInstalledAndRepositoryOneWithVersions r name pkg c → P r name pkg c
+Kind P = (r : Replacement) (name : List ℕ) (pkg : Plain) (c : Candidate) → AreOldAndRepositoryOneWithValidVersions r name pkg c → P r name pkg c
 
 pub upgrades : Kind (λ r name pkg c. (change_of_name r name ≡ Some (Upgrade name (package_version_text pkg) (candidate_version_text c))) ↔ (version_cmp (package_version_text pkg) (candidate_version_text c) ≡ Less))
 upgrades r name pkg c both =

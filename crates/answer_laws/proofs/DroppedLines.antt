@@ -9,7 +9,7 @@ use Rattle.adb_view.proofs.ValueEntries.{entries_arr, nth_obj}
 use Rattle.change_outcome.specs.make_info.Values.{plains_of_list}
 use Rattle.change_outcome.specs.v2_lines.InfoFields.{field_of_letter, grammar_of, info_field_among, info_fields, letter_of}
 use Rattle.change_outcome.specs.v2_lines.InfoValues.{sha1_in_text, values_under_grammar}
-use Rattle.change_outcome.specs.v2_lines.Lines.{RecordLine, info_line, folder_line, folder_access_line, file_line, file_access_line, file_hash_line, other_line, folder_line_if_path, file_line_if_one_part, info_record_line, record_line_of_letter, record_line_of}
+use Rattle.change_outcome.specs.v2_lines.Lines.{RecordLine, info_line, folder_line, folder_access_line, file_line, file_access_line, file_hash_line, other_line, folder_line_if_path, file_line_if_one_part, info_line_or_skipped_if_no_field, record_line_or_skipped_if_letter_unknown, record_line_of}
 use Rattle.change_outcome.specs.v2_lines.Accesses.{access_in}
 use Rattle.change_outcome.specs.v2_lines.declared.field.InfoField.{InfoField}
 use Rattle.change_outcome.specs.v2_lines.declared.field.InfoField.TheVariants as Letters
@@ -29,7 +29,7 @@ use Rattle.make_laws.specs.NamedFields.{entries_of_field_named}
 use Rattle.change_outcome.specs.v2_core.Database.{listed_access_value, listed_file_value, listed_hash_value, database_value_of_records}
 use Rattle.change_outcome.specs.v2_core.Records.{ListedFile}
 use Rattle.adb_view.specs.Plain.{blob_or_null}
-use Rattle.answer_laws.specs.TextLetters.{BeginsWithUnknownFieldLetter, known_line_letters}
+use Rattle.answer_laws.specs.TextLetters.{BeginsWithUnlistedLetterAndColon, known_line_letters}
 use Rattle.make_laws.proofs.make_core.PackageFiles.{list-plains}
 use Rattle.answer_laws.proofs.RecordFields.{in_info, of_info, package_parts}
 
@@ -46,34 +46,34 @@ kept_left_over_paths_of : {A : Type 0} (line : A → RecordLine) → ((a : A) �
 kept_left_over_paths_of line never None e = absurd cc
 kept_left_over_paths_of line never (Some a) e = never a e
 
-of_field : (f : InfoField) (value : List ℕ) → NotDropped (record_line_of_letter (letter_of f) value)
+of_field : (f : InfoField) (value : List ℕ) → NotDropped (record_line_or_skipped_if_letter_unknown (letter_of f) value)
 of_field f value e =
     kept_left_over_paths_of (info_line f) (λ v e. absurd cc) (values_under_grammar (grammar_of f) value) (sym (by_letter f value) ∙ e)
 
-folder_kept : (value : List ℕ) → NotDropped (record_line_of_letter 70 value)
-unfolding record_line_of_letter
+folder_kept : (value : List ℕ) → NotDropped (record_line_or_skipped_if_letter_unknown 70 value)
+unfolding record_line_or_skipped_if_letter_unknown
 folder_kept value = kept_by (is_folder_name value) (folder_line value) (λ e. absurd cc)
 
-folder_access_kept : (value : List ℕ) → NotDropped (record_line_of_letter 77 value)
-unfolding record_line_of_letter
+folder_access_kept : (value : List ℕ) → NotDropped (record_line_or_skipped_if_letter_unknown 77 value)
+unfolding record_line_or_skipped_if_letter_unknown
 folder_access_kept value = kept_left_over_paths_of folder_access_line (λ a e. absurd cc) (access_in value)
 
-file_kept : (value : List ℕ) → NotDropped (record_line_of_letter 82 value)
-unfolding record_line_of_letter
+file_kept : (value : List ℕ) → NotDropped (record_line_or_skipped_if_letter_unknown 82 value)
+unfolding record_line_or_skipped_if_letter_unknown
 file_kept value = kept_by (is_one_part value) (file_line value) (λ e. absurd cc)
 
-file_access_kept : (value : List ℕ) → NotDropped (record_line_of_letter 97 value)
-unfolding record_line_of_letter
+file_access_kept : (value : List ℕ) → NotDropped (record_line_or_skipped_if_letter_unknown 97 value)
+unfolding record_line_or_skipped_if_letter_unknown
 file_access_kept value = kept_left_over_paths_of file_access_line (λ a e. absurd cc) (access_in value)
 
-file_hash_kept : (value : List ℕ) → NotDropped (record_line_of_letter 90 value)
-unfolding record_line_of_letter
+file_hash_kept : (value : List ℕ) → NotDropped (record_line_or_skipped_if_letter_unknown 90 value)
+unfolding record_line_or_skipped_if_letter_unknown
 file_hash_kept value = kept_left_over_paths_of file_hash_line (λ a e. absurd cc) (sha1_in_text value)
 
-listed_kept : (value : List ℕ) (letter n : ℕ) → NotDropped (record_line_of_letter n value) → letter ≡ n → NotDropped (record_line_of_letter letter value)
-listed_kept value letter n kept same e = kept (ap (λ (m : ℕ). record_line_of_letter m value) (sym same) ∙ e)
+listed_kept : (value : List ℕ) (letter n : ℕ) → NotDropped (record_line_or_skipped_if_letter_unknown n value) → letter ≡ n → NotDropped (record_line_or_skipped_if_letter_unknown letter value)
+listed_kept value letter n kept same e = kept (ap (λ (m : ℕ). record_line_or_skipped_if_letter_unknown m value) (sym same) ∙ e)
 
-is_kept : (letter : ℕ) (value : List ℕ) → IsIn letter known_line_letters → NotDropped (record_line_of_letter letter value)
+is_kept : (letter : ℕ) (value : List ℕ) → IsIn letter known_line_letters → NotDropped (record_line_or_skipped_if_letter_unknown letter value)
 is_kept letter value (inl same) = listed_kept value letter 67 (of_field Letters.Hashes value) same
 is_kept letter value (inr (inl same)) = listed_kept value letter 80 (of_field Letters.Name value) same
 is_kept letter value (inr (inr (inl same))) = listed_kept value letter 86 (of_field Letters.Version value) same
@@ -134,15 +134,15 @@ skip b o next e = ap (λ (c : Bool). if c then o else next) e
 apart : (letter n : ℕ) → (IsIn letter known_line_letters → ⊥) → IsIn n known_line_letters → (letter == n) ≡ false
 apart letter n unlisted listed = ne_eqb letter n (λ same. unlisted (subst (λ (m : ℕ). IsIn m known_line_letters) (sym same) listed))
 
-dropped : (letter : ℕ) (value : List ℕ) → (IsIn letter known_line_letters → ⊥) → record_line_of_letter letter value ≡ Some other_line
-unfolding record_line_of_letter field_of_letter
+dropped : (letter : ℕ) (value : List ℕ) → (IsIn letter known_line_letters → ⊥) → record_line_or_skipped_if_letter_unknown letter value ≡ Some other_line
+unfolding record_line_or_skipped_if_letter_unknown field_of_letter
 dropped letter value unlisted =
     skip (letter == 70) (folder_line_if_path value) _ (apart letter 70 unlisted (inr (inr (inr (inr (inr (inr (inr (inr (inr (inr (inr (inr (inr (inr (inr (inr (inr (inr (inl refl))))))))))))))))))))
     ∙ skip (letter == 77) (option_map folder_access_line (access_in value)) _ (apart letter 77 unlisted (inr (inr (inr (inr (inr (inr (inr (inr (inr (inr (inr (inr (inr (inr (inr (inr (inr (inr (inr (inl refl)))))))))))))))))))))
     ∙ skip (letter == 82) (file_line_if_one_part value) _ (apart letter 82 unlisted (inr (inr (inr (inr (inr (inr (inr (inr (inr (inr (inr (inr (inr (inr (inr (inr (inr (inr (inr (inr (inl refl))))))))))))))))))))))
     ∙ skip (letter == 97) (option_map file_access_line (access_in value)) _ (apart letter 97 unlisted (inr (inr (inr (inr (inr (inr (inr (inr (inr (inr (inr (inr (inr (inr (inr (inr (inr (inr (inr (inr (inr (inl refl)))))))))))))))))))))))
     ∙ skip (letter == 90) (option_map file_hash_line (sha1_in_text value)) _ (apart letter 90 unlisted (inr (inr (inr (inr (inr (inr (inr (inr (inr (inr (inr (inr (inr (inr (inr (inr (inr (inr (inr (inr (inr (inr (inl refl))))))))))))))))))))))))
-    ∙ ap (λ (o : Option InfoField). info_record_line o value) (no_field info_fields letter unlisted)
+    ∙ ap (λ (o : Option InfoField). info_line_or_skipped_if_no_field o value) (no_field info_fields letter unlisted)
 
 -- ---- both ways
 
@@ -150,11 +150,11 @@ marked : (mark : ℕ) (o : Option RecordLine) (b : Bool) → (mark == 58) ≡ b 
 marked mark o true t e = (eqb-true mark 58 t, e)
 marked mark o false t e = absurd cc
 
-is_other : (line : List ℕ) → record_line_of line ≡ Some other_line → BeginsWithUnknownFieldLetter line
+is_other : (line : List ℕ) → record_line_of line ≡ Some other_line → BeginsWithUnlistedLetterAndColon line
 is_other [] e = absurd cc
 is_other (letter ∷ []) e = absurd cc
 is_other (letter ∷ mark ∷ value) e =
-    let (is, by) = marked mark (record_line_of_letter letter value) (mark == 58) refl e in
+    let (is, by) = marked mark (record_line_or_skipped_if_letter_unknown letter value) (mark == 58) refl e in
     record {
       letter = letter;
       value = value;
@@ -162,10 +162,10 @@ is_other (letter ∷ mark ∷ value) e =
       unlisted = λ listed. is_kept letter value listed by;
     }
 
-other_is : (line : List ℕ) → BeginsWithUnknownFieldLetter line → record_line_of line ≡ Some other_line
+other_is : (line : List ℕ) → BeginsWithUnlistedLetterAndColon line → record_line_of line ≡ Some other_line
 other_is line o = ap record_line_of o.line_is ∙ dropped o.letter o.value o.unlisted
 
-pub dropped_exactly : (line : List ℕ) → (record_line_of line ≡ Some other_line) ↔ BeginsWithUnknownFieldLetter line
+pub dropped_exactly : (line : List ℕ) → (record_line_of line ≡ Some other_line) ↔ BeginsWithUnlistedLetterAndColon line
 dropped_exactly line = (is_other line, other_is line)
 
 -- ---- what no letter gives

@@ -7,7 +7,7 @@ use Rattle.base_core.proofs.Rising as rising
 use Rattle.base_core.specs.Listed.{AreSortedDistinctNames}
 use Rattle.base_core.specs.Lists.{IsIn}
 use Rattle.change_outcome.proofs.change_files.InOrder.{filter_rises, order_rises}
-use Rattle.change_outcome.specs.Triggers.{due_trigger_line, due_trigger_lines, folders_of_paths, has_due_trigger, is_trigger_due, trigger_lines, unless_trigger_due}
+use Rattle.change_outcome.specs.Triggers.{due_trigger_line, due_trigger_lines_for_folders, folders_of_paths, has_due_trigger, is_trigger_due, trigger_lines, unless_trigger_due}
 use Rattle.change_outcome.specs.db_core.Members.{Member, member_name}
 use Rattle.change_outcome.specs.package_files.Folders.{folder_of}
 use Rattle.report_core.specs.Reports.{report_line, report_lines, trigger_due_text}
@@ -43,10 +43,10 @@ abbrev due_texts : List (List ℕ) → Member → List (List ℕ)
 due_texts paths m = map (trigger_due_text (member_name m)) (due_folders paths m)
 
 lines_of_all : (paths : List (List ℕ)) (members : List Member)
-    → flat_map (λ (m : Member). due_trigger_lines (folders_of_paths paths) m.pkg) members ≡ report_lines (flat_map (due_texts paths) members)
+    → flat_map (λ (m : Member). due_trigger_lines_for_folders (folders_of_paths paths) m.pkg) members ≡ report_lines (flat_map (due_texts paths) members)
 lines_of_all paths [] = refl
 lines_of_all paths (m ∷ members) =
-    ap (λ (t : List ℕ). t ++ flat_map (λ (m : Member). due_trigger_lines (folders_of_paths paths) m.pkg) members) (lines_of_one m (due_folders paths m))
+    ap (λ (t : List ℕ). t ++ flat_map (λ (m : Member). due_trigger_lines_for_folders (folders_of_paths paths) m.pkg) members) (lines_of_one m (due_folders paths m))
     ∙ ap (λ (t : List ℕ). report_lines (due_texts paths m) ++ t) (lines_of_all paths members)
     ∙ sym (flat_map-append report_line (due_texts paths m) (flat_map (due_texts paths) members))
 

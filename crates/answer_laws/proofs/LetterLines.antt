@@ -9,7 +9,7 @@ use Rattle.dep_core.specs.Spelling.{SpellsDependency}
 use Rattle.change_outcome.specs.make_info.Fields.{FieldValue}
 use Rattle.change_outcome.specs.v2_lines.InfoFields.{field_of_letter, grammar_of, info_field_among, info_fields, letter_of}
 use Rattle.change_outcome.specs.v2_lines.InfoValues.{sha1_in_text, values_under_grammar}
-use Rattle.change_outcome.specs.v2_lines.Lines.{RecordLine, info_line, folder_line, folder_access_line, file_line, file_access_line, file_hash_line, other_line, folder_line_if_path, file_line_if_one_part, info_record_line, record_line_of_letter, record_line_of}
+use Rattle.change_outcome.specs.v2_lines.Lines.{RecordLine, info_line, folder_line, folder_access_line, file_line, file_access_line, file_hash_line, other_line, folder_line_if_path, file_line_if_one_part, info_line_or_skipped_if_no_field, record_line_or_skipped_if_letter_unknown, record_line_of}
 use Rattle.change_outcome.specs.v2_lines.Accesses.{access_in}
 use Rattle.change_outcome.specs.v2_lines.declared.field.InfoField.{InfoField}
 use Rattle.change_outcome.specs.v2_core.Database.{values_if_line_of_field}
@@ -35,7 +35,7 @@ found_field (f ∷ fs) letter g e = go (letter_of f == letter) refl e (found_fie
 abbrev IsInfo : ℕ → List ℕ → InfoField → List FieldValue → Type 0
 IsInfo letter value g v = (letter ≡ letter_of g) × (values_under_grammar (grammar_of g) value ≡ Some v)
 
-info_by_line : (letter : ℕ) (o : Option InfoField) (value : List ℕ) (g : InfoField) (v : List FieldValue) → field_of_letter letter ≡ o → info_record_line o value ≡ Some (info_line g v) → IsInfo letter value g v
+info_by_line : (letter : ℕ) (o : Option InfoField) (value : List ℕ) (g : InfoField) (v : List FieldValue) → field_of_letter letter ≡ o → info_line_or_skipped_if_no_field o value ≡ Some (info_line g v) → IsInfo letter value g v
 unfolding field_of_letter
 info_by_line letter None value g v is e = absurd cc
 info_by_line letter (Some f) value g v is e = go (values_under_grammar (grammar_of f) value) refl e
@@ -64,11 +64,11 @@ after_else : (b : Bool) (o next : Option RecordLine) (g : InfoField) (v : List F
 after_else true o next g v other e = absurd (other g v e)
 after_else false o next g v other e = e
 
-info_found : (letter : ℕ) (value : List ℕ) (g : InfoField) (v : List FieldValue) → record_line_of_letter letter value ≡ Some (info_line g v) → IsInfo letter value g v
-unfolding record_line_of_letter
+info_found : (letter : ℕ) (value : List ℕ) (g : InfoField) (v : List FieldValue) → record_line_or_skipped_if_letter_unknown letter value ≡ Some (info_line g v) → IsInfo letter value g v
+unfolding record_line_or_skipped_if_letter_unknown
 info_found letter value g v e =
     info_by_line letter (field_of_letter letter) value g v refl
-    (after_else (letter == 90) (option_map file_hash_line (sha1_in_text value)) (info_record_line (field_of_letter letter) value) g v (else_of file_hash_line (λ a g v e. absurd cc) (sha1_in_text value))
+    (after_else (letter == 90) (option_map file_hash_line (sha1_in_text value)) (info_line_or_skipped_if_no_field (field_of_letter letter) value) g v (else_of file_hash_line (λ a g v e. absurd cc) (sha1_in_text value))
     (after_else (letter == 97) (option_map file_access_line (access_in value)) _ g v (else_of file_access_line (λ a g v e. absurd cc) (access_in value))
     (after_else (letter == 82) (file_line_if_one_part value) _ g v (else_by (is_one_part value) (file_line value) (λ g v e. absurd cc))
     (after_else (letter == 77) (option_map folder_access_line (access_in value)) _ g v (else_of folder_access_line (λ a g v e. absurd cc) (access_in value))
@@ -118,7 +118,7 @@ module _ (spelled : (t : List ℕ) (d : Dependency) → dependency_of t ≡ Some
       subst (λ (x : RecordLine). LineValueGivesFieldValues f value (values_of f (infos (Some x)))) same
       (subst (LineValueGivesFieldValues f value) (sym (own_values f v)) (says spelled read f value v is))
 
-  none_of_line : (f : InfoField) (letter : ℕ) (value : List ℕ) (l : RecordLine) → (letter == letter_of f) ≡ false → record_line_of_letter letter value ≡ Some l → values_of f (infos (Some l)) ≡ []
+  none_of_line : (f : InfoField) (letter : ℕ) (value : List ℕ) (l : RecordLine) → (letter == letter_of f) ≡ false → record_line_or_skipped_if_letter_unknown letter value ≡ Some l → values_of f (infos (Some l)) ≡ []
   none_of_line f letter value (info_line g v) other e =
       let is = (info_found letter value g v e).0 in
       other_values f g v (ap (λ (n : ℕ). n == letter_of f) (sym is) ∙ other)
@@ -129,13 +129,13 @@ module _ (spelled : (t : List ℕ) (d : Dependency) → dependency_of t ≡ Some
   none_of_line f letter value (file_hash_line hash) other e = refl
   none_of_line f letter value other_line other e = refl
 
-  says_by : (f : InfoField) (letter : ℕ) (value : List ℕ) (l : RecordLine) (b : Bool) → (letter == letter_of f) ≡ b → record_line_of_letter letter value ≡ Some l → LineGivesFieldValues f (letter ∷ 58 ∷ value) (values_of f (infos (Some l)))
+  says_by : (f : InfoField) (letter : ℕ) (value : List ℕ) (l : RecordLine) (b : Bool) → (letter == letter_of f) ≡ b → record_line_or_skipped_if_letter_unknown letter value ≡ Some l → LineGivesFieldValues f (letter ∷ 58 ∷ value) (values_of f (infos (Some l)))
   says_by f letter value l true t e =
       let same : letter ≡ letter_of f = eqb-true letter (letter_of f) t in
       inl (
         value,
         ap (λ (n : ℕ). n ∷ 58 ∷ value) same ∙ sym (letter_is f value),
-        own_line f value l (values_under_grammar (grammar_of f) value) refl (sym (by_letter f value) ∙ ap (λ (n : ℕ). record_line_of_letter n value) (sym same) ∙ e),
+        own_line f value l (values_under_grammar (grammar_of f) value) refl (sym (by_letter f value) ∙ ap (λ (n : ℕ). record_line_or_skipped_if_letter_unknown n value) (sym same) ∙ e),
       )
   says_by f letter value l false t e = inr (
     λ other is.
@@ -149,6 +149,6 @@ module _ (spelled : (t : List ℕ) (d : Dependency) → dependency_of t ≡ Some
   one_line f [] l e = absurd cc
   one_line f (letter ∷ []) l e = absurd cc
   one_line f (letter ∷ mark ∷ value) l e =
-      let (is, by) = marked mark (record_line_of_letter letter value) l (mark == 58) refl e in
+      let (is, by) = marked mark (record_line_or_skipped_if_letter_unknown letter value) l (mark == 58) refl e in
       subst (λ (o : Option RecordLine). LineGivesFieldValues f (letter ∷ mark ∷ value) (values_of f (infos o))) (sym e)
       (subst (λ (m : ℕ). LineGivesFieldValues f (letter ∷ m ∷ value) (values_of f (infos (Some l)))) (sym is) (says_by f letter value l (letter == letter_of f) refl by))

@@ -17,15 +17,15 @@ use Rattle.make_laws.specs.OptionGrammar.{FieldTextGivesValues}
 use Rattle.make_laws.proofs.FieldValues.{says_from, says_to}
 use Rattle.change_outcome.specs.v2_lines.InfoFields.{field_of_letter, grammar_of, letter_of}
 use Rattle.change_outcome.specs.v2_lines.InfoValues.{commit_values, sha1_in_text, bytes_if_twenty, values_under_grammar}
-use Rattle.change_outcome.specs.v2_lines.Lines.{info_line, record_line_of_letter}
+use Rattle.change_outcome.specs.v2_lines.Lines.{info_line, record_line_or_skipped_if_letter_unknown}
 use Rattle.change_outcome.specs.v2_lines.declared.field.InfoField.{InfoField}
 use Rattle.change_outcome.specs.v2_lines.declared.field.InfoField.TheVariants as Letters
 use Rattle.answer_laws.specs.TextLetters.{GivesCommit, GivesHash, LineValueGivesFieldValues, letter_line, line_letter}
 
 -- ---- the meaning of a line of a letter
 
-pub by_letter : (f : InfoField) (value : List ℕ) → record_line_of_letter (letter_of f) value ≡ option_map (info_line f) (values_under_grammar (grammar_of f) value)
-unfolding record_line_of_letter field_of_letter
+pub by_letter : (f : InfoField) (value : List ℕ) → record_line_or_skipped_if_letter_unknown (letter_of f) value ≡ option_map (info_line f) (values_under_grammar (grammar_of f) value)
+unfolding record_line_or_skipped_if_letter_unknown field_of_letter
 by_letter Letters.Hashes value = refl
 by_letter Letters.Name value = refl
 by_letter Letters.Version value = refl

@@ -13,7 +13,7 @@ use Rattle.change_outcome.specs.v2_core.Database.{array_or_null_of_list, listed_
 use Rattle.change_outcome.specs.v2_core.Records.{ListedFile, ListedFolder, Record}
 use Rattle.change_outcome.specs.v2_lines.Accesses.{Access, access_in}
 use Rattle.change_outcome.specs.v2_lines.InfoValues.{sha1_in_text}
-use Rattle.change_outcome.specs.v2_lines.Lines.{file_access_line, file_hash_line, file_line_if_one_part, folder_access_line, folder_line_if_path, record_line_of_letter, record_line_of}
+use Rattle.change_outcome.specs.v2_lines.Lines.{file_access_line, file_hash_line, file_line_if_one_part, folder_access_line, folder_line_if_path, record_line_or_skipped_if_letter_unknown, record_line_of}
 use Rattle.answer_laws.specs.TextLetters.{letter_line}
 use Rattle.answer_laws.proofs.DroppedLines.{file_parts}
 use Rattle.answer_laws.proofs.RecordFields.{package_parts}
@@ -21,23 +21,23 @@ use Rattle.answer_laws.proofs.RecordFields.{package_parts}
 -- ---- letters
 
 pub folder_letter : (name : List ℕ) → record_line_of (letter_line (codes "F") name) ≡ folder_line_if_path name
-unfolding record_line_of_letter
+unfolding record_line_or_skipped_if_letter_unknown
 folder_letter name = refl
 
 pub folder_access_letter : (value : List ℕ) → record_line_of (letter_line (codes "M") value) ≡ option_map folder_access_line (access_in value)
-unfolding record_line_of_letter
+unfolding record_line_or_skipped_if_letter_unknown
 folder_access_letter value = refl
 
 pub file_letter : (name : List ℕ) → record_line_of (letter_line (codes "R") name) ≡ file_line_if_one_part name
-unfolding record_line_of_letter
+unfolding record_line_or_skipped_if_letter_unknown
 file_letter name = refl
 
 pub file_access_letter : (value : List ℕ) → record_line_of (letter_line (codes "a") value) ≡ option_map file_access_line (access_in value)
-unfolding record_line_of_letter
+unfolding record_line_or_skipped_if_letter_unknown
 file_access_letter value = refl
 
 pub hash_letter : (value : List ℕ) → record_line_of (letter_line (codes "Z") value) ≡ option_map file_hash_line (sha1_in_text value)
-unfolding record_line_of_letter
+unfolding record_line_or_skipped_if_letter_unknown
 hash_letter value = refl
 
 -- ---- fields

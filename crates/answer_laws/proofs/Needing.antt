@@ -20,7 +20,7 @@ use Rattle.change_outcome.specs.db_core.Packages.{is_package_named}
 use Rattle.dep_core.specs.Dependency.{Dependency}
 use Rattle.dep_core.specs.Meets.{meets}
 use Rattle.change_outcome.specs.package_changes.Changes.{is_candidate_named}
-use Rattle.change_outcome.specs.package_changes.Report.{is_candidate_needed_by_other, names_needing_candidate, needs_candidate, still_needed_lines_of_name, still_needed_lines, was_installed}
+use Rattle.change_outcome.specs.package_changes.Report.{is_candidate_needed_by_other, names_needing_candidate, needs_candidate, lines_on_name_that_stays, lines_on_names_that_stay, was_installed}
 use Rattle.report_core.specs.Reports.{report_line, report_lines, still_needed_text}
 use Rattle.answer_laws.specs.KeptNames.{IsEachNameSelectedAtMostOnce, HasStillNeededLines, IsNeededBySelectedName, IsProvidedBy, NeedsOther, still_needed_text_of_name}
 use Rattle.answer_laws.proofs.Members.{found_name, listed, missing_name, risen}
@@ -127,11 +127,11 @@ one_line selected name rest (c ∷ []) few = ap (λ (t : List ℕ). t ++ rest) (
 one_line selected name rest (c ∷ d ∷ cs) few = absurd (omega (arith, few))
 
 lines_of : (selected : List Candidate) → IsEachNameSelectedAtMostOnce selected → (names : List (List ℕ))
-    → flat_map (still_needed_lines_of_name selected) names ≡ report_lines (map (still_needed_text_of_name selected) (filter (has_selected selected) names))
+    → flat_map (lines_on_name_that_stays selected) names ≡ report_lines (map (still_needed_text_of_name selected) (filter (has_selected selected) names))
 lines_of selected once [] = refl
 lines_of selected once (x ∷ names) =
-    one_line selected x (flat_map (still_needed_lines_of_name selected) names) (filter (is_candidate_named x) selected) (once x)
-    ∙ ap (λ (o : Option Candidate). cond (is_some o) (report_line (text_on selected x o) ++ flat_map (still_needed_lines_of_name selected) names) (flat_map (still_needed_lines_of_name selected) names))
+    one_line selected x (flat_map (lines_on_name_that_stays selected) names) (filter (is_candidate_named x) selected) (once x)
+    ∙ ap (λ (o : Option Candidate). cond (is_some o) (report_line (text_on selected x o) ++ flat_map (lines_on_name_that_stays selected) names) (flat_map (lines_on_name_that_stays selected) names))
     (sym (find_first (is_candidate_named x) selected))
     ∙ ap (λ (r : List ℕ). cond (has_selected selected x) (report_line (still_needed_text_of_name selected x) ++ r) r) (lines_of selected once names)
     ∙ go (has_selected selected x)
@@ -170,7 +170,7 @@ in_before before name at =
     passes_any (is_package_named name) before t.element t.listed ((bytes_eq-Decides (package_name t.element) name).1 (sym t.is))
 
 pub kept_lines : (before : List Plain) (selected : List Candidate) (to_remove : List (List ℕ)) → IsEachNameSelectedAtMostOnce selected
-    → HasStillNeededLines before selected to_remove (still_needed_lines before selected to_remove)
+    → HasStillNeededLines before selected to_remove (lines_on_names_that_stay before selected to_remove)
 kept_lines before selected to_remove once =
     let candidates : List (List ℕ) = filter (was_installed before) (sorted_distinct_names to_remove) in
     let names : List (List ℕ) = filter (has_selected selected) candidates in

@@ -20,7 +20,7 @@ use Rattle.query_core.specs.Order.{printed_version, candidate_places_cmp, sorted
 use Rattle.query_core.specs.Policy.{has_own_name_and_version_text, has_own_name, is_of_repository, policy_report, lines_of_repositories_of_candidates, version_policy, sorted_distinct_versions_of_name}
 use Rattle.query_core.specs.Search.{is_search_candidate, search_report}
 use Rattle.report_core.specs.QueryReports.{policy_database_line, policy_heading, policy_repository_line, search_line, policy_version_heading}
-use Rattle.answer_laws.specs.QueryLines.{HasLineOfEachAskedCandidate, HasNameAndVersion, HasPolicyLinesOfVersion, IsInListReportByInstalledFlag, IsInSearchReport, IsVersionInRepository, IsVersionInstalled, line_at, repository_line_at}
+use Rattle.answer_laws.specs.QueryLines.{HasLinesOfSortedAskedCandidates, HasNameAndVersion, HasPolicyLinesOfVersionOrNoVersion, IsInListReportByInstalledFlag, IsSearchHitInRepositoryBySomePattern, IsVersionInRepository, IsVersionInstalled, line_at, repository_line_at}
 
 -- ---- the lines of places
 
@@ -36,7 +36,7 @@ at_places line cs (place ∷ places) = line_next line cs places (slice_get cs pl
 -- the laws of `query_core` on what is selected
 module _ (those : (test : Candidate → Bool) (cs : List Candidate) (place : ℕ) → IsIn place (sorted_places_passing test cs) → option_map_or test (slice_get cs place) false ≡ true) (each : (test : Candidate → Bool) (cs : List Candidate) (place : ℕ) → option_map_or test (slice_get cs place) false ≡ true → IsIn place (sorted_places_passing test cs)) (order : (test : Candidate → Bool) (cs : List Candidate) → AreStrictlyInOrderBy (candidate_places_cmp cs) (sorted_places_passing test cs)) where
   lines_of : (test : Candidate → Bool) (IsAsked : Candidate → Type 0) (line : Candidate → List ℕ) (cs : List Candidate) (text : List ℕ) → ((c : Candidate) → (test c ≡ true) ↔ IsAsked c)
-      → text ≡ flat_map line (sorted_candidates_passing test cs) → HasLineOfEachAskedCandidate IsAsked line cs text
+      → text ≡ flat_map line (sorted_candidates_passing test cs) → HasLinesOfSortedAskedCandidates IsAsked line cs text
   lines_of test IsAsked line cs text asked is = record {
     places = sorted_places_passing test cs;
     each = λ place. (λ h. there place (slice_get cs place) refl (those test cs place h), λ x. back place x);
@@ -54,16 +54,16 @@ module _ (those : (test : Candidate → Bool) (cs : List Candidate) (place : ℕ
 
   pub listed : ((patterns : List Operand) (installed_only : Bool) (c : Candidate) → (is_list_candidate patterns installed_only c ≡ true) ↔ IsInListReportByInstalledFlag patterns installed_only c)
       → (cs : List Candidate) (patterns : List Operand) (installed_only : Bool)
-      → HasLineOfEachAskedCandidate (IsInListReportByInstalledFlag patterns installed_only) list_line_of_candidate cs (list_report cs patterns installed_only)
+      → HasLinesOfSortedAskedCandidates (IsInListReportByInstalledFlag patterns installed_only) list_line_of_candidate cs (list_report cs patterns installed_only)
   listed asked cs patterns installed_only =
       lines_of (is_list_candidate patterns installed_only) (IsInListReportByInstalledFlag patterns installed_only) list_line_of_candidate cs
       (list_report cs patterns installed_only) (asked patterns installed_only) refl
 
-  pub searched : ((patterns : List Operand) (c : Candidate) → (is_search_candidate patterns c ≡ true) ↔ IsInSearchReport patterns c)
+  pub searched : ((patterns : List Operand) (c : Candidate) → (is_search_candidate patterns c ≡ true) ↔ IsSearchHitInRepositoryBySomePattern patterns c)
       → (cs : List Candidate) (patterns : List Operand)
-      → HasLineOfEachAskedCandidate (IsInSearchReport patterns) (λ (c : Candidate). search_line c.name (printed_version c.version)) cs (search_report cs patterns)
+      → HasLinesOfSortedAskedCandidates (IsSearchHitInRepositoryBySomePattern patterns) (λ (c : Candidate). search_line c.name (printed_version c.version)) cs (search_report cs patterns)
   searched asked cs patterns =
-      lines_of (is_search_candidate patterns) (IsInSearchReport patterns) (λ (c : Candidate). search_line c.name (printed_version c.version)) cs
+      lines_of (is_search_candidate patterns) (IsSearchHitInRepositoryBySomePattern patterns) (λ (c : Candidate). search_line c.name (printed_version c.version)) cs
       (search_report cs patterns) (asked patterns) refl
 
 -- ---- where a version is
@@ -242,7 +242,7 @@ rising those number place (r ∷ rs) e =
     rising_next place (places_of those (number + 1) (suc place) rs) (comes_before those number place rs e)
     (rising those (number + 1) (suc place) rs (omega (arith, e))) (list_any (is_of_repository number) those)
 
-pub places_told : (cs : List Candidate) (repositories : List Repository) (name : List ℕ) (version : Option (List ℕ)) → HasPolicyLinesOfVersion cs repositories name version (version_policy cs repositories name version)
+pub places_told : (cs : List Candidate) (repositories : List Repository) (name : List ℕ) (version : Option (List ℕ)) → HasPolicyLinesOfVersionOrNoVersion cs repositories name version (version_policy cs repositories name version)
 places_told cs repositories name version =
     record {
       database = if list_any (λ (c : Candidate). c.installed) (filter (has_own_name_and_version_text name version) cs) then policy_database_line else [];

@@ -16,7 +16,7 @@ use Rattle.base_core.specs.ByteOrder.{bytes_cmp, precedes}
 use Rattle.base_core.proofs.Booleans.{either_true}
 use Rattle.dep_core.specs.Dependency.{Dependency}
 use Rattle.dep_core.specs.Meets.{constraint_accepts, meets}
-use Rattle.installed_info.specs.file_owners.Replaces.{does_replaces_entry_name_package, is_preferred_replacer, is_package_met_by_replaces_entry, does_first_list_second_in_replaces, replacing_priority, takes_over, package_version_text}
+use Rattle.installed_info.specs.file_owners.Replaces.{does_replaces_entry_name_package, is_preferred_by_priority_or_later_name, is_package_met_by_replaces_entry, does_first_list_second_in_replaces, replacing_priority, takes_over, package_version_text}
 use Rattle.version_core.specs.Order.{is_version}
 use Rattle.answer_laws.specs.ReplacesEntries.{HasReplacesEntryForOther}
 use Rattle.answer_laws.proofs.Tests.{any_passes, passes_any}
@@ -84,25 +84,25 @@ own x y z name version = ap (λ (n : List ℕ). names_text x n (package_version_
 
 pub unnamed : (x y : Plain) → does_first_list_second_in_replaces x y ≡ false → takes_over x y ≡ false
 unfolding takes_over
-unnamed x y e = ap (λ (b : Bool). b && (not (does_first_list_second_in_replaces y x) || is_preferred_replacer x y)) e
+unnamed x y e = ap (λ (b : Bool). b && (not (does_first_list_second_in_replaces y x) || is_preferred_by_priority_or_later_name x y)) e
 
 pub alone : (x y : Plain) → does_first_list_second_in_replaces x y ≡ true → does_first_list_second_in_replaces y x ≡ false → takes_over x y ≡ true
 unfolding takes_over
-alone x y e f = and_from (does_first_list_second_in_replaces x y) (not (does_first_list_second_in_replaces y x) || is_preferred_replacer x y) e (either_true (not (does_first_list_second_in_replaces y x)) (is_preferred_replacer x y) (inl (not_from_false (does_first_list_second_in_replaces y x) f)))
+alone x y e f = and_from (does_first_list_second_in_replaces x y) (not (does_first_list_second_in_replaces y x) || is_preferred_by_priority_or_later_name x y) e (either_true (not (does_first_list_second_in_replaces y x)) (is_preferred_by_priority_or_later_name x y) (inl (not_from_false (does_first_list_second_in_replaces y x) f)))
 
-by_preference : (x y : Plain) → does_first_list_second_in_replaces x y ≡ true → is_preferred_replacer x y ≡ true → takes_over x y ≡ true
+by_preference : (x y : Plain) → does_first_list_second_in_replaces x y ≡ true → is_preferred_by_priority_or_later_name x y ≡ true → takes_over x y ≡ true
 unfolding takes_over
-by_preference x y e p = and_from (does_first_list_second_in_replaces x y) (not (does_first_list_second_in_replaces y x) || is_preferred_replacer x y) e (either_true (not (does_first_list_second_in_replaces y x)) (is_preferred_replacer x y) (inr p))
+by_preference x y e p = and_from (does_first_list_second_in_replaces x y) (not (does_first_list_second_in_replaces y x) || is_preferred_by_priority_or_later_name x y) e (either_true (not (does_first_list_second_in_replaces y x)) (is_preferred_by_priority_or_later_name x y) (inr p))
 
 pub priority : (x y : Plain) → does_first_list_second_in_replaces x y ≡ true → does_first_list_second_in_replaces y x ≡ true → replacing_priority y < replacing_priority x → takes_over x y ≡ true
-unfolding is_preferred_replacer
+unfolding is_preferred_by_priority_or_later_name
 priority x y e f less =
     by_preference x y e
     (either_true (nat_lt (replacing_priority y) (replacing_priority x)) ((replacing_priority x == replacing_priority y) && precedes (package_name y) (package_name x))
     (inl (lt-ltb (replacing_priority y) (replacing_priority x) less)))
 
 pub later : (x y : Plain) → does_first_list_second_in_replaces x y ≡ true → does_first_list_second_in_replaces y x ≡ true → replacing_priority x ≡ replacing_priority y → bytes_cmp (package_name y) (package_name x) ≡ Less → takes_over x y ≡ true
-unfolding is_preferred_replacer
+unfolding is_preferred_by_priority_or_later_name
 later x y e f same order =
     by_preference x y e
     (either_true (nat_lt (replacing_priority y) (replacing_priority x)) ((replacing_priority x == replacing_priority y) && precedes (package_name y) (package_name x))

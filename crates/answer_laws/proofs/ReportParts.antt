@@ -22,10 +22,10 @@ use Rattle.change_outcome.specs.ConfigurationLines.{PathWithReportLine, apk_new_
 use Rattle.change_outcome.specs.Triggers.{trigger_lines}
 use Rattle.change_outcome.specs.db_core.Members.{Member}
 use Rattle.change_outcome.specs.package_changes.Changes.{Replacement, changes_of}
-use Rattle.change_outcome.specs.package_changes.Report.{candidate_installed_size, selected_sum_line, simulated_report, still_needed_lines}
+use Rattle.change_outcome.specs.package_changes.Report.{candidate_installed_size, selected_sum_line, simulated_report, lines_on_names_that_stay}
 use Rattle.report_core.specs.Reports.{change_lines, report_line, report_lines, bytes_and_package_count_text}
 use Rattle.answer_laws.specs.KeptNames.{IsEachNameSelectedAtMostOnce}
-use Rattle.answer_laws.specs.ReportSections.{ChangedFile, HasConfigurationLines, HasChangeReportSections, HasSimulatedReportSections, IsBytesAndPackageCountLine, IsSumOf, changed_path, changed_file_text, installed_size_in_info, kept, placed_beside, member_info}
+use Rattle.answer_laws.specs.ReportSections.{ChangedFile, HasSortedConfigurationLines, HasChangeReportSections, HasSimulatedReportSections, IsBytesAndPackageCountLine, IsSumOf, changed_path, changed_file_text, installed_size_in_info, kept, placed_beside, member_info}
 use Rattle.answer_laws.proofs.DueLines.{trigger_lines_are}
 use Rattle.answer_laws.proofs.Needing.{kept_lines}
 use Rattle.answer_laws.proofs.Numbered.{numbered}
@@ -107,7 +107,7 @@ text_of_files (x ∷ xs) =
     ap (λ (t : List ℕ). t ++ flat_map (λ (l : PathWithReportLine). l.line) (map line_of xs)) (text_of_file x)
     ∙ ap (λ (t : List ℕ). report_line (changed_file_text x) ++ t) (text_of_files xs)
 
-pub configured : (aside kept_paths : List (List ℕ)) → HasConfigurationLines aside kept_paths (lines_of_apk_new_and_kept_paths aside kept_paths)
+pub configured : (aside kept_paths : List (List ℕ)) → HasSortedConfigurationLines aside kept_paths (lines_of_apk_new_and_kept_paths aside kept_paths)
 unfolding lines_of_apk_new_and_kept_paths
 configured aside kept_paths =
     let all : List ChangedFile = all_changed aside kept_paths in
@@ -128,7 +128,7 @@ unfolding simulated_report
 simulated_sections r to_remove once = record {
   changes = change_lines (changes_of r);
   numbered = numbered (changes_of r);
-  stays = still_needed_lines r.before r.selected to_remove;
+  stays = lines_on_names_that_stay r.before r.selected to_remove;
   kept_lines = kept_lines r.before r.selected to_remove once;
   last = selected_sum_line r.selected;
   sum = simulated_sum r.selected;
@@ -139,7 +139,7 @@ pub made_sections : (r : Replacement) (wishes : ChangeWishes) (change : FileChan
 made_sections r wishes change files once = record {
   changes = change_lines (changes_of r);
   numbered = numbered (changes_of r);
-  stays = still_needed_lines r.before r.selected wishes.to_remove;
+  stays = lines_on_names_that_stay r.before r.selected wishes.to_remove;
   kept_lines = kept_lines r.before r.selected wishes.to_remove once;
   configuration = lines_of_apk_new_and_kept_paths (paths_with_apk_new_file change files) (kept_left_over_paths_of change files);
   configured = configured (paths_with_apk_new_file change files) (kept_left_over_paths_of change files);

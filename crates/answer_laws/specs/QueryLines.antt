@@ -23,8 +23,8 @@ IsInListReportByInstalledFlag patterns installed_only c =
 
 -- `search` is asked for the candidate `c`: it is from a repository, and a pattern matches a part of its name, or of a
 -- name that it provides
-abbrev pub IsInSearchReport : List Operand → Candidate → Type 0
-IsInSearchReport patterns c =
+abbrev pub IsSearchHitInRepositoryBySomePattern : List Operand → Candidate → Type 0
+IsSearchHitInRepositoryBySomePattern patterns c =
     (is_some c.repository ≡ true)
     × ((name : List ℕ) × (IsOwnOrProvidedName c name × HasPartMatchedBySomePattern patterns name))
 
@@ -34,7 +34,7 @@ line_at line candidates place = option_map_or line (slice_get candidates place) 
 
 -- the text has one line for each candidate of the list for which `IsAsked` holds, and no other line, in the order in
 -- which queries print candidates. `line` gives the line of a candidate
-pub record HasLineOfEachAskedCandidate (IsAsked : Candidate → Type 0) (line : Candidate → List ℕ)
+pub record HasLinesOfSortedAskedCandidates (IsAsked : Candidate → Type 0) (line : Candidate → List ℕ)
     (candidates : List Candidate) (text : List ℕ) : Type 0 where
   -- the places of the candidates that have a line
   pub places : List ℕ
@@ -87,7 +87,7 @@ repository_line_at repositories place =
 
 -- the text of one version of the package `name` in the report of `policy`: the heading of the version, the line of the
 -- database if this version is installed, and a line for each repository that has it, in the order of the list
-pub record HasPolicyLinesOfVersion (candidates : List Candidate) (repositories : List Repository)
+pub record HasPolicyLinesOfVersionOrNoVersion (candidates : List Candidate) (repositories : List Repository)
     (name : List ℕ) (version : Option (List ℕ)) (text : List ℕ) : Type 0 where
   -- the line of the database, or no bytes
   pub database : List ℕ

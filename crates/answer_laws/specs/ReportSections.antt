@@ -67,7 +67,7 @@ changed_file_text (kept path) = path ++ codes " kept; it was changed"
 
 -- the text has one line for each of these modified configuration files: those with a new file beside them (`beside`),
 -- and the kept ones (`kept_paths`). The lines are in byte order of the paths
-pub record HasConfigurationLines (beside kept_paths : List (List ℕ)) (text : List ℕ) : Type 0 where
+pub record HasSortedConfigurationLines (beside kept_paths : List (List ℕ)) (text : List ℕ) : Type 0 where
   -- the configuration files that have a line
   pub changed : List ChangedFile
   -- these are the files of both lists, in some order
@@ -115,7 +115,7 @@ pub record HasChangeReportSections (r : Replacement) (wishes : ChangeWishes) (ch
   -- the text of the third section
   pub configuration : List ℕ
   -- the third section has one line for each modified configuration file
-  pub configured : HasConfigurationLines (paths_with_apk_new_file change files)
+  pub configured : HasSortedConfigurationLines (paths_with_apk_new_file change files)
       (kept_left_over_paths_of change files) configuration
   -- the text of the fourth section
   pub triggers : List ℕ

@@ -159,7 +159,7 @@ pub record HasFieldValuesOfLines (f : InfoField) (lines : List (List ℕ)) (pkg 
   pub tells : HasValuesAsList (is_list_letter f) said (letter_value_in_package f pkg)
 
 -- a line begins with one byte and a colon, and the byte is no letter of the table in `docs/formats.md`
-pub record BeginsWithUnknownFieldLetter (line : List ℕ) : Type 0 where
+pub record BeginsWithUnlistedLetterAndColon (line : List ℕ) : Type 0 where
   -- the first byte of the line
   pub letter : ℕ
   -- the bytes after the colon

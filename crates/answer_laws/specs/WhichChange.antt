@@ -15,7 +15,7 @@ use Rattle.version_core.specs.Order.{is_version}
 
 -- before the change the package of this name is `pkg`; after it, the selected candidate `c` of a repository. The
 -- version texts of both are versions
-pub record AreInstalledAndRepositoryOneWithVersions (r : Replacement) (name : List ℕ) (pkg : Plain)
+pub record AreOldAndRepositoryOneWithValidVersions (r : Replacement) (name : List ℕ) (pkg : Plain)
     (c : Candidate)
     : Type 0 where
   -- the package of this name before the change

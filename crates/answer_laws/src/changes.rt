@@ -6,7 +6,7 @@ ghost use Rattle.std.specs.Prelude.{◌≡◌, ◌↔◌, ℕ, List, Some, None,
 ghost use Rattle.std.specs.List.{find};
 ghost use Rattle.std.specs.declared.cmp.Ordering.TheVariants.{Less, Equal, Greater};
 ghost use Rattle.adb_view.specs.Plain.{Plain};
-ghost use Rattle.answer_laws.specs.WhichChange.{AreInstalledAndRepositoryOneWithVersions, HasInstallChange, HasNumberedChangeLines, HasPurgeChange, IsSelected, IsInstalledPackageSelected, IsSameVersionAndId, WasInstalled, changed_name};
+ghost use Rattle.answer_laws.specs.WhichChange.{AreOldAndRepositoryOneWithValidVersions, HasInstallChange, HasNumberedChangeLines, HasPurgeChange, IsSelected, IsInstalledPackageSelected, IsSameVersionAndId, WasInstalled, changed_name};
 ghost use Rattle.base_core.specs.Listed.{AreSortedDistinctNames};
 ghost use Rattle.base_core.specs.Lists.{IsIn};
 ghost use Rattle.installed_info.specs.candidate_core.Candidates.{Candidate};
@@ -23,31 +23,31 @@ ghost use Rattle.version_core.specs.Order.{version_cmp};
 pub fn the_order_of_versions_decides_the_change()
     // An upgrade: the new version is greater.
     ensures upgrade { (r : Replacement) (name : List ℕ) (pkg : Plain) (c : Candidate)
-        → AreInstalledAndRepositoryOneWithVersions r name pkg c
+        → AreOldAndRepositoryOneWithValidVersions r name pkg c
         → (change_of_name r name
         ≡ Some (Upgrade name (package_version_text pkg) (candidate_version_text c)))
         ↔ (version_cmp (package_version_text pkg) (candidate_version_text c) ≡ Less) }
     // A downgrade: the new version is less.
     ensures downgrade { (r : Replacement) (name : List ℕ) (pkg : Plain) (c : Candidate)
-        → AreInstalledAndRepositoryOneWithVersions r name pkg c
+        → AreOldAndRepositoryOneWithValidVersions r name pkg c
         → (change_of_name r name
         ≡ Some (Downgrade name (package_version_text pkg) (candidate_version_text c)))
         ↔ (version_cmp (package_version_text pkg) (candidate_version_text c) ≡ Greater) }
     // A replacement: the versions are equal in order, but the version's text or the id differs.
     ensures replace { (r : Replacement) (name : List ℕ) (pkg : Plain) (c : Candidate)
-        → AreInstalledAndRepositoryOneWithVersions r name pkg c
+        → AreOldAndRepositoryOneWithValidVersions r name pkg c
         → (change_of_name r name
         ≡ Some (Replace name (package_version_text pkg) (candidate_version_text c)))
         ↔ ((version_cmp (package_version_text pkg) (candidate_version_text c) ≡ Equal)
         × (IsSameVersionAndId pkg c → ⊥)) }
     // A reinstallation: the same version and id, and the name is in `r.again`.
     ensures reinstall { (r : Replacement) (name : List ℕ) (pkg : Plain) (c : Candidate)
-        → AreInstalledAndRepositoryOneWithVersions r name pkg c
+        → AreOldAndRepositoryOneWithValidVersions r name pkg c
         → (change_of_name r name ≡ Some (Reinstall name (candidate_version_text c)))
         ↔ (IsSameVersionAndId pkg c × IsIn name r.again) }
     // No change: the same version and id, and the name is not in `r.again`.
     ensures kept { (r : Replacement) (name : List ℕ) (pkg : Plain) (c : Candidate)
-        → AreInstalledAndRepositoryOneWithVersions r name pkg c
+        → AreOldAndRepositoryOneWithValidVersions r name pkg c
         → (change_of_name r name ≡ None)
         ↔ (IsSameVersionAndId pkg c × (IsIn name r.again → ⊥)) }
 {}

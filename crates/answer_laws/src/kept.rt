@@ -7,7 +7,7 @@ ghost use Rattle.answer_laws.specs.KeptNames.{IsEachNameSelectedAtMostOnce, HasS
 ghost use Rattle.base_core.specs.Listed.{AreSortedDistinctNames};
 ghost use Rattle.base_core.specs.Lists.{IsIn};
 ghost use Rattle.installed_info.specs.candidate_core.Candidates.{Candidate};
-ghost use Rattle.change_outcome.specs.package_changes.Report.{names_needing_candidate, still_needed_lines};
+ghost use Rattle.change_outcome.specs.package_changes.Report.{names_needing_candidate, lines_on_names_that_stay};
 
 /// The names after "required by" are exactly those of the other selected packages that need the
 /// kept one, by its name or by what it provides, each once, in byte order.
@@ -27,5 +27,5 @@ pub fn a_name_stays_if_it_is_still_selected()
     ensures { (before : List Plain) (selected : List Candidate) (to_remove : List (List ℕ))
         → IsEachNameSelectedAtMostOnce selected
         → HasStillNeededLines before selected to_remove
-        (still_needed_lines before selected to_remove) }
+        (lines_on_names_that_stay before selected to_remove) }
 {}

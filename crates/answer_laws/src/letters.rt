@@ -4,7 +4,7 @@
 ghost use Rattle.std.specs.Prelude.{◌≡◌, ◌↔◌, ℕ, List, Some, codes, map};
 ghost use Rattle.adb_view.specs.Plain.{null};
 ghost use Rattle.adb_view.specs.declared.tables.Which.TheVariants.{File, Idb, Package, PkgInfo};
-ghost use Rattle.answer_laws.specs.TextLetters.{BeginsWithUnknownFieldLetter, HasFieldValuesOfLines, record_with_lines};
+ghost use Rattle.answer_laws.specs.TextLetters.{BeginsWithUnlistedLetterAndColon, HasFieldValuesOfLines, record_with_lines};
 ghost use Rattle.make_laws.specs.NamedFields.{entries_of_field_named, field_named};
 ghost use Rattle.change_outcome.specs.v2_core.Database.{listed_file_value, record_value, database_value_of_records};
 ghost use Rattle.change_outcome.specs.v2_core.Records.{ListedFile, Record, empty_record};
@@ -29,7 +29,7 @@ pub fn each_letter_gives_its_field()
 /// is no letter of the table in `docs/formats.md`.
 pub fn a_line_is_dropped_if_its_letter_is_not_listed()
     ensures { (line : List ℕ) → (record_line_of line ≡ Some other_line)
-        ↔ BeginsWithUnknownFieldLetter line }
+        ↔ BeginsWithUnlistedLetterAndColon line }
 {}
 
 /// Fields for which a text database has no letter are null in its packages.

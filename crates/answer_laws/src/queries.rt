@@ -3,7 +3,7 @@
 
 ghost use Rattle.std.specs.Prelude.{ℕ, ◌≡◌, ◌++◌, Bool, List, Option};
 ghost use Rattle.std.specs.List.{flat_map};
-ghost use Rattle.answer_laws.specs.QueryLines.{HasLineOfEachAskedCandidate, HasPolicyLinesOfVersion, IsInListReportByInstalledFlag, IsInSearchReport};
+ghost use Rattle.answer_laws.specs.QueryLines.{HasLinesOfSortedAskedCandidates, HasPolicyLinesOfVersionOrNoVersion, IsInListReportByInstalledFlag, IsSearchHitInRepositoryBySomePattern};
 ghost use Rattle.command_core.specs.declared.operands.Operand.{Operand};
 ghost use Rattle.dep_core.specs.Repositories.{Repository};
 ghost use Rattle.installed_info.specs.candidate_core.Candidates.{Candidate};
@@ -22,7 +22,7 @@ use query_core::{
 /// other line, in the order in which queries print candidates.
 pub fn list_prints_a_line_for_each_candidate_that_is_asked_for()
     ensures { (candidates : List Candidate) (patterns : List Operand) (installed_only : Bool)
-        → HasLineOfEachAskedCandidate
+        → HasLinesOfSortedAskedCandidates
         (IsInListReportByInstalledFlag patterns installed_only) list_line_of_candidate candidates
         (list_report candidates patterns installed_only) }
 {
@@ -35,7 +35,7 @@ pub fn list_prints_a_line_for_each_candidate_that_is_asked_for()
 /// in the order in which queries print candidates.
 pub fn search_prints_a_line_for_each_candidate_that_is_asked_for()
     ensures { (candidates : List Candidate) (patterns : List Operand)
-        → HasLineOfEachAskedCandidate (IsInSearchReport patterns)
+        → HasLinesOfSortedAskedCandidates (IsSearchHitInRepositoryBySomePattern patterns)
         (λ (c : Candidate). search_line c.name (printed_version c.version)) candidates
         (search_report candidates patterns) }
 {
@@ -57,6 +57,6 @@ pub fn policy_prints_where_each_version_is()
     // The lines of one version: its heading, the database, and the repositories that have it.
     ensures places { (candidates : List Candidate) (repositories : List Repository)
         (name : List ℕ) (version : Option (List ℕ))
-        → HasPolicyLinesOfVersion candidates repositories name version
+        → HasPolicyLinesOfVersionOrNoVersion candidates repositories name version
         (version_policy candidates repositories name version) }
 {}

@@ -3,7 +3,7 @@
 
 ghost use Rattle.std.specs.Prelude.{List, map, ℕ};
 ghost use Rattle.answer_laws.specs.KeptNames.{IsEachNameSelectedAtMostOnce};
-ghost use Rattle.answer_laws.specs.ReportSections.{HasConfigurationLines, HasChangeReportSections, HasSimulatedReportSections, IsBytesAndPackageCountLine, installed_size_in_info, member_info};
+ghost use Rattle.answer_laws.specs.ReportSections.{HasSortedConfigurationLines, HasChangeReportSections, HasSimulatedReportSections, IsBytesAndPackageCountLine, installed_size_in_info, member_info};
 ghost use Rattle.base_core.specs.Files.{Files};
 ghost use Rattle.installed_info.specs.candidate_core.Candidates.{Candidate};
 ghost use Rattle.change_outcome.specs.change_files.FileChange.{FileChange};
@@ -33,7 +33,7 @@ pub fn the_sum_counts_what_is_installed()
 /// lines are in byte order of the paths.
 pub fn each_configuration_file_has_one_line()
     ensures { (aside kept : List (List ℕ))
-        → HasConfigurationLines aside kept (lines_of_apk_new_and_kept_paths aside kept) }
+        → HasSortedConfigurationLines aside kept (lines_of_apk_new_and_kept_paths aside kept) }
 {}
 
 /// The sections of a report are in this order: the changes, the names that stay, the configuration

@@ -13,7 +13,7 @@ use Rattle.base_core.specs.Tree.{TreeState, files_of}
 use Rattle.base_core.specs.declared.cause.Cause.{Cause}
 use Rattle.base_core.specs.declared.tree.TreeFault.{TreeFault}
 use Rattle.base_core.specs.declared.tree.TreeFault.TheVariants.{Memory as NoMemory}
-use Rattle.journal_core.specs.Kept.{HasOldOrNewBytesOutsideJournal, JournalOnlyShrinks, NamesOutsideJournalAreDurable}
+use Rattle.journal_core.specs.Kept.{ReadsOldOrNewBytesOutsideJournal, JournalOnlyShrinks, NamesOutsideJournalAreDurable}
 use Rattle.journal_core.specs.Quiet.{EachCrashLeavesOld, StateIsUnchanged}
 use Rattle.journal_core.specs.Recovery.{EachCrashLeavesOldOrNew, EachCrashLeavesStateOf, StateDependsOn, intent_name, intent_of, state_of}
 use Rattle.journal_core.specs.Replacing.{IsMomentOfReplacing}
@@ -22,7 +22,7 @@ use Rattle.journal_core.proofs.Lasting.{some_none}
 use Rattle.outcome.specs.Effect.{Effect, does_recover}
 use Rattle.outcome.specs.Outcome.{Outcome}
 use Rattle.outcome.specs.Work.{recovery_fault, files_recovered_if_needed}
-use Rattle.apk_front.specs.Moments.{MomentsOfMakingOrChangeLeadToFiles, AreStatesOfRecoveryOrCommittingRun, AreStatesOldOrLeadToOutcome, FindsValidIntentToRecover, HasNothingToRecover, IsDurableAndLeavesFiles, IsStateDuringRecoveryOrNext, IsStateDuringRun, IsStateDuringRecovery, MustOutcomeBeDurable, OutcomeCommitsOrCrashesLeaveFilesAsRead, NamesAreDurableWithoutIntentExcept, ignored_except_output}
+use Rattle.apk_front.specs.Moments.{MomentsOfMakingOrChangeLeadToFiles, AreStatesAsRecoveredOrOfCommittingRun, AreStatesOldOrLeadToOutcome, RecoversAndFindsValidIntent, HasNothingToRecover, IsDurableAndLeavesFiles, IsStateDuringRecoveryOrNext, IsStateDuringRun, IsStateDuringRecovery, MustOutcomeBeDurable, OutcomeCommitsOrCrashesLeaveFilesAsRead, NamesAreDurableWithoutIntentExcept, ignored_except_output}
 use Rattle.apk_front.specs.Runs.{AreFilesReadWithoutRecovery, IsRunAfterRecovery, IsRunWithRecovery, IsOutOfMemoryOrWithoutCommit}
 use Rattle.apk_front.proofs.Runs.{History, Judged, Leaves, err_ok, on_ok, settled_before, since_weaker}
 
@@ -131,7 +131,7 @@ RecoversAs v w = unstaged_files (files_of w) ≡ unstaged_files (files_of v)
 
 -- each name that does not wait has its old bytes or its recovered ones
 abbrev pub BytesAs : TreeState → TreeState → Type 0
-BytesAs v w = HasOldOrNewBytesOutsideJournal (files_of v) (unstaged_files (files_of v)) w
+BytesAs v w = ReadsOldOrNewBytesOutsideJournal (files_of v) (unstaged_files (files_of v)) w
 
 -- as soon as no intent is read, a crash undoes no change of a name that does not wait
 abbrev pub NamesOutsideJournalAreDurableIfNoIntent : TreeState → Type 0
@@ -173,7 +173,7 @@ recovering v old mid recovery =
     (since_and (RecoversAs v) (λ w. BytesAs v w × JournalOnlyShrinks v w) old mid recovery.reads (since_and (BytesAs v) (JournalOnlyShrinks v) old mid recovery.bytes recovery.waiting))
 
 reads_after : (A B : Outcome → Type 0) (effect : Effect) (output : Option (List ℕ)) (v u : TreeState) (old mid now : History) → does_recover effect ≡ true → files_of u ≡ files_recovered_if_needed effect (files_of v) → ((o : Outcome) → A o → B o)
-    → Since (IsStateDuringRecovery v) old mid → AreFilesReadWithoutRecovery A effect output u mid now → AreStatesOfRecoveryOrCommittingRun B effect output v old now
+    → Since (IsStateDuringRecovery v) old mid → AreFilesReadWithoutRecovery A effect output u mid now → AreStatesAsRecoveredOrOfCommittingRun B effect output v old now
 reads_after A B effect output v u old mid now recovers work into first (inl same) =
     inl (since_both (IsStateDuringRecovery v) (λ w. files_of w ≡ files_of u) (IsStateDuringRecoveryOrNext effect (λ w. files_of w ≡ files_recovered_if_needed effect (files_of v)) v) old mid now (λ w r. inl (recovers, r)) (λ w is. inr (is ∙ work)) first same)
 reads_after A B effect output v u old mid now recovers work into first (inr (o, one, commits, at_work)) =
@@ -251,7 +251,7 @@ whole_failed laws IsOne effect output judged e v rest now recovers failed recove
 
 -- an outcome leaves the files, and no intent is found to be done
 abbrev pub LeavesAll : Effect → TreeState → Outcome → Type 0
-LeavesAll effect v o = Leaves (files_of v) o × (FindsValidIntentToRecover effect v → ⊥)
+LeavesAll effect v o = Leaves (files_of v) o × (RecoversAndFindsValidIntent effect v → ⊥)
 
 settled_left : (effect : Effect) (ignored : Ignored) (v : TreeState) (o : Outcome) → LeavesAll effect v o → MustOutcomeBeDurable effect ignored v o → EachCrashLeavesStateOf ignored (files_of v) v
 settled_left effect ignored v o (leaves, never) (inl settles) = settled_before ignored v o leaves.1 settles

@@ -13,7 +13,7 @@ use Rattle.base_core.specs.declared.cause.Cause.{Cause}
 use Rattle.command_core.specs.Command.{CommandLine}
 use Rattle.journal_core.specs.Kept.{JournalOnlyShrinks}
 use Rattle.journal_core.specs.Recovery.{EachCrashLeavesStateOf, StateDependsOn, intent_in_file, intent_name, intent_of, intent_unless_fault, read_intent, recovered_files}
-use Rattle.journal_core.specs.Staged.{AreJournalPathsFreeIfIntentIsReplayed, HasNoStagedNames, IsIntentFault, unstaged_files}
+use Rattle.journal_core.specs.Staged.{AreJournalPathsFreeAfterReplayIfAny, HasNoStagedNames, IsIntentFault, unstaged_files}
 use Rattle.journal_core.specs.declared.fault.RecoverFault.{RecoverFault}
 use Rattle.journal_core.specs.declared.fault.RecoverFault.TheVariants.{IntentBad as BadIntent}
 use Rattle.outcome.specs.Commands.{IsPossibleOutcomeWithoutDemo, IsPossibleOutcomeAfterRecovery, IsOutcomeWithoutDemo, IsOutcomeOverRecoveredFiles, IsOutcomeUnlessBadIntent}
@@ -130,7 +130,7 @@ behind_run laws command output judged (v ∷ rest) (u ∷ more) now recovering r
     (run (nothing_waits v u left)) (memory (nothing_waits v u left))
 
 pub after_proper : (command : CommandLine) (output : Option (List ℕ)) (old mid : History) (first second last : ℕ) → does_recover (effect_of command.applet) ≡ true → IfObservable old IsGood → IfObservable old (λ v. HoldsNow mid (LeavesUnstaged v))
-    → IfObservable old (λ v. AreJournalPathsFreeIfIntentIsReplayed (files_of v) → second ≡ first) → IfNothingStaged mid (λ u. RoomFor (Ones command u) (effect_of command.applet) output (files_of u) → last ≡ second)
+    → IfObservable old (λ v. AreJournalPathsFreeAfterReplayIfAny (files_of v) → second ≡ first) → IfNothingStaged mid (λ u. RoomFor (Ones command u) (effect_of command.applet) output (files_of u) → last ≡ second)
     → IfObservable old (λ v. AreRecoveryAndOutcomePathsFree (effect_of command.applet) output (Wholes command v) (files_of v) → last ≡ first)
 after_proper command output [] mid first second last recovering good left before after = tt
 after_proper command output (v ∷ rest) [] first second last recovering good left before after = absurd left
@@ -194,7 +194,7 @@ pub is_recovery : (old mid : History) → IfObservable old (λ v. IsCalm v old m
 is_recovery [] mid calm reads bytes waiting last idle = tt
 is_recovery (v ∷ rest) mid calm reads bytes waiting last idle = record { calm = calm; reads = reads; bytes = bytes; waiting = waiting; last = last; idle = idle }
 
-pub refused_proper : (Room : TreeState → Type 0) (old : History) (P : Type 0) → ((v : TreeState) → Room v → AreJournalPathsFreeIfIntentIsReplayed (files_of v)) → IfObservable old (λ v. AreJournalPathsFreeIfIntentIsReplayed (files_of v) → P) → IfObservable old (λ v. Room v → P)
+pub refused_proper : (Room : TreeState → Type 0) (old : History) (P : Type 0) → ((v : TreeState) → Room v → AreJournalPathsFreeAfterReplayIfAny (files_of v)) → IfObservable old (λ v. AreJournalPathsFreeAfterReplayIfAny (files_of v) → P) → IfObservable old (λ v. Room v → P)
 refused_proper Room [] P f proper = tt
 refused_proper Room (v ∷ rest) P f proper = λ room. proper (f v room)
 

@@ -16,14 +16,14 @@ use Rattle.base_core.specs.declared.tree.TreeFault.TheVariants.{Disk, Memory as 
 use Rattle.journal_core.specs.Quiet.{StateIsUnchanged}
 use Rattle.journal_core.specs.Recovery.{EachCrashLeavesStateOf, StateDependsOn, intent_name}
 use Rattle.make_core.specs.make_info.Output.{output_name}
-use Rattle.make_core.specs.package_files.Sources.{AreNamesBelowFirstFolder, values_of_letter}
+use Rattle.make_core.specs.package_files.Sources.{AreSortedNamesBelowFirstFolder, values_of_letter}
 use Rattle.command_core.specs.declared.values.TheConstants.{FILES}
-use Rattle.make_core.specs.make_index.Files.{OperandReadsFindOnlyValidFileBytes}
+use Rattle.make_core.specs.make_index.Files.{EachOperandReadFindsNoFileOrFileBytes}
 use Rattle.make_core.specs.make_info.Reads.{Reads}
 use Rattle.outcome.specs.Make.{mkndx, mkpkg}
 use Rattle.outcome.specs.Commands.{IsPossibleOutcomeWithoutDemo, IsPossibleOutcomeAfterRecovery, IsOutcomeWithoutDemo, IsOutcomeOverRecoveredFiles, reads_in, outcome_from_arguments_alone, effect_outcome, reading_outcome}
-use Rattle.outcome.specs.Given.{Given, IsChoiceForCommand, IsFirstClashForEffect, IsListingChoiceAndClashFor, AreNamesListedForApplet, MayBeListingChoiceAndClashFor, MayBeNamesListedForApplet, MayBeFirstClashForEffect, no_listing_choice_or_clash}
-use Rattle.outcome.specs.Effect.{Effect, Computes, OnlyReadsFiles, AsksRoot, Makes, Changes, does_only_read, does_recover, ignores_files, effect_of_arguments, effect_of, output, output_name_of_arguments, output_name_for_effect, reads_only, depends_only_on_arguments}
+use Rattle.outcome.specs.Given.{Given, IsChoiceForCommand, IsFirstClashForEffect, IsListingChoiceAndClashFor, AreNamesListedForApplet, IsPossibleListingChoiceAndClash, ArePossibleNamesListedForApplet, IsPossibleFirstClashForEffect, no_listing_choice_or_clash}
+use Rattle.outcome.specs.Effect.{Effect, Computes, OnlyReadsFiles, AsksRoot, Makes, Changes, does_neither_recover_nor_write, does_recover, ignores_files, effect_of_arguments, effect_of, output, output_name_of_arguments, output_name_for_effect, do_arguments_neither_recover_nor_write, depends_only_on_arguments}
 use Rattle.outcome.specs.Words.{IsPossibleOutcome, IsOutcome}
 use Rattle.outcome.specs.Work.{recovery_fault}
 use Rattle.outcome.specs.Outcome.{Outcome, just_refusal, just_report, outcome_without_commit, just_report_unless_refusal}
@@ -41,7 +41,7 @@ use Rattle.command_core.specs.declared.operands.Operand.{Operand}
 use Rattle.outcome.proofs.Looking.{look_leaves}
 use Rattle.apk_front.specs.Answers.{answer_for_refusal}
 use Rattle.apk_front.specs.Effects.{root_access_if_read_only}
-use Rattle.apk_front.specs.Moments.{IsOkRefusedOrOutputFault, AreStatesOfRecoveryOrCommittingRun, AreStatesOldOrLeadToOutcome, IsRefusedOutOfMemoryOrCommitsNothing, HasNothingToRecover, ArePathsToWriteFree, IgnoresScratchNameOfOutput, IsDurableAndLeavesFiles, IsRefusedOrOutOfMemory, LeavesDurableStateIfCommitted, LeavesDurableFilesOnceAnswered, AreRunPathsFree, AreRecoveryAndOutcomePathsFree, LeavesDurableFilesIfRequired, MustOutcomeBeDurable, NamesAreDurableWithoutIntentExcept, ignored_except_output}
+use Rattle.apk_front.specs.Moments.{IsOkRefusedOrOutputFault, AreStatesAsRecoveredOrOfCommittingRun, AreStatesOldOrLeadToOutcome, IsRefusedOutOfMemoryOrCommitsNothing, HasNothingToRecover, ArePathsToWriteFree, IgnoresOutputScratchNameButNotIntent, IsDurableAndLeavesFiles, IsRefusedOrOutOfMemory, LeavesDurableStateAndOutputIfCommitted, LeavesDurableFilesOnceAnsweredOrRefused, AreRunPathsOfCommandLineFree, AreRecoveryAndOutcomePathsFree, LeavesDurableFilesIfRequired, MustOutcomeBeDurable, NamesAreDurableWithoutIntentExcept, ignored_except_output}
 use Rattle.apk_front.specs.RunContracts.{IsRunByArguments}
 use Rattle.apk_front.specs.Runs.{IfNothingStaged, IsRunAfterRecovery, IsRunWithRecovery, IsOutOfMemoryOrWithoutCommit}
 use Rattle.apk_front.specs.Containers.{IsIndexOutcome, IsPackageOutcome}
@@ -64,18 +64,18 @@ Ones command v = IsOutcomeOverRecoveredFiles command (files_of v)
 abbrev pub Wholes : CommandLine → TreeState → Outcome → Type 0
 Wholes command v = IsOutcomeWithoutDemo (Ok command) (files_of v)
 
-pub look_found : (command : CommandLine) (old : History) (judged : Judged) → does_only_read (effect_of command.applet) ≡ true → IfOk judged (λ verdict. IfObservable old (λ v. as_outcome (files_of v) verdict ≡ read_only_outcome command (reads_in (files_of v)) (files_of v)))
+pub look_found : (command : CommandLine) (old : History) (judged : Judged) → does_neither_recover_nor_write (effect_of command.applet) ≡ true → IfOk judged (λ verdict. IfObservable old (λ v. as_outcome (files_of v) verdict ≡ read_only_outcome command (reads_in (files_of v)) (files_of v)))
     → IfOk judged (λ verdict. IfObservable old (λ v. ReportsOneOfOutcomes (Wholes command v) verdict))
 look_found command old (Err e) reads found = tt
 look_found command [] (Ok verdict) reads found = tt
 look_found command (v ∷ rest) (Ok verdict) reads found =
     (as_outcome (files_of v) verdict, of_over command (files_of v) (as_outcome (files_of v) verdict) (reads_without (effect_of command.applet) reads) (no_listing_choice_or_clash, none_given command (reads_in (files_of v)) (files_of v) reads, found), refl)
 
-pub look_read : (command : CommandLine) (judged : Judged) → does_only_read (effect_of command.applet) ≡ true → IfOk judged (λ verdict. (read : Reads) × (as_outcome no_names verdict ≡ read_only_outcome command read no_names)) → IfOk judged (ReportsOneOfOutcomes (IsPossibleOutcomeWithoutDemo command))
+pub look_read : (command : CommandLine) (judged : Judged) → does_neither_recover_nor_write (effect_of command.applet) ≡ true → IfOk judged (λ verdict. (read : Reads) × (as_outcome no_names verdict ≡ read_only_outcome command read no_names)) → IfOk judged (ReportsOneOfOutcomes (IsPossibleOutcomeWithoutDemo command))
 look_read command (Err e) reads found = tt
 look_read command (Ok verdict) reads (read, is) = (as_outcome no_names verdict, inl (no_listing_choice_or_clash, read, no_names, none_by_some command read no_names reads, inl is), refl)
 
-pub look_run : (command : CommandLine) (old now : History) (judged : Judged) → does_only_read (effect_of command.applet) ≡ true → now ≡ old
+pub look_run : (command : CommandLine) (old now : History) (judged : Judged) → does_neither_recover_nor_write (effect_of command.applet) ≡ true → now ≡ old
     → IfObservable old (λ v. IsRunWithRecovery (Wholes command v) (effect_of command.applet) (output_name_for_effect (effect_of command.applet) command) judged v old now)
 look_run command [] now judged reads same = tt
 look_run command (v ∷ rest) now judged reads same =
@@ -100,13 +100,13 @@ made_given other command files names makes are = cc
 given_of_names : (command : CommandLine) (files : Files) (names : List (List ℕ)) → effect_of command.applet ≡ Makes → AreNamesListedForApplet command.applet command files names → IsListingChoiceAndClashFor command (reads_in files) files (listed names)
 given_of_names command files names makes are = let (list, choice, clash) = made_given command.applet command files names makes are in record { names = list; chosen = choice; clash = clash }
 
-made_by_some : (applet : Applet) (command : CommandLine) (read : Reads) (files : Files) (names : List (List ℕ)) → effect_of applet ≡ Makes → MayBeNamesListedForApplet applet command names
-    → MayBeNamesListedForApplet applet command names × IsChoiceForCommand (effect_of applet) command read None × MayBeFirstClashForEffect (effect_of applet) command read files None None
+made_by_some : (applet : Applet) (command : CommandLine) (read : Reads) (files : Files) (names : List (List ℕ)) → effect_of applet ≡ Makes → ArePossibleNamesListedForApplet applet command names
+    → ArePossibleNamesListedForApplet applet command names × IsChoiceForCommand (effect_of applet) command read None × IsPossibleFirstClashForEffect (effect_of applet) command read files None None
 made_by_some Mkpkg command read files names makes are = (are, refl, refl)
 made_by_some Mkndx command read files names makes are = (are, refl, refl)
 made_by_some other command read files names makes are = absurd (cc)
 
-given_by_some : (command : CommandLine) (read : Reads) (files : Files) (names : List (List ℕ)) → effect_of command.applet ≡ Makes → MayBeNamesListedForApplet command.applet command names → MayBeListingChoiceAndClashFor command read files (listed names)
+given_by_some : (command : CommandLine) (read : Reads) (files : Files) (names : List (List ℕ)) → effect_of command.applet ≡ Makes → ArePossibleNamesListedForApplet command.applet command names → IsPossibleListingChoiceAndClash command read files (listed names)
 given_by_some command read files names makes are = let (list, choice, clash) = made_by_some command.applet command read files names makes are in record { names = list; chosen = choice; clash = clash }
 
 makes_package : (command : CommandLine) → Mkpkg ≡ command.applet → effect_of command.applet ≡ Makes
@@ -144,17 +144,17 @@ pub index_found_one : (command : CommandLine) (old : History) (judged : Judged) 
     → IfOk judged (λ verdict. IfNothingStaged old (λ v. ReportsOneOfOutcomes (Ones command v) verdict))
 index_found_one command old judged same found = reports_among (λ v. IsIndexOutcome command (files_of v)) (Ones command) old judged (λ v o one. index_one command (files_of v) o same one) found
 
-pub package_read_one : (command : CommandLine) (judged : Judged) → Mkpkg ≡ command.applet → IfOk judged (λ verdict. (names : List (List ℕ)) × AreNamesBelowFirstFolder (values_of_letter FILES command.values) names × (read : Reads) × Reports verdict (mkpkg read no_names command names))
+pub package_read_one : (command : CommandLine) (judged : Judged) → Mkpkg ≡ command.applet → IfOk judged (λ verdict. (names : List (List ℕ)) × AreSortedNamesBelowFirstFolder (values_of_letter FILES command.values) names × (read : Reads) × Reports verdict (mkpkg read no_names command names))
     → IfOk judged (ReportsOneOfOutcomes (IsPossibleOutcomeAfterRecovery command))
 package_read_one command (Err e) same found = tt
 package_read_one command (Ok verdict) same (names, named, read, reports) =
-    (mkpkg read no_names command names, (listed names, read, no_names, given_by_some command read no_names names (makes_package command same) (subst (λ (a : Applet). MayBeNamesListedForApplet a command names) same named), inl (ap (λ (a : Applet). effect_outcome (effect_of a) a command (listed names) read no_names) same)), reports)
+    (mkpkg read no_names command names, (listed names, read, no_names, given_by_some command read no_names names (makes_package command same) (subst (λ (a : Applet). ArePossibleNamesListedForApplet a command names) same named), inl (ap (λ (a : Applet). effect_outcome (effect_of a) a command (listed names) read no_names) same)), reports)
 
-pub index_read_one : (command : CommandLine) (judged : Judged) → Mkndx ≡ command.applet → IfOk judged (λ verdict. (read : Reads) × OperandReadsFindOnlyValidFileBytes read 0 command.operands × Reports verdict (mkndx read no_names command))
+pub index_read_one : (command : CommandLine) (judged : Judged) → Mkndx ≡ command.applet → IfOk judged (λ verdict. (read : Reads) × EachOperandReadFindsNoFileOrFileBytes read 0 command.operands × Reports verdict (mkndx read no_names command))
     → IfOk judged (ReportsOneOfOutcomes (IsPossibleOutcomeAfterRecovery command))
 index_read_one command (Err e) same found = tt
 index_read_one command (Ok verdict) same (read, files, reports) =
-    (mkndx read no_names command, (listed [], read, no_names, given_by_some command read no_names [] (makes_index command same) (subst (λ (a : Applet). MayBeNamesListedForApplet a command []) same refl), inl (ap (λ (a : Applet). effect_outcome (effect_of a) a command (listed []) read no_names) same)), reports)
+    (mkndx read no_names command, (listed [], read, no_names, given_by_some command read no_names [] (makes_index command same) (subst (λ (a : Applet). ArePossibleNamesListedForApplet a command []) same refl), inl (ap (λ (a : Applet). effect_outcome (effect_of a) a command (listed []) read no_names) same)), reports)
 
 runs_among : (A B : TreeState → Outcome → Type 0) (out : Option (List ℕ)) (judged : Judged) (old now : History) → ((v : TreeState) (o : Outcome) → A v o → B v o) → ((v : TreeState) (o : Outcome) → B v o → A v o)
     → IfObservable old (λ v. IsRunAfterRecovery (A v) Makes out judged v old now) → IfNothingStaged old (λ v. IsRunAfterRecovery (B v) Makes out judged v old now)
@@ -213,7 +213,7 @@ pub run_by_command : (words : List (List ℕ)) (command : CommandLine) (judged :
 run_by_command words command judged old now is run = subst (λ (r : Result CommandLine ℕ). IfObservable old (λ v. IsRunWithRecovery (IsOutcome r (files_of v)) (effect_of_arguments r) (output_name_of_arguments r) judged v old now)) (sym is) run
 
 pub proper_by_command : (words : List (List ℕ)) (command : CommandLine) (old : History) (P : Type 0) → command_of words ≡ Ok command
-    → IfObservable old (λ v. AreRecoveryAndOutcomePathsFree (effect_of command.applet) (output_name_for_effect (effect_of command.applet) command) (OfCommand command v) (files_of v) → P) → IfObservable old (λ v. AreRunPathsFree words (files_of v) → P)
+    → IfObservable old (λ v. AreRecoveryAndOutcomePathsFree (effect_of command.applet) (output_name_for_effect (effect_of command.applet) command) (OfCommand command v) (files_of v) → P) → IfObservable old (λ v. AreRunPathsOfCommandLineFree words (files_of v) → P)
 proper_by_command words command old P is proper = subst (λ (r : Result CommandLine ℕ). IfObservable old (λ v. AreRecoveryAndOutcomePathsFree (effect_of_arguments r) (output_name_of_arguments r) (IsOutcome r (files_of v)) (files_of v) → P)) (sym is) proper
 
 pub found_by_command : (words : List (List ℕ)) (command : CommandLine) (judged : Judged) → command_of words ≡ Ok command → IfOk judged (ReportsOneOfOutcomes (IsPossibleOutcome (Ok command))) → IfOk judged (ReportsOneOfOutcomes (IsPossibleOutcome (command_of words)))
@@ -225,8 +225,8 @@ pub arguments_by_command : {Tree : Type 0} (words : List (List ℕ)) (command : 
 arguments_by_command words command old now judged is ran =
     subst (λ (r : Result CommandLine ℕ). IsTrue (depends_only_on_arguments r) → IsRunByArguments (IsOutcome r) old now judged) (sym is) ran
 
-pub same_by_command : (words : List (List ℕ)) (command : CommandLine) (P : Type 0) → command_of words ≡ Ok command → (IsTrue (does_only_read (effect_of command.applet)) → P) → IsTrue (reads_only (command_of words)) → P
-same_by_command words command P is same = subst (λ (r : Result CommandLine ℕ). IsTrue (reads_only r) → P) (sym is) same
+pub same_by_command : (words : List (List ℕ)) (command : CommandLine) (P : Type 0) → command_of words ≡ Ok command → (IsTrue (does_neither_recover_nor_write (effect_of command.applet)) → P) → IsTrue (do_arguments_neither_recover_nor_write (command_of words)) → P
+same_by_command words command P is same = subst (λ (r : Result CommandLine ℕ). IsTrue (do_arguments_neither_recover_nor_write r) → P) (sym is) same
 
 usage_recovers_not : (read : Result CommandLine ℕ) (q : ℕ) → read ≡ Err q → does_recover (effect_of_arguments read) ≡ true → ⊥
 usage_recovers_not (Err place) q is recovers = cc
@@ -247,7 +247,7 @@ failed_run words e (v ∷ rest) = whole_idle (IsOutcome (command_of words) (file
 -- ---- the answer
 
 pub reads_by : (words : List (List ℕ)) (judged : Judged) (old now : History) → Runs words judged old now
-    → IfObservable old (λ v. AreStatesOfRecoveryOrCommittingRun (IsOutcome (command_of words) (files_of v)) (effect_of_arguments (command_of words)) (output words) v old now)
+    → IfObservable old (λ v. AreStatesAsRecoveredOrOfCommittingRun (IsOutcome (command_of words) (files_of v)) (effect_of_arguments (command_of words)) (output words) v old now)
 reads_by words judged [] now run = tt
 reads_by words judged (v ∷ rest) now run = run.reads
 
@@ -257,12 +257,12 @@ last_by words judged [] now run = tt
 last_by words judged (v ∷ rest) now run = run.last
 
 pub crash_by : (words : List (List ℕ)) (judged : Judged) (old now : History) → Runs words judged old now
-    → IfObservable old (λ v. (ignored : List ℕ → Bool) → IsDurable (StateDependsOn ignored) v → IgnoresScratchNameOfOutput (output words) ignored → AreStatesOldOrLeadToOutcome (IsOutcome (command_of words) (files_of v)) (is_some (output words)) ignored v old now)
+    → IfObservable old (λ v. (ignored : List ℕ → Bool) → IsDurable (StateDependsOn ignored) v → IgnoresOutputScratchNameButNotIntent (output words) ignored → AreStatesOldOrLeadToOutcome (IsOutcome (command_of words) (files_of v)) (is_some (output words)) ignored v old now)
 crash_by words judged [] now run = tt
 crash_by words judged (v ∷ rest) now run = run.moments
 
 pub durable_by : (words : List (List ℕ)) (judged : Judged) (old now : History) → Runs words judged old now
-    → IfObservable old (λ v. (ignored : List ℕ → Bool) → IsDurable (StateDependsOn ignored) v → IgnoresScratchNameOfOutput (output words) ignored → HoldsNow now (IsDurable (StateDependsOn ignored)))
+    → IfObservable old (λ v. (ignored : List ℕ → Bool) → IsDurable (StateDependsOn ignored) v → IgnoresOutputScratchNameButNotIntent (output words) ignored → HoldsNow now (IsDurable (StateDependsOn ignored)))
 durable_by words judged [] now run = tt
 durable_by words judged (v ∷ rest) now run = run.is_durable
 
@@ -277,7 +277,7 @@ the_refusal None r same = cc
 the_refusal (Some x) r same = cc
 
 lasting_shown : (IsOne : Outcome → Type 0) (effect : Effect) (ignored : List ℕ → Bool) (v : TreeState) (now : History) (verdict : Verdict) (o : Outcome) (answer : Answer) (out err : SinkBeforeAndAfter) → IsOne o → Reports verdict o
-    → LeavesDurableFilesIfRequired effect ignored v now o → IsPrinted (as_outcome o.files verdict) answer out err → LeavesDurableFilesOnceAnswered IsOne effect ignored v now answer
+    → LeavesDurableFilesIfRequired effect ignored v now o → IsPrinted (as_outcome o.files verdict) answer out err → LeavesDurableFilesOnceAnsweredOrRefused IsOne effect ignored v now answer
 lasting_shown IsOne effect ignored v now verdict o Done out err one reports lasts printed =
     (o, one, sym (ap (λ (x : Outcome). x.refusal) reports) ∙ no_refusal verdict.refusal printed.same, lasts)
 lasting_shown IsOne effect ignored v now verdict o (Refused r) out err one reports lasts printed =
@@ -287,13 +287,13 @@ lasting_shown IsOne effect ignored v now verdict o TreeFailed out err one report
 lasting_shown IsOne effect ignored v now verdict o Memory out err one reports lasts printed = tt
 
 lasting_judged : (IsOne : Outcome → Type 0) (effect : Effect) (ignored : List ℕ → Bool) (v : TreeState) (now : History) (judged : Judged) (answer : Answer) (out err : SinkBeforeAndAfter) → IfOk judged (ReportsOneOfOutcomes IsOne) → IsVerdictPrinted judged answer out err
-    → ((o : Outcome) → IsOne o → MustOutcomeBeDurable effect ignored v o → OnOk judged (HoldsNow now (EachCrashLeavesStateOf ignored o.files))) → LeavesDurableFilesOnceAnswered IsOne effect ignored v now answer
+    → ((o : Outcome) → IsOne o → MustOutcomeBeDurable effect ignored v o → OnOk judged (HoldsNow now (EachCrashLeavesStateOf ignored o.files))) → LeavesDurableFilesOnceAnsweredOrRefused IsOne effect ignored v now answer
 lasting_judged IsOne effect ignored v now (Ok verdict) answer out err (o, one, reports) is_shown settled = lasting_shown IsOne effect ignored v now verdict o answer out err one reports (settled o one) (is_shown o.files)
-lasting_judged IsOne effect ignored v now (Err Disk) answer out err found is_shown settled = subst (LeavesDurableFilesOnceAnswered IsOne effect ignored v now) (sym is_shown.0) tt
-lasting_judged IsOne effect ignored v now (Err NoMemory) answer out err found is_shown settled = subst (LeavesDurableFilesOnceAnswered IsOne effect ignored v now) (sym is_shown.0) tt
+lasting_judged IsOne effect ignored v now (Err Disk) answer out err found is_shown settled = subst (LeavesDurableFilesOnceAnsweredOrRefused IsOne effect ignored v now) (sym is_shown.0) tt
+lasting_judged IsOne effect ignored v now (Err NoMemory) answer out err found is_shown settled = subst (LeavesDurableFilesOnceAnsweredOrRefused IsOne effect ignored v now) (sym is_shown.0) tt
 
 pub settled_by : (words : List (List ℕ)) (judged : Judged) (answer : Answer) (out err : SinkBeforeAndAfter) (old now : History) → IsVerdictPrinted judged answer out err → IfOk judged (λ verdict. IfObservable old (λ v. ReportsOneOfOutcomes (IsOutcome (command_of words) (files_of v)) verdict)) → Runs words judged old now
-    → IfObservable old (λ v. (ignored : List ℕ → Bool) → IsDurable (StateDependsOn ignored) v → IgnoresScratchNameOfOutput (output words) ignored → LeavesDurableFilesOnceAnswered (IsOutcome (command_of words) (files_of v)) (effect_of_arguments (command_of words)) ignored v now answer)
+    → IfObservable old (λ v. (ignored : List ℕ → Bool) → IsDurable (StateDependsOn ignored) v → IgnoresOutputScratchNameButNotIntent (output words) ignored → LeavesDurableFilesOnceAnsweredOrRefused (IsOutcome (command_of words) (files_of v)) (effect_of_arguments (command_of words)) ignored v now answer)
 settled_by words judged answer out err [] now is_shown found run = tt
 settled_by words judged answer out err (v ∷ rest) now is_shown found run = λ ignored is_durable hides.
     lasting_judged (IsOutcome (command_of words) (files_of v)) (effect_of_arguments (command_of words)) ignored v now judged answer out err (found_at v rest judged (λ verdict w. ReportsOneOfOutcomes (IsOutcome (command_of words) (files_of w)) verdict) found) is_shown
@@ -347,13 +347,13 @@ bad_by words judged (v ∷ rest) now run = run.bad
 -- ---- the output counts again
 
 rest_of : (IsOne : Outcome → Type 0) (output : Option (List ℕ)) (ignored : List ℕ → Bool) (now : History) (judged : Judged) (answer : Answer) (out err : SinkBeforeAndAfter) → IfOk judged (ReportsOneOfOutcomes IsOne) → IsVerdictPrinted judged answer out err → IsOkRefusedOrOutputFault answer
-    → ((o : Outcome) → IsOne o → o.commits ≡ true → OnOk judged (HoldsNow now (IsDurableAndLeavesFiles (ignored_except_output output ignored) o.files))) → LeavesDurableStateIfCommitted IsOne output ignored now
+    → ((o : Outcome) → IsOne o → o.commits ≡ true → OnOk judged (HoldsNow now (IsDurableAndLeavesFiles (ignored_except_output output ignored) o.files))) → LeavesDurableStateAndOutputIfCommitted IsOne output ignored now
 rest_of IsOne output ignored now (Ok verdict) answer out err (o, one, reports) is_shown answers rests = (o, one, λ commits. rests o one commits)
 rest_of IsOne output ignored now (Err Disk) answer out err found is_shown answers rests = absurd (subst IsOkRefusedOrOutputFault is_shown.0 answers)
 rest_of IsOne output ignored now (Err NoMemory) answer out err found is_shown answers rests = absurd (subst IsOkRefusedOrOutputFault is_shown.0 answers)
 
 pub rest_by : (words : List (List ℕ)) (judged : Judged) (answer : Answer) (out err : SinkBeforeAndAfter) (old now : History) → IsVerdictPrinted judged answer out err → FindsOne words judged old → Runs words judged old now
-    → IfObservable old (λ v. (ignored : List ℕ → Bool) → IsDurable (StateDependsOn ignored) v → IgnoresScratchNameOfOutput (output words) ignored → IsOkRefusedOrOutputFault answer → LeavesDurableStateIfCommitted (IsOutcome (command_of words) (files_of v)) (output words) ignored now)
+    → IfObservable old (λ v. (ignored : List ℕ → Bool) → IsDurable (StateDependsOn ignored) v → IgnoresOutputScratchNameButNotIntent (output words) ignored → IsOkRefusedOrOutputFault answer → LeavesDurableStateAndOutputIfCommitted (IsOutcome (command_of words) (files_of v)) (output words) ignored now)
 rest_by words judged answer out err [] now is_shown found run = tt
 rest_by words judged answer out err (v ∷ rest) now is_shown found run = λ ignored is_durable hides answers.
     rest_of (IsOutcome (command_of words) (files_of v)) (output words) ignored now judged answer out err (found_first words judged v rest found) is_shown answers (λ o one commits. run.durable_state ignored o is_durable hides one commits)
@@ -363,8 +363,8 @@ usage_reported words [] verdict is = tt
 usage_reported words (v ∷ rest) verdict is = (as_outcome (files_of v) verdict, is v, refl)
 
 -- whether an applet only reads, by what it does below its root
-by_access : (command : CommandLine) (applet : Applet) (access this : RootAccess) → applet ≡ command.applet → access ≡ root_access_if_read_only (does_only_read (effect_of applet)) → access ≡ this → this ≡ root_access_if_read_only (does_only_read (effect_of command.applet))
-by_access command applet access this same of is = sym is ∙ (of ∙ ap (λ (a : Applet). root_access_if_read_only (does_only_read (effect_of a))) same)
+by_access : (command : CommandLine) (applet : Applet) (access this : RootAccess) → applet ≡ command.applet → access ≡ root_access_if_read_only (does_neither_recover_nor_write (effect_of applet)) → access ≡ this → this ≡ root_access_if_read_only (does_neither_recover_nor_write (effect_of command.applet))
+by_access command applet access this same of is = sym is ∙ (of ∙ ap (λ (a : Applet). root_access_if_read_only (does_neither_recover_nor_write (effect_of a))) same)
 
 read_is : (b : Bool) → Read ≡ root_access_if_read_only b → b ≡ true
 read_is true is = refl
@@ -374,21 +374,21 @@ write_is : (b : Bool) → Write ≡ root_access_if_read_only b → b ≡ false
 write_is true is = absurd (cc (is))
 write_is false is = refl
 
-pub reads_by_access : (command : CommandLine) (applet : Applet) (access : RootAccess) → applet ≡ command.applet → access ≡ root_access_if_read_only (does_only_read (effect_of applet)) → access ≡ Read → does_only_read (effect_of command.applet) ≡ true
-reads_by_access command applet access same of is = read_is (does_only_read (effect_of command.applet)) (by_access command applet access Read same of is)
+pub reads_by_access : (command : CommandLine) (applet : Applet) (access : RootAccess) → applet ≡ command.applet → access ≡ root_access_if_read_only (does_neither_recover_nor_write (effect_of applet)) → access ≡ Read → does_neither_recover_nor_write (effect_of command.applet) ≡ true
+reads_by_access command applet access same of is = read_is (does_neither_recover_nor_write (effect_of command.applet)) (by_access command applet access Read same of is)
 
-pub writes_by_access : (command : CommandLine) (applet : Applet) (access : RootAccess) → applet ≡ command.applet → access ≡ root_access_if_read_only (does_only_read (effect_of applet)) → access ≡ Write → does_only_read (effect_of command.applet) ≡ false
-writes_by_access command applet access same of is = write_is (does_only_read (effect_of command.applet)) (by_access command applet access Write same of is)
+pub writes_by_access : (command : CommandLine) (applet : Applet) (access : RootAccess) → applet ≡ command.applet → access ≡ root_access_if_read_only (does_neither_recover_nor_write (effect_of applet)) → access ≡ Write → does_neither_recover_nor_write (effect_of command.applet) ≡ false
+writes_by_access command applet access same of is = write_is (does_neither_recover_nor_write (effect_of command.applet)) (by_access command applet access Write same of is)
 
 -- what does not only read recovers, and does not rest on the words alone
-pub recovers_else : (effect : Effect) → does_only_read effect ≡ false → does_recover effect ≡ true
+pub recovers_else : (effect : Effect) → does_neither_recover_nor_write effect ≡ false → does_recover effect ≡ true
 recovers_else Computes writes = absurd (cc (writes))
 recovers_else OnlyReadsFiles writes = absurd (cc (writes))
 recovers_else AsksRoot writes = refl
 recovers_else Makes writes = refl
 recovers_else Changes writes = refl
 
-pub not_on_words : (effect : Effect) → does_only_read effect ≡ false → IsTrue (ignores_files effect) → ⊥
+pub not_on_words : (effect : Effect) → does_neither_recover_nor_write effect ≡ false → IsTrue (ignores_files effect) → ⊥
 not_on_words Computes writes rests = cc (writes)
 not_on_words OnlyReadsFiles writes rests = cc (rests)
 not_on_words AsksRoot writes rests = cc (rests)
@@ -444,14 +444,14 @@ reads_nothing Adbdump command read files (verify, version, help, program, dump, 
 reads_nothing Adbgen command read files (verify, version, help, program, dump, generate) = absurd (generate refl)
 reads_nothing other command read files none = refl
 
-nothing_of : (effect : Effect) (applet : Applet) (command : CommandLine) → IsNoneOfThese applet → does_only_read effect ≡ true → (read : Reads) (files : Files) → effect_outcome effect applet command no_listing_choice_or_clash read files ≡ just_report files []
+nothing_of : (effect : Effect) (applet : Applet) (command : CommandLine) → IsNoneOfThese applet → does_neither_recover_nor_write effect ≡ true → (read : Reads) (files : Files) → effect_outcome effect applet command no_listing_choice_or_clash read files ≡ just_report files []
 nothing_of Computes applet command none reads read files = computes_nothing applet command files none
 nothing_of OnlyReadsFiles applet command none reads read files = reads_nothing applet command read files none
 nothing_of AsksRoot applet command none reads read files = absurd (false≢true reads)
 nothing_of Makes applet command none reads read files = absurd (false≢true reads)
 nothing_of Changes applet command none reads read files = absurd (false≢true reads)
 
-pub nothing_ran : (command : CommandLine) (applet : Applet) (verdict : Verdict) → applet ≡ command.applet → IsNoneOfThese applet → does_only_read (effect_of command.applet) ≡ true
+pub nothing_ran : (command : CommandLine) (applet : Applet) (verdict : Verdict) → applet ≡ command.applet → IsNoneOfThese applet → does_neither_recover_nor_write (effect_of command.applet) ≡ true
     → ((files : Files) → as_outcome files verdict ≡ just_report files []) → Ran command verdict
 nothing_ran command applet verdict same none reads empty read files =
     empty files ∙ sym (nothing_of (effect_of command.applet) command.applet command (subst IsNoneOfThese same none) reads read files)

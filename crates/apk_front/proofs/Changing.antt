@@ -17,12 +17,12 @@ use Rattle.engine_core.specs.change_outcome.ChangeOutcome.{ChangeDone}
 use Rattle.command_core.specs.Command.{CommandLine}
 use Rattle.command_core.specs.declared.command.Applet.{Applet}
 use Rattle.command_core.specs.declared.command.Applet.TheVariants.{Add, Del, Fix, Upgrade}
-use Rattle.engine_core.specs.ChangeRun.{IsEndOfRunOfWantedChange, DoesCommit, IsChangeRun, IsRunThatCommitsChange, IsPackageFileChangedSinceTested, IsUnchangedOrCommit, report_as_is, report_of_result}
+use Rattle.engine_core.specs.ChangeRun.{IsEndOfRunOfWantedChange, DoesCommit, IsChangeRun, IsRunThatCommitsChangeUnlessTreeFails, IsPackageFileChangedSinceTested, IsUnchangedOrCommit, report_as_is, report_of_result}
 use Rattle.engine_core.specs.Changed.{IsFirstClashOfCommand, IsFirstClashOfCommandAmong, change_of_command, packages_found_after_change, selected_from_reads_by_choice}
 use Rattle.engine_core.specs.Choice.{IsPreferredChoiceUnlessRefused}
 use Rattle.engine_core.specs.Runs.{IsRunCounted}
 use Rattle.engine_core.specs.Selecting.{pool_of_command}
-use Rattle.journal_core.specs.Kept.{HasOldOrNewBytesOutsideJournal}
+use Rattle.journal_core.specs.Kept.{ReadsOldOrNewBytesOutsideJournal}
 use Rattle.journal_core.specs.Recovery.{EachCrashLeavesStateOf, StateDependsOn, intent_name}
 use Rattle.journal_core.specs.Staged.{IsOldUntilCommit}
 use Rattle.make_core.specs.make_info.Reads.{Reads}
@@ -33,7 +33,7 @@ use Rattle.outcome.proofs.Applets.{change_is}
 use Rattle.outcome.specs.Changing.{change_outcome}
 use Rattle.outcome.specs.Commands.{IsPossibleOutcomeAfterRecovery, IsOutcomeOverRecoveredFiles, effect_outcome, reads_in}
 use Rattle.outcome.specs.Effect.{Effect, Changes, effect_of, output_name_for_effect}
-use Rattle.outcome.specs.Given.{Given, IsChoiceForCommand, IsFirstClashForEffect, IsListingChoiceAndClashFor, AreNamesListedForApplet, MayBeListingChoiceAndClashFor, MayBeNamesListedForApplet, MayBeFirstClashForEffect}
+use Rattle.outcome.specs.Given.{Given, IsChoiceForCommand, IsFirstClashForEffect, IsListingChoiceAndClashFor, AreNamesListedForApplet, IsPossibleListingChoiceAndClash, ArePossibleNamesListedForApplet, IsPossibleFirstClashForEffect}
 use Rattle.outcome.specs.Outcome.{Outcome, just_refusal, just_report}
 use Rattle.apk_front.specs.Moments.{IsDurableAndLeavesFiles, IsStateDuringRun, NamesAreDurableWithoutIntentExcept}
 use Rattle.apk_front.specs.Runs.{HasNothingStaged, IfNothingStaged, IsRunAfterRecovery}
@@ -73,7 +73,7 @@ are_given command read files chosen clash changes choice first =
     record { names = list; chosen = chosen_so; clash = clash_so }
 
 parts_by_some : (applet : Applet) (command : CommandLine) (read : Reads) (files present_files : Files) (chosen : Option (List ℕ)) (clash : Option NamePair) → effect_of applet ≡ Changes → IsPreferredChoiceUnlessRefused (pool_of_command command read) chosen
-    → IsFirstClashOfCommandAmong command read files present_files chosen clash → MayBeNamesListedForApplet applet command [] × IsChoiceForCommand (effect_of applet) command read chosen × MayBeFirstClashForEffect (effect_of applet) command read files chosen clash
+    → IsFirstClashOfCommandAmong command read files present_files chosen clash → ArePossibleNamesListedForApplet applet command [] × IsChoiceForCommand (effect_of applet) command read chosen × IsPossibleFirstClashForEffect (effect_of applet) command read files chosen clash
 parts_by_some Add command read files present_files chosen clash changes choice first = (refl, choice, (present_files, first))
 parts_by_some Del command read files present_files chosen clash changes choice first = (refl, choice, (present_files, first))
 parts_by_some Upgrade command read files present_files chosen clash changes choice first = (refl, choice, (present_files, first))
@@ -81,7 +81,7 @@ parts_by_some Fix command read files present_files chosen clash changes choice f
 parts_by_some other command read files present_files chosen clash changes choice first = absurd (cc)
 
 may_be_given : (command : CommandLine) (read : Reads) (files present_files : Files) (chosen : Option (List ℕ)) (clash : Option NamePair) → effect_of command.applet ≡ Changes → IsPreferredChoiceUnlessRefused (pool_of_command command read) chosen
-    → IsFirstClashOfCommandAmong command read files present_files chosen clash → MayBeListingChoiceAndClashFor command read files (given_by chosen clash)
+    → IsFirstClashOfCommandAmong command read files present_files chosen clash → IsPossibleListingChoiceAndClash command read files (given_by chosen clash)
 may_be_given command read files present_files chosen clash changes choice first =
     let (list, chosen_so, clash_so) = parts_by_some command.applet command read files present_files chosen clash changes choice first in
     record { names = list; chosen = chosen_so; clash = clash_so }
@@ -256,7 +256,7 @@ module _ (command : CommandLine) (changes : effect_of command.applet ≡ Changes
 
   -- ---- the change was carried out
 
-  module _ (commit : IsRunThatCommitsChange asked v (v ∷ rest) now answer) where
+  module _ (commit : IsRunThatCommitsChangeUnlessTreeFails asked v (v ∷ rest) now answer) where
     files_are : outcome.files ≡ commit.done.files
     files_are = ap (λ (w : Wanted). (change_outcome (files_of v) w).files) commit.is
 
@@ -278,7 +278,7 @@ module _ (command : CommandLine) (changes : effect_of command.applet ≡ Changes
 
     at_work : (w : TreeState) → IsStateDuringChangeToNewFromOld commit.done.files (files_of v) w → IsStateDuringRun Changes None outcome.files (files_of v) w
     at_work w (inl waiting) = inl waiting
-    at_work w (inr (inl by_intent)) = inr (inl (record { changes = refl; intent = by_intent.intent; leads = by_intent.leads ∙ sym files_are; bytes = subst (λ (f : Files). HasOldOrNewBytesOutsideJournal (files_of v) f w) (sym files_are) by_intent.bytes }))
+    at_work w (inr (inl by_intent)) = inr (inl (record { changes = refl; intent = by_intent.intent; leads = by_intent.leads ∙ sym files_are; bytes = subst (λ (f : Files). ReadsOldOrNewBytesOutsideJournal (files_of v) f w) (sym files_are) by_intent.bytes }))
     at_work w (inr (inr is)) = inr (inr (is ∙ sym files_are))
 
     rests : (ignored : List ℕ → Bool) (h : History) (files : Files) → HoldsNow h (IsDurable (StateDependsOn ignored)) → HoldsNow h (EachCrashLeavesStateOf ignored files) → HoldsNow h (IsDurableAndLeavesFiles ignored files)

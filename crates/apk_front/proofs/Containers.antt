@@ -14,8 +14,8 @@ use Rattle.make_core.specs.make_info.Reads.{Reads}
 use Rattle.make_core.specs.make_package.Answers.{IsMadeBySomeReads, IsMadeFromTree, UnlessDiskOrMemory}
 use Rattle.make_core.specs.make_package.Making.{made_package}
 use Rattle.make_core.specs.make_info.Output.{output_name}
-use Rattle.make_core.specs.make_index.Files.{OperandReadsFindOnlyValidFileBytes, reads_of}
-use Rattle.make_core.specs.package_files.Sources.{AreNamesBelowFirstFolder, values_of_letter}
+use Rattle.make_core.specs.make_index.Files.{EachOperandReadFindsNoFileOrFileBytes, reads_of}
+use Rattle.make_core.specs.package_files.Sources.{AreSortedNamesBelowFirstFolder, values_of_letter}
 use Rattle.make_core.specs.make_info.declared.fault.MakeFault.{MakeFault}
 use Rattle.command_core.specs.declared.values.TheConstants.{FILES}
 use Rattle.outcome.specs.Commands.{reads_in}
@@ -99,7 +99,7 @@ index_made command container old h =
     map_observable old (λ v. AgreesUnlessMemoryOrDisk (λ (file : Vec ℕ Global). file.items) container (made_index command (reads_of v))) (λ v. OnMade container (IsIndexMade command (files_of v)))
     (λ v m. made_means container (made_index command (reads_of v)) m) h
 
-pub index_found : (command : CommandLine) (container : Container) → (read : Reads) × OperandReadsFindOnlyValidFileBytes read 0 command.operands × AgreesUnlessMemoryOrDisk (λ (file : Vec ℕ Global). file.items) container (made_index command read) → OnMade container (IsIndexFound command)
+pub index_found : (command : CommandLine) (container : Container) → (read : Reads) × EachOperandReadFindsNoFileOrFileBytes read 0 command.operands × AgreesUnlessMemoryOrDisk (λ (file : Vec ℕ Global). file.items) container (made_index command read) → OnMade container (IsIndexFound command)
 index_found command container (read, files, m) =
     weaker container (λ made. made_index command read ≡ made) (IsIndexFound command) (λ made is. record { read = read; files = files; is = is }) (made_means container (made_index command read) m)
 
@@ -225,7 +225,7 @@ package_outcomes one command report none = record {
 
 pub package_read : (command : CommandLine) (report : List ℕ) (container : Container) (judged : Judged) → report ≡ [] → OnMade container (IsMadeBySomeReads command) → IfOk judged (λ verdict. is_making_ended_by_disk_or_memory container ≡ false)
     → IfOk judged (λ verdict. (files : Files) → Reports verdict (make_outcome files (output_name command) report (made_file_bytes container)))
-    → IfOk judged (λ verdict. (names : List (List ℕ)) × AreNamesBelowFirstFolder (values_of_letter FILES command.values) names × (read : Reads) × Reports verdict (mkpkg read no_names command names))
+    → IfOk judged (λ verdict. (names : List (List ℕ)) × AreSortedNamesBelowFirstFolder (values_of_letter FILES command.values) names × (read : Reads) × Reports verdict (mkpkg read no_names command names))
 package_read command report container (Err e) none found whole reports = tt
 package_read command report container (Ok verdict) none found whole reports =
     let m = meant container (IsMadeBySomeReads command) whole found in
@@ -244,7 +244,7 @@ index_outcomes command report is = record {
 
 pub index_read : (command : CommandLine) (report : List ℕ) (container : Container) (judged : Judged) → report ≡ index_report_line (length command.operands) → OnMade container (IsIndexFound command) → IfOk judged (λ verdict. is_making_ended_by_disk_or_memory container ≡ false)
     → IfOk judged (λ verdict. (files : Files) → Reports verdict (make_outcome files (output_name command) report (made_file_bytes container)))
-    → IfOk judged (λ verdict. (read : Reads) × OperandReadsFindOnlyValidFileBytes read 0 command.operands × Reports verdict (mkndx read no_names command))
+    → IfOk judged (λ verdict. (read : Reads) × EachOperandReadFindsNoFileOrFileBytes read 0 command.operands × Reports verdict (mkndx read no_names command))
 index_read command report container (Err e) is found whole reports = tt
 index_read command report container (Ok verdict) is found whole reports =
     let m = meant container (IsIndexFound command) whole found in

@@ -15,7 +15,7 @@ use Rattle.outcome.specs.demo_lines.Lines.{add_words, demo_repositories, mkndx_w
 use Rattle.outcome.specs.demo_lines.Report.{demo_line}
 use Rattle.outcome.proofs.demo_lines.Lengths.{plus_one}
 use Rattle.outcome.specs.Commands.{IsPossibleOutcomeWithoutDemo, IsOutcomeWithoutDemo, reads_in}
-use Rattle.outcome.specs.Demo.{IsDemoOutcomeAfterIndexing, IsDemoOutcomeAfterInstalling, IsDemoOutcomeAfterPackaging, IsDemoOutcome, IsOutcomeOfNextRunOrEarlierRefusal, IsOutcomeOfNextRunUnlessRefused, outcome_with_demo_repositories, with_demo_file}
+use Rattle.outcome.specs.Demo.{IsDemoOutcomeAfterIndexing, IsDemoOutcomeAfterInstalling, IsDemoOutcomeAfterPackaging, IsDemoOutcome, IsOutcomeOfNextRunOrEarlierRefusal, IsOutcomeOfNextRunOrBeforeIfRefused, outcome_before_first_demo_run, with_demo_file}
 use Rattle.outcome.specs.Effect.{does_recover, ignores_files, effect_of, output_name_for_effect}
 use Rattle.outcome.specs.Outcome.{Outcome, just_refusal, just_report, just_report_unless_refusal}
 use Rattle.outcome.specs.Words.{IsPossibleOutcome, IsPossibleOutcomeOfApplet, IsOutcome, IsOutcomeOfApplet}
@@ -29,7 +29,7 @@ use Rattle.words_core.specs.Grammar.{command_of}
 use Rattle.words_core.specs.declared.read.WordsFault.{WordsFault}
 use Rattle.words_core.specs.declared.read.WordsFault.TheVariants.{Usage as WrongWord}
 use Rattle.apk_front.specs.DemoRuns.{IsRunToOutcome}
-use Rattle.apk_front.specs.Moments.{FindsValidIntentToRecover, AreRecoveryAndOutcomePathsFree}
+use Rattle.apk_front.specs.Moments.{RecoversAndFindsValidIntent, AreRecoveryAndOutcomePathsFree}
 use Rattle.apk_front.specs.Runs.{IsRunWithRecovery}
 use Rattle.apk_front.specs.Verdicts.{Reports, ReportsOneOfOutcomes, as_outcome, read_only_outcome}
 use Rattle.apk_front.specs.declared.answer.Verdict.{Verdict}
@@ -129,7 +129,7 @@ demo_leaves : (applet : Applet) (command : CommandLine) (files : Files) (o : Out
 demo_leaves Demo command files o demo (last, is_last, is) = subst (Leaves files) (sym is) (unless_leaves files last.refusal (demo_line (demo_count command.operands) last.out))
 demo_leaves other command files o demo is = cc
 
-no_recovery : (applet : Applet) (v : TreeState) → applet ≡ Demo → FindsValidIntentToRecover (effect_of applet) v → ⊥
+no_recovery : (applet : Applet) (v : TreeState) → applet ≡ Demo → RecoversAndFindsValidIntent (effect_of applet) v → ⊥
 no_recovery applet v demo can = false≢true (subst (λ (a : Applet). does_recover (effect_of a) ≡ true) demo can.0)
 
 pub demo_run : (command : CommandLine) (applet : Applet) (judged : Judged) (old : History) → applet ≡ command.applet → applet ≡ Demo
@@ -171,7 +171,7 @@ abbrev pub CountsOnlyRise : List (List ℕ) → (Files → Files) → Verdict �
 CountsOnlyRise words change last old verdict new =
     (before : Outcome) → Reports last before → files_of (tree_state old) ≡ before.files → IsRunToOutcome (IsOutcomeOfNextRunOrEarlierRefusal words (change before.files) before) verdict new
 
-stays : (refusal : Option Refusal) (words : List (List ℕ)) (files : Files) (before : Outcome) → IsSome refusal → IsOutcomeOfNextRunUnlessRefused refusal words files before before
+stays : (refusal : Option Refusal) (words : List (List ℕ)) (files : Files) (before : Outcome) → IsSome refusal → IsOutcomeOfNextRunOrBeforeIfRefused refusal words files before before
 stays None words files before some = cc
 stays (Some refusal) words files before some = refl
 
@@ -179,7 +179,7 @@ pub after_refused : (words : List (List ℕ)) (change : Files → Files) (last :
 after_refused words change last tree some = λ before reports files.
     (before, stays before.refusal words (change before.files) before (subst (λ (r : Option Refusal). IsSome r) (ap (λ (o : Outcome). o.refusal) reports) some), reports, files)
 
-moves : (refusal : Option Refusal) (words : List (List ℕ)) (files : Files) (before o : Outcome) → (is_some refusal ≡ false) → IsOutcomeWithoutDemo (command_of words) files o → IsOutcomeOfNextRunUnlessRefused refusal words files before o
+moves : (refusal : Option Refusal) (words : List (List ℕ)) (files : Files) (before o : Outcome) → (is_some refusal ≡ false) → IsOutcomeWithoutDemo (command_of words) files o → IsOutcomeOfNextRunOrBeforeIfRefused refusal words files before o
 moves None words files before o none one = one
 moves (Some refusal) words files before o none one = cc
 
@@ -197,8 +197,8 @@ behind_run words change last old (Ok verdict) new none (o, one, reported, files)
 
 -- ---- all runs
 
-pub start_to : (tree : MemoryTree) (verdict : Verdict) → ((files : Files) → as_outcome files verdict ≡ just_report files []) → files_of (tree_state tree) ≡ outcome_with_demo_repositories.files → IsRunToOutcome (IsDemoOutcomeAfterPackaging 0) verdict tree
-start_to tree verdict shown files = (outcome_with_demo_repositories, refl, shown outcome_with_demo_repositories.files, files)
+pub start_to : (tree : MemoryTree) (verdict : Verdict) → ((files : Files) → as_outcome files verdict ≡ just_report files []) → files_of (tree_state tree) ≡ outcome_before_first_demo_run.files → IsRunToOutcome (IsDemoOutcomeAfterPackaging 0) verdict tree
+start_to tree verdict shown files = (outcome_before_first_demo_run, refl, shown outcome_before_first_demo_run.files, files)
 
 next_at : (i : ℕ) (last verdict : Verdict) (old new : MemoryTree) → IsRunToOutcome (IsDemoOutcomeAfterPackaging i) last old → CountsOnlyRise (mkpkg_words (suc i)) (with_demo_file (suc i)) last old verdict new → IsRunToOutcome (IsDemoOutcomeAfterPackaging (suc i)) verdict new
 next_at i last verdict old new (before, is, reports, files) on =
@@ -245,7 +245,7 @@ package_to words more files at new judged same_words same_files ran =
 pub put_to : (files new : Files) (name at bytes text : List ℕ) → new ≡ put_name files name bytes → name ≡ at → bytes ≡ text → new ≡ put_name files at text
 put_to files new name at bytes text is same_name same_text = is ∙ (ap (λ (n : List ℕ). put_name files n bytes) same_name ∙ ap (λ (t : List ℕ). put_name files at t) same_text)
 
-pub start_files : (files new : Files) (bytes : List ℕ) → new ≡ put_name files repositories_name bytes → files ≡ no_names → bytes ≡ demo_repositories → new ≡ outcome_with_demo_repositories.files
+pub start_files : (files new : Files) (bytes : List ℕ) → new ≡ put_name files repositories_name bytes → files ≡ no_names → bytes ≡ demo_repositories → new ≡ outcome_before_first_demo_run.files
 start_files files new bytes is none same =
     is ∙ (ap (λ (f : Files). put_name f repositories_name bytes) none ∙ ap (λ (b : List ℕ). put_name {X = List ℕ} no_names repositories_name b) same)
 

@@ -22,11 +22,11 @@ use Rattle.outcome.specs.Outcome.{Outcome, just_refusal}
 use Rattle.outcome.specs.Words.{IsPossibleOutcome, IsOutcome}
 use Rattle.outcome.specs.Version.{version}
 use Rattle.outcome.specs.Commands.{IsOutcomeWithoutDemo, IsOutcomeOverRecoveredFiles, IsOutcomeUnlessBadIntent, effect_outcome, reads_in}
-use Rattle.outcome.specs.Given.{IsChoiceForCommand, IsFirstClashForEffect, IsListingChoiceAndClashFor, AreNamesListedForApplet, MayBeListingChoiceAndClashFor, MayBeNamesListedForApplet, MayBeFirstClashForEffect, no_listing_choice_or_clash}
-use Rattle.outcome.specs.Effect.{Effect, Computes, OnlyReadsFiles, AsksRoot, Makes, Changes, does_only_read, does_recover, ignores_files, effect_of_arguments, effect_of, output, depends_only_on_arguments}
+use Rattle.outcome.specs.Given.{IsChoiceForCommand, IsFirstClashForEffect, IsListingChoiceAndClashFor, AreNamesListedForApplet, IsPossibleListingChoiceAndClash, ArePossibleNamesListedForApplet, IsPossibleFirstClashForEffect, no_listing_choice_or_clash}
+use Rattle.outcome.specs.Effect.{Effect, Computes, OnlyReadsFiles, AsksRoot, Makes, Changes, does_neither_recover_nor_write, does_recover, ignores_files, effect_of_arguments, effect_of, output, depends_only_on_arguments}
 use Rattle.outcome.specs.Work.{recovery_fault, files_recovered_if_needed}
 use Rattle.base_core.specs.declared.cause.Cause.{Cause}
-use Rattle.apk_front.specs.Answers.{IsAnswerOfSomeOutcomeOrFailure, LeavesFiles, LeavesAnyFiles, IsAnswerExplainedByCounts, IsFaultless, AnswersOutcomeUnlessMemory, IsAnsweredInFull, DidNotFail, FailedWithBytesToPrint, answer_for_refusal}
+use Rattle.apk_front.specs.Answers.{IsAnswerOfSomeOutcomeOrFailure, LeavesFiles, LeavesAnyFiles, AnswerTellsWhetherTreeOrSinkFailed, IsFaultless, AnswersOutcomeUnlessMemory, IsAnsweredInFull, DidNotFail, FailedWithBytesToPrint, answer_for_refusal}
 use Rattle.apk_front.specs.Runs.{IsRunWithRecovery}
 use Rattle.apk_front.specs.Verdicts.{as_outcome, IsPrinted, IsVerdictPrinted, Reports, ReportsOneOfOutcomes, read_only_outcome}
 use Rattle.apk_front.proofs.Printing.{either_failed}
@@ -40,41 +40,41 @@ pub usage_over : (words : List (List ℕ)) (place : ℕ) (files : Files) → com
 usage_over words place files is = subst (λ (r : Result CommandLine ℕ). IsOutcome r files (just_refusal files (Usage place))) (sym is) refl
 
 -- an applet that only reads lists and chooses nothing
-no_listing : (applet : Applet) (command : CommandLine) (files : Files) → does_only_read (effect_of applet) ≡ true → AreNamesListedForApplet applet command files []
+no_listing : (applet : Applet) (command : CommandLine) (files : Files) → does_neither_recover_nor_write (effect_of applet) ≡ true → AreNamesListedForApplet applet command files []
 no_listing Mkpkg command files reads = cc
 no_listing other command files reads = refl
 
-no_listing_by_some : (applet : Applet) (command : CommandLine) → does_only_read (effect_of applet) ≡ true → MayBeNamesListedForApplet applet command []
+no_listing_by_some : (applet : Applet) (command : CommandLine) → does_neither_recover_nor_write (effect_of applet) ≡ true → ArePossibleNamesListedForApplet applet command []
 no_listing_by_some Mkpkg command reads = cc
 no_listing_by_some other command reads = refl
 
-no_choice : (effect : Effect) (command : CommandLine) (read : Reads) → does_only_read effect ≡ true → IsChoiceForCommand effect command read None
+no_choice : (effect : Effect) (command : CommandLine) (read : Reads) → does_neither_recover_nor_write effect ≡ true → IsChoiceForCommand effect command read None
 no_choice Changes command read reads = cc
 no_choice other command read reads = refl
 
-no_clash : (effect : Effect) (command : CommandLine) (read : Reads) (files : Files) → does_only_read effect ≡ true → IsFirstClashForEffect effect command read files None None
+no_clash : (effect : Effect) (command : CommandLine) (read : Reads) (files : Files) → does_neither_recover_nor_write effect ≡ true → IsFirstClashForEffect effect command read files None None
 no_clash Changes command read files reads = cc
 no_clash other command read files reads = refl
 
-no_clash_by_some : (effect : Effect) (command : CommandLine) (read : Reads) (files : Files) → does_only_read effect ≡ true → MayBeFirstClashForEffect effect command read files None None
+no_clash_by_some : (effect : Effect) (command : CommandLine) (read : Reads) (files : Files) → does_neither_recover_nor_write effect ≡ true → IsPossibleFirstClashForEffect effect command read files None None
 no_clash_by_some Changes command read files reads = absurd (cc)
 no_clash_by_some other command read files reads = refl
 
-pub none_given : (command : CommandLine) (read : Reads) (files : Files) → does_only_read (effect_of command.applet) ≡ true → IsListingChoiceAndClashFor command read files no_listing_choice_or_clash
+pub none_given : (command : CommandLine) (read : Reads) (files : Files) → does_neither_recover_nor_write (effect_of command.applet) ≡ true → IsListingChoiceAndClashFor command read files no_listing_choice_or_clash
 none_given command read files reads = record {
   names = no_listing command.applet command files reads;
   chosen = no_choice (effect_of command.applet) command read reads;
   clash = no_clash (effect_of command.applet) command read files reads;
 }
 
-pub none_by_some : (command : CommandLine) (read : Reads) (files : Files) → does_only_read (effect_of command.applet) ≡ true → MayBeListingChoiceAndClashFor command read files no_listing_choice_or_clash
+pub none_by_some : (command : CommandLine) (read : Reads) (files : Files) → does_neither_recover_nor_write (effect_of command.applet) ≡ true → IsPossibleListingChoiceAndClash command read files no_listing_choice_or_clash
 none_by_some command read files reads = record {
   names = no_listing_by_some command.applet command reads;
   chosen = no_choice (effect_of command.applet) command read reads;
   clash = no_clash_by_some (effect_of command.applet) command read files reads;
 }
 
-pub words_read : (effect : Effect) → ignores_files effect ≡ true → does_only_read effect ≡ true
+pub words_read : (effect : Effect) → ignores_files effect ≡ true → does_neither_recover_nor_write effect ≡ true
 words_read Computes rests = refl
 words_read OnlyReadsFiles rests = refl
 words_read AsksRoot rests = cc
@@ -83,7 +83,7 @@ words_read Changes rests = cc
 
 -- ---- a command that does not recover
 
-pub reads_without : (effect : Effect) → does_only_read effect ≡ true → does_recover effect ≡ false
+pub reads_without : (effect : Effect) → does_neither_recover_nor_write effect ≡ true → does_recover effect ≡ false
 reads_without Computes reads = refl
 reads_without OnlyReadsFiles reads = refl
 reads_without AsksRoot reads = cc
@@ -114,7 +114,7 @@ over_of command files o none of =
     subst (λ (f : Files). IsOutcomeOverRecoveredFiles command f o) (work_without (effect_of command.applet) files none)
     (subst (λ (fault : Option Cause). IsOutcomeUnlessBadIntent fault command files o) (fault_without (effect_of command.applet) files none) of)
 
-pub ran_over : (command : CommandLine) (files : Files) (o : Outcome) → does_only_read (effect_of command.applet) ≡ true → o ≡ read_only_outcome command (reads_in files) files → IsOutcomeWithoutDemo (Ok command) files o
+pub ran_over : (command : CommandLine) (files : Files) (o : Outcome) → does_neither_recover_nor_write (effect_of command.applet) ≡ true → o ≡ read_only_outcome command (reads_in files) files → IsOutcomeWithoutDemo (Ok command) files o
 ran_over command files o reads ran = of_over command files o (reads_without (effect_of command.applet) reads) (no_listing_choice_or_clash, none_given command (reads_in files) files reads, ran)
 
 pub usage_verdict : (words : List (List ℕ)) (p q : ℕ) (fault : WordsFault) (verdict : Verdict) → p ≡ q → fault ≡ WrongWord q → IsWordsFault fault (command_of words)
@@ -266,7 +266,7 @@ which_failed : (o : Outcome) (out err : SinkBeforeAndAfter) → (FailedWithBytes
 which_failed o out err (inl (failed, gets, kept)) = inl (failed.failed, kept)
 which_failed o out err (inr (failed, gets, kept)) = inr (failed.failed, kept)
 
-printed_causes : (before after : Counts) (o : Outcome) (answer : Answer) (out err : SinkBeforeAndAfter) → CountsNoNewFault before after → IsPrinted o answer out err → IsAnswerExplainedByCounts answer before after out err
+printed_causes : (before after : Counts) (o : Outcome) (answer : Answer) (out err : SinkBeforeAndAfter) → CountsNoNewFault before after → IsPrinted o answer out err → AnswerTellsWhetherTreeOrSinkFailed answer before after out err
 printed_causes before after o Good out err kept printed = (kept, printed.out_kept, printed.err_kept)
 printed_causes before after o (Refused refusal) out err kept printed = (kept, printed.out_kept, printed.err_kept)
 printed_causes before after o OutFault out err kept printed = (kept, which_failed o out err printed.which)
@@ -274,7 +274,7 @@ printed_causes before after o TreeFailed out err kept printed = absurd printed
 printed_causes before after o Memory out err kept printed = absurd printed
 
 pub caused : (before after : Counts) (judged : Judged) (answer : Answer) (out err : SinkBeforeAndAfter) → OnOk judged (CountsNoNewFault before after) → (IsErrOf judged Disk → IsFaultCountedWithCause before after)
-    → (IsErrOf judged NoMemory → CountsNoNewFault before after) → IsVerdictPrinted judged answer out err → IsAnswerExplainedByCounts answer before after out err
+    → (IsErrOf judged NoMemory → CountsNoNewFault before after) → IsVerdictPrinted judged answer out err → AnswerTellsWhetherTreeOrSinkFailed answer before after out err
 caused before after (Ok verdict) answer out err kept disk memory is_shown = printed_causes before after (as_outcome no_names verdict) answer out err kept (is_shown no_names)
-caused before after (Err Disk) answer out err kept disk memory is_shown = subst (λ (a : Answer). IsAnswerExplainedByCounts a before after out err) (sym is_shown.0) (disk refl, is_shown.1)
-caused before after (Err NoMemory) answer out err kept disk memory is_shown = subst (λ (a : Answer). IsAnswerExplainedByCounts a before after out err) (sym is_shown.0) (memory refl, is_shown.1)
+caused before after (Err Disk) answer out err kept disk memory is_shown = subst (λ (a : Answer). AnswerTellsWhetherTreeOrSinkFailed a before after out err) (sym is_shown.0) (disk refl, is_shown.1)
+caused before after (Err NoMemory) answer out err kept disk memory is_shown = subst (λ (a : Answer). AnswerTellsWhetherTreeOrSinkFailed a before after out err) (sym is_shown.0) (memory refl, is_shown.1)

@@ -27,7 +27,7 @@ use Rattle.make_core.specs.make_info.Reads.{Reads}
 use Rattle.outcome.specs.Commands.{reads_in}
 use Rattle.outcome.specs.Outcome.{just_refusal, just_report, just_report_unless_refusal}
 use Rattle.outcome.specs.Verify.{file_refusal, sound_lines, verify, verify_refusal}
-use Rattle.outcome.specs.Version.{invalid_version_line, invalid_version_lines, order_line, version_order_report, version_refusal}
+use Rattle.outcome.specs.Version.{line_if_invalid_version, invalid_version_lines, order_line, version_order_report, version_refusal}
 use Rattle.report_core.specs.declared.refusal.Refusal.{Refusal}
 use Rattle.report_core.specs.declared.refusal.Refusal.TheVariants.{VersionBad}
 use Rattle.version_core.specs.Order.{is_version, version_cmp}
@@ -243,11 +243,11 @@ valid_more os i o at e = rw (left_at os i o at) (rw e refl)
 pub invalid_here : (os : List Operand) (i : ℕ) (o : Operand) → slice_get os i ≡ Some o → is_version o.text ≡ false → version_refusal (drop i os) ≡ Some (VersionBad o.place)
 invalid_here os i o at e = rw (left_at os i o at) (rw e refl)
 
-pub invalid_more : (os : List Operand) (i : ℕ) (o : Operand) (report now text : List ℕ) → slice_get os i ≡ Some o → text ≡ o.text → now ≡ report ++ invalid_version_line text
+pub invalid_more : (os : List Operand) (i : ℕ) (o : Operand) (report now text : List ℕ) → slice_get os i ≡ Some o → text ≡ o.text → now ≡ report ++ line_if_invalid_version text
     → report ++ invalid_version_lines (drop i os) ≡ invalid_version_lines os → now ++ invalid_version_lines (drop (i + 1) os) ≡ invalid_version_lines os
 invalid_more os i o report now text at is so h =
-    ap (λ (l : List ℕ). l ++ invalid_version_lines (drop (i + 1) os)) (so ∙ ap (λ (t : List ℕ). report ++ invalid_version_line t) is)
-    ∙ append_assoc report (invalid_version_line o.text) (invalid_version_lines (drop (i + 1) os))
+    ap (λ (l : List ℕ). l ++ invalid_version_lines (drop (i + 1) os)) (so ∙ ap (λ (t : List ℕ). report ++ line_if_invalid_version t) is)
+    ∙ append_assoc report (line_if_invalid_version o.text) (invalid_version_lines (drop (i + 1) os))
     ∙ ap (λ (l : List Operand). report ++ invalid_version_lines l) (sym (left_at os i o at)) ∙ h
 
 three_not_two : (n : ℕ) → suc (suc (suc n)) ≡ 2 → ⊥

@@ -22,7 +22,7 @@ use Rattle.report_core.specs.declared.refusal.Refusal.{Refusal}
 use Rattle.outcome.proofs.Applets.{report_is, told_commits, told_files}
 use Rattle.outcome.specs.Commands.{IsPossibleOutcomeAfterRecovery, reads_in}
 use Rattle.outcome.specs.Effect.{AsksRoot, Effect, effect_of, output_name_for_effect}
-use Rattle.outcome.specs.Given.{IsChoiceForCommand, IsFirstClashForEffect, IsListingChoiceAndClashFor, AreNamesListedForApplet, MayBeListingChoiceAndClashFor, MayBeNamesListedForApplet, MayBeFirstClashForEffect, no_listing_choice_or_clash}
+use Rattle.outcome.specs.Given.{IsChoiceForCommand, IsFirstClashForEffect, IsListingChoiceAndClashFor, AreNamesListedForApplet, IsPossibleListingChoiceAndClash, ArePossibleNamesListedForApplet, IsPossibleFirstClashForEffect, no_listing_choice_or_clash}
 use Rattle.outcome.specs.Outcome.{Outcome}
 use Rattle.outcome.specs.OutcomeOfReport.{outcome_of_report}
 use Rattle.apk_front.specs.Runs.{IfNothingStaged, IsRunAfterRecovery}
@@ -54,15 +54,15 @@ are_given command read files tells = record {
   clash = subst (λ (e : Effect). IsFirstClashForEffect e command read files None None) (sym tells) refl;
 }
 
-tells_some : (applet : Applet) (command : CommandLine) → effect_of applet ≡ AsksRoot → MayBeNamesListedForApplet applet command []
+tells_some : (applet : Applet) (command : CommandLine) → effect_of applet ≡ AsksRoot → ArePossibleNamesListedForApplet applet command []
 tells_some Mkpkg command tells = absurd (cc (tells))
 tells_some other command tells = refl
 
-may_be_given : (command : CommandLine) (read : Reads) (files : Files) → effect_of command.applet ≡ AsksRoot → MayBeListingChoiceAndClashFor command read files no_listing_choice_or_clash
+may_be_given : (command : CommandLine) (read : Reads) (files : Files) → effect_of command.applet ≡ AsksRoot → IsPossibleListingChoiceAndClash command read files no_listing_choice_or_clash
 may_be_given command read files tells = record {
   names = tells_some command.applet command tells;
   chosen = subst (λ (e : Effect). IsChoiceForCommand e command read None) (sym tells) refl;
-  clash = subst (λ (e : Effect). MayBeFirstClashForEffect e command read files None None) (sym tells) refl;
+  clash = subst (λ (e : Effect). IsPossibleFirstClashForEffect e command read files None None) (sym tells) refl;
 }
 
 -- ---- what was answered as wanted is reported so

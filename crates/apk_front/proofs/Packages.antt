@@ -10,9 +10,9 @@ use Rattle.command_core.specs.declared.values.TheConstants.{FILES, SCRIPT}
 use Rattle.make_core.specs.make_info.Information.{FieldWithValue, information}
 use Rattle.make_core.specs.make_info.Reads.{Reads}
 use Rattle.make_core.specs.make_info.declared.fault.MakeFault.{MakeFault}
-use Rattle.make_core.specs.make_package.Answers.{AreNamesBelowFirstOption, IsMadeFromTree}
+use Rattle.make_core.specs.make_package.Answers.{IsSortedListingOfFirstFolder, IsMadeFromTree}
 use Rattle.make_core.specs.make_package.Making.{made_package, or_info_bad, package_of_parts}
-use Rattle.make_core.specs.package_files.Sources.{and_then, source_folders_of_first_option, values_of_letter, scripts_from_read}
+use Rattle.make_core.specs.package_files.Sources.{and_then, source_folders_of_first_option_only, values_of_letter, scripts_from_read}
 use Rattle.outcome.specs.Commands.{reads_in}
 use Rattle.outcome.specs.Make.{AreNamesBelowOptionFolder, files_below}
 use Rattle.apk_front.specs.Containers.{IsPackageMade}
@@ -27,13 +27,13 @@ no_folder : (command : CommandLine) (read : Reads) (names others : List (List �
 unfolding made_package
 no_folder command read names others none =
     let by : List OptionValue → List (List ℕ) → Result (List ℕ) MakeFault = λ values ns.
-    and_then (scripts_from_read read 0 (values_of_letter SCRIPT command.values)) (λ scripts. and_then (or_info_bad (information command)) (λ about. and_then (source_folders_of_first_option read (length scripts) values ns) (package_of_parts command scripts about))) in
+    and_then (scripts_from_read read 0 (values_of_letter SCRIPT command.values)) (λ scripts. and_then (or_info_bad (information command)) (λ about. and_then (source_folders_of_first_option_only read (length scripts) values ns) (package_of_parts command scripts about))) in
     ap (λ values. by values names) none ∙ sym (ap (λ values. by values others) none)
 
 pub package_here : HaveListing → (command : CommandLine) (v : TreeState) (made : Result (List ℕ) MakeFault) → IsMadeFromTree command v made → IsPackageMade command (files_of v) made
 package_here law command v made m = by_values (values_of_letter FILES command.values) refl m.below
   where
-    by_values : (values : List OptionValue) → values_of_letter FILES command.values ≡ values → AreNamesBelowFirstOption values v m.names → IsPackageMade command (files_of v) made
+    by_values : (values : List OptionValue) → values_of_letter FILES command.values ≡ values → IsSortedListingOfFirstFolder values v m.names → IsPackageMade command (files_of v) made
     by_values [] is listed = record {
       names = [];
       listing = subst (λ (vs : List OptionValue). AreNamesBelowOptionFolder vs (files_of v) []) (sym is) refl;
@@ -58,6 +58,6 @@ info_ok (Err place) about h = cc
 pub made_allowed : (command : CommandLine) (names : List (List ℕ)) (read : Reads) (file : List ℕ) → made_package command names read ≡ Ok file → is_ok (information command) ≡ true
 unfolding made_package
 made_allowed command names read file h =
-    let (scripts, one, more) = after_ok (scripts_from_read read 0 (values_of_letter SCRIPT command.values)) (λ scripts. and_then (or_info_bad (information command)) (λ about. and_then (source_folders_of_first_option read (length scripts) (values_of_letter FILES command.values) names) (package_of_parts command scripts about))) file h in
-    let (about, two, last) = after_ok (or_info_bad (information command)) (λ about. and_then (source_folders_of_first_option read (length scripts) (values_of_letter FILES command.values) names) (package_of_parts command scripts about)) file more in
+    let (scripts, one, more) = after_ok (scripts_from_read read 0 (values_of_letter SCRIPT command.values)) (λ scripts. and_then (or_info_bad (information command)) (λ about. and_then (source_folders_of_first_option_only read (length scripts) (values_of_letter FILES command.values) names) (package_of_parts command scripts about))) file h in
+    let (about, two, last) = after_ok (or_info_bad (information command)) (λ about. and_then (source_folders_of_first_option_only read (length scripts) (values_of_letter FILES command.values) names) (package_of_parts command scripts about)) file more in
     info_ok (information command) about two

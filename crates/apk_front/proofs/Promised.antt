@@ -8,7 +8,7 @@ use Rattle.command_core.specs.Command.{CommandLine}
 use Rattle.command_core.specs.declared.command.Applet.{Applet}
 use Rattle.command_core.specs.declared.command.Applet.TheVariants.{Demo, Mkndx, Mkpkg}
 use Rattle.journal_core.specs.Staged.{unstaged_files}
-use Rattle.outcome.specs.Effect.{Effect, Changes, Makes, AsksRoot, does_only_read, effect_of_arguments, effect_of}
+use Rattle.outcome.specs.Effect.{Effect, Changes, Makes, AsksRoot, does_neither_recover_nor_write, effect_of_arguments, effect_of}
 use Rattle.engine_core.specs.journal_commit.Asked.{TargetsAreAccepted, RecoveryChangesOnlyAcceptedNames}
 use Rattle.words_core.specs.Grammar.{command_of}
 use Rattle.apk_front.specs.Moments.{EachRecoveryChangesOnlyAcceptedNames}
@@ -56,8 +56,8 @@ changes_not_demo applet is changes = let by : effect_of Demo ≡ Changes = ap ef
 pub changes_not_told : (effect : Effect) → effect ≡ AsksRoot → effect ≡ Changes → ⊥
 changes_not_told effect tells changes = cc (tells, changes)
 
-pub changes_not_read : (effect : Effect) → does_only_read effect ≡ true → effect ≡ Changes → ⊥
-changes_not_read effect reads changes = let by : does_only_read Changes ≡ true = ap does_only_read (sym changes) ∙ reads in cc (by)
+pub changes_not_read : (effect : Effect) → does_neither_recover_nor_write effect ≡ true → effect ≡ Changes → ⊥
+changes_not_read effect reads changes = let by : does_neither_recover_nor_write Changes ≡ true = ap does_neither_recover_nor_write (sym changes) ∙ reads in cc (by)
 
 -- ---- by the command that is read
 

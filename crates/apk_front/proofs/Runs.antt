@@ -22,7 +22,7 @@ use Rattle.outcome.specs.Effect.{Effect, Makes}
 use Rattle.outcome.specs.Make.{make_outcome}
 use Rattle.outcome.specs.Outcome.{Outcome, commit_report, just_refusal, just_report}
 use Rattle.report_core.specs.declared.refusal.Refusal.TheVariants.{Reserved}
-use Rattle.apk_front.specs.Moments.{AreStatesOldOrLeadToOutcome, CanAddOutputNamesIfAny, IgnoresScratchNameOfOutput, IsDurableAndLeavesFiles, IsStateDuringRun, OutcomeCommitsOrCrashesLeaveFilesAsRead, NamesAreDurableWithoutIntentExcept, ignored_except_output, is_temporary_name, output_names}
+use Rattle.apk_front.specs.Moments.{AreStatesOldOrLeadToOutcome, CanAddOutputNamesIfAny, IgnoresOutputScratchNameButNotIntent, IsDurableAndLeavesFiles, IsStateDuringRun, OutcomeCommitsOrCrashesLeaveFilesAsRead, NamesAreDurableWithoutIntentExcept, ignored_except_output, is_temporary_name, output_names}
 use Rattle.apk_front.specs.RunContracts.{IsMakingRun}
 use Rattle.apk_front.specs.Runs.{AreFilesReadWithoutRecovery, IsRunAfterRecovery}
 use Rattle.apk_front.specs.Verdicts.{Reports, as_outcome}
@@ -55,15 +55,15 @@ abbrev pub Leaves : Files → Outcome → Type 0
 Leaves files o = (o.files ≡ files) × (o.commits ≡ false)
 
 -- so an outcome leaves the files, where it was judged
-abbrev pub IsEventWithoutCommit : (Outcome → Type 0) → Judged → TreeState → Type 0
-IsEventWithoutCommit IsOne judged v = (o : Outcome) → IsOne o → OnOk judged (Leaves (files_of v) o)
+abbrev pub IsEventWithoutCommitOrEdit : (Outcome → Type 0) → Judged → TreeState → Type 0
+IsEventWithoutCommitOrEdit IsOne judged v = (o : Outcome) → IsOne o → OnOk judged (Leaves (files_of v) o)
 
 -- what commits nothing is settled where it was so before
 pub settled_before : (ignored : List ℕ → Bool) (v : TreeState) (o : Outcome) → o.commits ≡ false → OutcomeCommitsOrCrashesLeaveFilesAsRead ignored v o → EachCrashLeavesStateOf ignored (files_of v) v
 settled_before ignored v o none (inl commits) = absurd (false≢true (sym none ∙ commits))
 settled_before ignored v o none (inr before) = before
 
-pub run_idle : (IsOne : Outcome → Type 0) (effect : Effect) (output : Option (List ℕ)) (judged : Judged) (v : TreeState) (rest now : History) → now ≡ v ∷ rest → IsEventWithoutCommit IsOne judged v → IsRunAfterRecovery IsOne effect output judged v (v ∷ rest) now
+pub run_idle : (IsOne : Outcome → Type 0) (effect : Effect) (output : Option (List ℕ)) (judged : Judged) (v : TreeState) (rest now : History) → now ≡ v ∷ rest → IsEventWithoutCommitOrEdit IsOne judged v → IsRunAfterRecovery IsOne effect output judged v (v ∷ rest) now
 run_idle IsOne effect output judged v rest now same idle = record {
   moments = λ ignored is_durable hides. inl (record { added = []; is = same; each = All-nil (StateIsUnchanged ignored v) });
   is_durable = λ ignored is_durable hides. subst (λ (h : History). HoldsNow h (IsDurable (StateDependsOn ignored))) (sym same) is_durable;
@@ -76,7 +76,7 @@ run_idle IsOne effect output judged v rest now same idle = record {
   idle = λ o one no. same;
 }
 
-pub idle_at : (IsOne : TreeState → Outcome → Type 0) (effect : Effect) (output : Option (List ℕ)) (judged : Judged) (old now : History) → now ≡ old → ((v : TreeState) → IsEventWithoutCommit (IsOne v) judged v) → IfObservable old (λ v. IsRunAfterRecovery (IsOne v) effect output judged v old now)
+pub idle_at : (IsOne : TreeState → Outcome → Type 0) (effect : Effect) (output : Option (List ℕ)) (judged : Judged) (old now : History) → now ≡ old → ((v : TreeState) → IsEventWithoutCommitOrEdit (IsOne v) judged v) → IfObservable old (λ v. IsRunAfterRecovery (IsOne v) effect output judged v old now)
 idle_at IsOne effect output judged [] now same idle = tt
 idle_at IsOne effect output judged (v ∷ rest) now same idle = run_idle (IsOne v) effect output judged v rest now same (idle v)
 
@@ -216,7 +216,7 @@ free_run : ImageHasState → (output : Option (List ℕ)) (report file name : Li
     → IsReplaced name file judged v old now → IsRunAfterRecovery (IsMade output report file v) Makes output judged v old now
 free_run law output report file name judged v old now is free done =
     let same = free_is output report file name (files_of v) is free in
-    let hidden : (ignored : List ℕ → Bool) → IgnoresScratchNameOfOutput output ignored → IgnoresScratchNameButNotIntent ignored name = λ ignored hides. subst (λ (out : Option (List ℕ)). IgnoresScratchNameOfOutput out ignored) is hides in
+    let hidden : (ignored : List ℕ → Bool) → IgnoresOutputScratchNameButNotIntent output ignored → IgnoresScratchNameButNotIntent ignored name = λ ignored hides. subst (λ (out : Option (List ℕ)). IgnoresOutputScratchNameButNotIntent out ignored) is hides in
     let left : (o : Outcome) → IsMade output report file v o → files_after_replacement name file (files_of v) ≡ o.files = λ o one. sym (ap (λ (x : Outcome). x.files) (one ∙ same)) in
     record {
       moments = λ ignored is_durable hides. subst (λ (out : Option (List ℕ)). AreStatesOldOrLeadToOutcome (IsMade output report file v) (is_some out) ignored v old now) (sym is)

@@ -9,7 +9,7 @@ use Rattle.base_core.specs.declared.cause.Cause.{Cause}
 use Rattle.base_core.specs.declared.tree.TreeFault.TheVariants.{Disk, Memory as NoMemory}
 use Rattle.base_core.proofs.Counting.{cause_later, goes_on_same, goes_on_twice, no_fault_same, no_fault_twice}
 use Rattle.command_core.specs.Command.{CommandLine}
-use Rattle.journal_core.specs.Staged.{AreJournalPathsFreeIfIntentIsReplayed}
+use Rattle.journal_core.specs.Staged.{AreJournalPathsFreeAfterReplayIfAny}
 use Rattle.journal_core.specs.declared.fault.RecoverFault.{RecoverFault}
 use Rattle.journal_core.specs.declared.fault.RecoverFault.TheVariants as Faults
 use Rattle.outcome.specs.Commands.{IsPossibleOutcomeWithoutDemo, IsPossibleOutcomeAfterRecovery}
@@ -78,7 +78,7 @@ counted_unrecovered fault judged a b on disk memory bad refused by_disk by_memor
     kept (Err e) refused = tt
 
 pub unrecovered_proper : (effect : Effect) (output : Option (List ℕ)) (IsOne : TreeState → Outcome → Type 0) (old : History) (P : Type 0) → does_recover effect ≡ true
-    → IfObservable old (λ v. AreJournalPathsFreeIfIntentIsReplayed (files_of v) → P) → IfObservable old (λ v. AreRecoveryAndOutcomePathsFree effect output (IsOne v) (files_of v) → P)
+    → IfObservable old (λ v. AreJournalPathsFreeAfterReplayIfAny (files_of v) → P) → IfObservable old (λ v. AreRecoveryAndOutcomePathsFree effect output (IsOne v) (files_of v) → P)
 unrecovered_proper effect output IsOne [] P recovering proper = tt
 unrecovered_proper effect output IsOne (v ∷ rest) P recovering proper = λ free. proper (free.0 recovering)
 

@@ -115,18 +115,19 @@ LeavesAnyFiles outcome = Unit {0}
 -- and a refusal nothing failed. An I/O error of the tree has its cause there. After a fault of a sink
 -- exactly one sink failed, and the tree did not. Out of memory is answered only if the tree did not
 -- fail. After an I/O error of the tree, and out of memory, exactly its line is printed.
-abbrev pub IsAnswerExplainedByCounts : Answer → Counts → Counts → SinkBeforeAndAfter → SinkBeforeAndAfter
+abbrev pub AnswerTellsWhetherTreeOrSinkFailed : Answer → Counts → Counts → SinkBeforeAndAfter
+    → SinkBeforeAndAfter
     → Type 0
-IsAnswerExplainedByCounts Ok before after out err =
+AnswerTellsWhetherTreeOrSinkFailed Ok before after out err =
     CountsNoNewFault before after × DidNotFail out × DidNotFail err
-IsAnswerExplainedByCounts (Refused refusal) before after out err =
+AnswerTellsWhetherTreeOrSinkFailed (Refused refusal) before after out err =
     CountsNoNewFault before after × DidNotFail out × DidNotFail err
-IsAnswerExplainedByCounts TreeFault before after out err =
+AnswerTellsWhetherTreeOrSinkFailed TreeFault before after out err =
     IsFaultCountedWithCause before after × PrintsOnlyErrorLine tree_failure_line out err
-IsAnswerExplainedByCounts OutFault before after out err =
+AnswerTellsWhetherTreeOrSinkFailed OutFault before after out err =
     CountsNoNewFault before after
     × ((SinkFailed out × DidNotFail err) ⊎ (SinkFailed err × DidNotFail out))
-IsAnswerExplainedByCounts Memory before after out err =
+AnswerTellsWhetherTreeOrSinkFailed Memory before after out err =
     CountsNoNewFault before after × PrintsOnlyErrorLine out_of_memory_line out err
 
 -- a run in which no count of faults rose: neither the tree's, nor a sink's

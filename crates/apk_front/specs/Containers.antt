@@ -11,7 +11,7 @@ use Rattle.base_core.specs.Files.{Files}
 use Rattle.base_core.specs.declared.cause.Cause.{Cause}
 use Rattle.command_core.specs.Command.{CommandLine}
 use Rattle.command_core.specs.declared.values.TheConstants.{FILES}
-use Rattle.make_core.specs.make_index.Files.{OperandReadsFindOnlyValidFileBytes}
+use Rattle.make_core.specs.make_index.Files.{EachOperandReadFindsNoFileOrFileBytes}
 use Rattle.make_core.specs.make_index.Index.{made_index}
 use Rattle.make_core.specs.make_info.Reads.{Reads}
 use Rattle.make_core.specs.make_info.declared.fault.MakeFault.{MakeFault}
@@ -105,6 +105,6 @@ pub record IsIndexFound (command : CommandLine) (made : Result (List ℕ) MakeFa
   -- some contents for each read; under an operand it finds nothing, or bytes that a file may have
   pub read : Reads
   -- under each operand the read finds nothing, or bytes that a file may have
-  pub files : OperandReadsFindOnlyValidFileBytes read 0 command.operands
+  pub files : EachOperandReadFindsNoFileOrFileBytes read 0 command.operands
   -- the index of these reads, or the reason for which none is made
   pub is : made_index command read ≡ made

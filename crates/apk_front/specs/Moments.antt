@@ -9,11 +9,11 @@ use Rattle.base_core.specs.Undone.{IsDurable}
 use Rattle.base_core.specs.Files.{Files}
 use Rattle.base_core.specs.Restart.{SinceGivenEarlier}
 use Rattle.base_core.specs.Tree.{TreeState, files_of}
-use Rattle.journal_core.specs.Kept.{HasOldOrNewBytesOutsideJournal, JournalOnlyShrinks, NamesOutsideJournalAreDurableExcept}
+use Rattle.journal_core.specs.Kept.{ReadsOldOrNewBytesOutsideJournal, JournalOnlyShrinks, NamesOutsideJournalAreDurableExcept}
 use Rattle.journal_core.specs.Quiet.{StateIsUnchanged}
 use Rattle.journal_core.specs.Recovery.{EachCrashLeavesStateOf, StateDependsOn, intent_name, intent_of, is_staged}
 use Rattle.journal_core.specs.Replacing.{CanAddOutputNames, IgnoresScratchNameButNotIntent, IsMomentOfReplacing, scratch_name_of}
-use Rattle.journal_core.specs.Staged.{AreJournalPathsFreeIfIntentIsReplayed, HasEmptyStageAndFreeJournalPaths, HasNoStagedNames, IsOldUntilCommit, unstaged_files}
+use Rattle.journal_core.specs.Staged.{AreJournalPathsFreeAfterReplayIfAny, HasEmptyStageAndFreeJournalPaths, HasNoStagedNames, IsOldUntilCommit, unstaged_files}
 use Rattle.outcome.specs.Effect.{Effect, Computes, OnlyReadsFiles, AsksRoot, Makes, Changes, does_recover, effect_of_arguments, output}
 use Rattle.outcome.specs.Outcome.{Outcome}
 use Rattle.outcome.specs.Words.{IsOutcome}
@@ -31,9 +31,9 @@ output_names None = []
 output_names (Some name) = name ∷ scratch_name_of name ∷ []
 
 -- the ignored names contain the scratch name of an output, and not the name of the intent
-abbrev pub IgnoresScratchNameOfOutput : Option (List ℕ) → (List ℕ → Bool) → Type 0
-IgnoresScratchNameOfOutput None ignored = Unit {0}
-IgnoresScratchNameOfOutput (Some name) ignored = IgnoresScratchNameButNotIntent ignored name
+abbrev pub IgnoresOutputScratchNameButNotIntent : Option (List ℕ) → (List ℕ → Bool) → Type 0
+IgnoresOutputScratchNameButNotIntent None ignored = Unit {0}
+IgnoresOutputScratchNameButNotIntent (Some name) ignored = IgnoresScratchNameButNotIntent ignored name
 
 -- whether a name is ignored, if the output and its scratch name are no longer ignored
 abbrev pub ignored_except_output : Option (List ℕ) → (List ℕ → Bool) → List ℕ → Bool
@@ -60,13 +60,13 @@ ArePathsToWriteFree Changes output files = HasEmptyStageAndFreeJournalPaths file
 -- that the command writes in the recovered files, if its outcome commits.
 abbrev pub AreRecoveryAndOutcomePathsFree : Effect → Option (List ℕ) → (Outcome → Type 0) → Files → Type 0
 AreRecoveryAndOutcomePathsFree effect output IsOne files =
-    (does_recover effect ≡ true → AreJournalPathsFreeIfIntentIsReplayed files)
+    (does_recover effect ≡ true → AreJournalPathsFreeAfterReplayIfAny files)
     × ((outcome : Outcome) → IsOne outcome → outcome.commits ≡ true
     → ArePathsToWriteFree effect output (files_recovered_if_needed effect files))
 
 -- the paths that a run of this command line writes are free
-abbrev pub AreRunPathsFree : List (List ℕ) → Files → Type 0
-AreRunPathsFree words files =
+abbrev pub AreRunPathsOfCommandLineFree : List (List ℕ) → Files → Type 0
+AreRunPathsOfCommandLineFree words files =
     AreRecoveryAndOutcomePathsFree (effect_of_arguments (command_of words)) (output words)
     (IsOutcome (command_of words)
     files)
@@ -99,7 +99,7 @@ pub record IsCommittedChange (effect : Effect) (new old : Files) (w : TreeState)
   -- recovery of the files in w yields the new files
   pub leads : unstaged_files (files_of w) ≡ new
   -- each name outside the staging area has its old bytes or its new ones
-  pub bytes : HasOldOrNewBytesOutsideJournal old new w
+  pub bytes : ReadsOldOrNewBytesOutsideJournal old new w
 
 -- the files as read are the old ones, except under temporary names; or a change to the new files is
 -- committed and in progress; or the files as read are the new ones
@@ -117,15 +117,15 @@ HasNothingToRecover effect v =
     (does_recover effect ≡ false) ⊎ ((v.names intent_name ≡ None) × HasNoStagedNames v.names)
 
 -- a run can recover: its command does, and the file under the intent's name is an intent
-abbrev pub FindsValidIntentToRecover : Effect → TreeState → Type 0
-FindsValidIntentToRecover effect v = (does_recover effect ≡ true) × IsSome (intent_of (files_of v))
+abbrev pub RecoversAndFindsValidIntent : Effect → TreeState → Type 0
+RecoversAndFindsValidIntent effect v = (does_recover effect ≡ true) × IsSome (intent_of (files_of v))
 
 -- w is a state during a recovery that began in state v
 pub record IsStateDuringRecovery (v w : TreeState) : Type 0 where
   -- recovery of the files in w yields the same files as recovery of the files in v
   pub reads : unstaged_files (files_of w) ≡ unstaged_files (files_of v)
   -- each name outside the staging area has its bytes in v or its recovered bytes
-  pub bytes : HasOldOrNewBytesOutsideJournal (files_of v) (unstaged_files (files_of v)) w
+  pub bytes : ReadsOldOrNewBytesOutsideJournal (files_of v) (unstaged_files (files_of v)) w
   -- the intent and each staged file is unchanged or removed
   pub waiting : JournalOnlyShrinks v w
 
@@ -138,10 +138,10 @@ IsStateDuringRecoveryOrNext effect IsNext v w =
 -- Except while the tree is recovered, the files as read are those on which the command works
 -- (*files_recovered_if_needed*). Or the run has an outcome that commits, and its states are those of such a run
 -- (*IsStateDuringRun*).
-abbrev pub AreStatesOfRecoveryOrCommittingRun :
+abbrev pub AreStatesAsRecoveredOrOfCommittingRun :
     (Outcome → Type 0) → Effect → Option (List ℕ) → TreeState → List TreeState → List TreeState
     → Type 0
-AreStatesOfRecoveryOrCommittingRun IsOne effect output v old now =
+AreStatesAsRecoveredOrOfCommittingRun IsOne effect output v old now =
     Since (IsStateDuringRecoveryOrNext effect
     (λ w. files_of w ≡ files_recovered_if_needed effect (files_of v)) v) old now
     ⊎ ((outcome : Outcome)
@@ -191,7 +191,7 @@ OutcomeCommitsOrCrashesLeaveFilesAsRead ignored v outcome =
 -- intent can be recovered
 abbrev pub MustOutcomeBeDurable : Effect → (List ℕ → Bool) → TreeState → Outcome → Type 0
 MustOutcomeBeDurable effect ignored v outcome = OutcomeCommitsOrCrashesLeaveFilesAsRead ignored v outcome
-    ⊎ FindsValidIntentToRecover effect v
+    ⊎ RecoversAndFindsValidIntent effect v
 
 -- the tree is durable, and each crash leaves these files
 pub record IsDurableAndLeavesFiles (ignored : List ℕ → Bool) (files : Files) (w : TreeState) : Type 0 where
@@ -239,27 +239,27 @@ LeavesDurableFilesIfRequired effect ignored v now outcome =
 
 -- Once an outcome is answered, even a refusal, or a sink's fault instead, its files are durable if they
 -- must be. After other answers nothing is said.
-abbrev pub LeavesDurableFilesOnceAnswered :
+abbrev pub LeavesDurableFilesOnceAnsweredOrRefused :
     (Outcome → Type 0) → Effect → (List ℕ → Bool) → TreeState → List TreeState → Answer → Type 0
-LeavesDurableFilesOnceAnswered IsOne effect ignored v now Ok =
+LeavesDurableFilesOnceAnsweredOrRefused IsOne effect ignored v now Ok =
     (outcome : Outcome)
     × IsOne outcome
     × (outcome.refusal ≡ None)
     × LeavesDurableFilesIfRequired effect ignored v now outcome
-LeavesDurableFilesOnceAnswered IsOne effect ignored v now (Refused refusal) =
+LeavesDurableFilesOnceAnsweredOrRefused IsOne effect ignored v now (Refused refusal) =
     (outcome : Outcome)
     × IsOne outcome
     × (outcome.refusal ≡ Some refusal)
     × LeavesDurableFilesIfRequired effect ignored v now outcome
-LeavesDurableFilesOnceAnswered IsOne effect ignored v now OutFault =
+LeavesDurableFilesOnceAnsweredOrRefused IsOne effect ignored v now OutFault =
     (outcome : Outcome) × IsOne outcome × LeavesDurableFilesIfRequired effect ignored v now outcome
-LeavesDurableFilesOnceAnswered IsOne effect ignored v now other = Unit {0}
+LeavesDurableFilesOnceAnsweredOrRefused IsOne effect ignored v now other = Unit {0}
 
 -- there is one of these outcomes, and if it commits the tree is durable with its files; the output and
 -- its scratch name are no longer ignored
-abbrev pub LeavesDurableStateIfCommitted :
+abbrev pub LeavesDurableStateAndOutputIfCommitted :
     (Outcome → Type 0) → Option (List ℕ) → (List ℕ → Bool) → List TreeState → Type 0
-LeavesDurableStateIfCommitted IsOne output ignored now =
+LeavesDurableStateAndOutputIfCommitted IsOne output ignored now =
     (outcome : Outcome)
     × IsOne outcome
     × (outcome.commits ≡ true → HoldsNow now (IsDurableAndLeavesFiles (ignored_except_output output ignored)

@@ -16,7 +16,7 @@ use Rattle.journal_core.specs.Staged.{HasNoStagedNames}
 use Rattle.outcome.specs.Effect.{Effect}
 use Rattle.outcome.specs.Outcome.{Outcome}
 use Rattle.outcome.specs.Work.{recovery_fault}
-use Rattle.apk_front.specs.Moments.{AreStatesOfRecoveryOrCommittingRun, AreStatesOldOrLeadToOutcome, HasOutcomeWithoutCommit, HasNothingToRecover, IgnoresScratchNameOfOutput, IsDurableAndLeavesFiles, IsStateDuringRun, MustOutcomeBeDurable, OutcomeCommitsOrCrashesLeaveFilesAsRead, NamesAreDurableWithoutIntentExcept, ignored_except_output}
+use Rattle.apk_front.specs.Moments.{AreStatesAsRecoveredOrOfCommittingRun, AreStatesOldOrLeadToOutcome, HasOutcomeWithoutCommit, HasNothingToRecover, IgnoresOutputScratchNameButNotIntent, IsDurableAndLeavesFiles, IsStateDuringRun, MustOutcomeBeDurable, OutcomeCommitsOrCrashesLeaveFilesAsRead, NamesAreDurableWithoutIntentExcept, ignored_except_output}
 use Rattle.apk_front.specs.declared.answer.Verdict.{Verdict}
 
 -- ---- after recovery
@@ -50,21 +50,21 @@ pub record IsRunAfterRecovery (IsOne : Outcome → Type 0) (effect : Effect) (ou
   -- if the tree `v` is durable, each later moment is durable, and a crash at it leaves a state from before or that of
   -- the files of an outcome that commits
   pub moments : (ignored : List ℕ → Bool)
-      → IsDurable (StateDependsOn ignored) v → IgnoresScratchNameOfOutput output ignored
+      → IsDurable (StateDependsOn ignored) v → IgnoresOutputScratchNameButNotIntent output ignored
       → AreStatesOldOrLeadToOutcome IsOne (is_some output) ignored v old now
   -- the tree is left durable
   pub is_durable : (ignored : List ℕ → Bool)
-      → IsDurable (StateDependsOn ignored) v → IgnoresScratchNameOfOutput output ignored
+      → IsDurable (StateDependsOn ignored) v → IgnoresOutputScratchNameButNotIntent output ignored
       → HoldsNow now (IsDurable (StateDependsOn ignored))
   -- if there is a verdict, each crash leaves the files of the outcome, if they must be durable
   pub settled : (ignored : List ℕ → Bool) (outcome : Outcome)
-      → IsDurable (StateDependsOn ignored) v → IgnoresScratchNameOfOutput output ignored
+      → IsDurable (StateDependsOn ignored) v → IgnoresOutputScratchNameButNotIntent output ignored
       → IsOne outcome → OutcomeCommitsOrCrashesLeaveFilesAsRead ignored v outcome
       → OnOk judged (HoldsNow now (EachCrashLeavesStateOf ignored outcome.files))
   -- if there is a verdict and the outcome commits, the tree is durable and each crash leaves the outcome's files; its
   -- output and the scratch name are no longer ignored
   pub durable_state : (ignored : List ℕ → Bool) (outcome : Outcome)
-      → IsDurable (StateDependsOn ignored) v → IgnoresScratchNameOfOutput output ignored
+      → IsDurable (StateDependsOn ignored) v → IgnoresOutputScratchNameButNotIntent output ignored
       → IsOne outcome → outcome.commits ≡ true
       → OnOk judged (HoldsNow now
       (IsDurableAndLeavesFiles (ignored_except_output output ignored) outcome.files))
@@ -89,20 +89,20 @@ pub record IsRunWithRecovery (IsOne : Outcome → Type 0) (effect : Effect) (out
     (judged : Result Verdict TreeFault) (v : TreeState) (old now : List TreeState) : Type 0 where
   -- at each moment the state is old, or the run leads to the files of an outcome that commits
   pub moments : (ignored : List ℕ → Bool)
-      → IsDurable (StateDependsOn ignored) v → IgnoresScratchNameOfOutput output ignored
+      → IsDurable (StateDependsOn ignored) v → IgnoresOutputScratchNameButNotIntent output ignored
       → AreStatesOldOrLeadToOutcome IsOne (is_some output) ignored v old now
   -- a durable tree is durable after the run
   pub is_durable : (ignored : List ℕ → Bool)
-      → IsDurable (StateDependsOn ignored) v → IgnoresScratchNameOfOutput output ignored
+      → IsDurable (StateDependsOn ignored) v → IgnoresOutputScratchNameButNotIntent output ignored
       → HoldsNow now (IsDurable (StateDependsOn ignored))
   -- if there is a verdict, each crash leaves the files of the outcome, if they must be durable
   pub settled : (ignored : List ℕ → Bool) (outcome : Outcome)
-      → IsDurable (StateDependsOn ignored) v → IgnoresScratchNameOfOutput output ignored
+      → IsDurable (StateDependsOn ignored) v → IgnoresOutputScratchNameButNotIntent output ignored
       → IsOne outcome → MustOutcomeBeDurable effect ignored v outcome
       → OnOk judged (HoldsNow now (EachCrashLeavesStateOf ignored outcome.files))
   -- after an outcome that commits, each crash leaves its files, also under the output's name
   pub durable_state : (ignored : List ℕ → Bool) (outcome : Outcome)
-      → IsDurable (StateDependsOn ignored) v → IgnoresScratchNameOfOutput output ignored
+      → IsDurable (StateDependsOn ignored) v → IgnoresOutputScratchNameButNotIntent output ignored
       → IsOne outcome → outcome.commits ≡ true
       → OnOk judged (HoldsNow now
       (IsDurableAndLeavesFiles (ignored_except_output output ignored) outcome.files))
@@ -114,7 +114,7 @@ pub record IsRunWithRecovery (IsOne : Outcome → Type 0) (effect : Effect) (out
   -- if the intent is bad, nothing is written
   pub bad : IsSome (recovery_fault effect (files_of v)) → now ≡ old
   -- which files are read at each moment of the run
-  pub reads : AreStatesOfRecoveryOrCommittingRun IsOne effect output v old now
+  pub reads : AreStatesAsRecoveredOrOfCommittingRun IsOne effect output v old now
   -- if the intent is present at the start: at each moment at which it is absent, a crash undoes no change of a name,
   -- except for those of the output and of staged files
   pub last : IsSome (v.names intent_name) → Since (NamesAreDurableWithoutIntentExcept output) old now

@@ -2,8 +2,8 @@
 //! run is described in `docs/commands.md`, and its effect on a tree in `docs/crash-safety.md`,
 //! "Recovery", in the table of what a run of `apk` may leave.
 ghost use Rattle.std.specs.Prelude.{◌≡◌, ℕ, Bool, List, IsSome, IsTrue, is_some};
-ghost use Rattle.apk_front.specs.Answers.{is_applet_help_or_version_named, IsAnswerOfSomeOutcomeOrFailure, LeavesFiles, LeavesAnyFiles, IsAnswerExplainedByCounts, IsFaultless, AnswersOutcomeUnlessMemory, HasNoPlannedFailureAndCanCountMisuse, IsAnsweredInFullUnlessMemory};
-ghost use Rattle.apk_front.specs.Moments.{IsOkRefusedOrOutputFault, AreStatesOfRecoveryOrCommittingRun, AreStatesOldOrLeadToOutcome, IsRefusedOutOfMemoryOrCommitsNothing, HasNothingToRecover, IgnoresScratchNameOfOutput, EachRecoveryChangesOnlyAcceptedNames, LeavesDurableStateIfCommitted, LeavesDurableFilesOnceAnswered, AreRunPathsFree, NamesAreDurableWithoutIntentExcept};
+ghost use Rattle.apk_front.specs.Answers.{is_applet_help_or_version_named, IsAnswerOfSomeOutcomeOrFailure, LeavesFiles, LeavesAnyFiles, AnswerTellsWhetherTreeOrSinkFailed, IsFaultless, AnswersOutcomeUnlessMemory, HasNoPlannedFailureAndCanCountMisuse, IsAnsweredInFullUnlessMemory};
+ghost use Rattle.apk_front.specs.Moments.{IsOkRefusedOrOutputFault, AreStatesAsRecoveredOrOfCommittingRun, AreStatesOldOrLeadToOutcome, IsRefusedOutOfMemoryOrCommitsNothing, HasNothingToRecover, IgnoresOutputScratchNameButNotIntent, EachRecoveryChangesOnlyAcceptedNames, LeavesDurableStateAndOutputIfCommitted, LeavesDurableFilesOnceAnsweredOrRefused, AreRunPathsOfCommandLineFree, NamesAreDurableWithoutIntentExcept};
 ghost use Rattle.base_core.specs.Calls.{HoldsNow, IfObservable};
 ghost use Rattle.base_core.specs.Crash.{Since};
 ghost use Rattle.base_core.specs.Undone.{IsDurable};
@@ -13,7 +13,7 @@ ghost use Rattle.base_core.specs.Sink.{sink_before_and_after, IsUseWithoutMisuse
 ghost use Rattle.base_core.specs.Tree.{files_of};
 ghost use Rattle.journal_core.specs.Quiet.{StateIsUnchanged};
 ghost use Rattle.journal_core.specs.Recovery.{StateDependsOn, intent_name};
-ghost use Rattle.outcome.specs.Effect.{Changes, effect_of_arguments, output, reads_only, depends_only_on_arguments};
+ghost use Rattle.outcome.specs.Effect.{Changes, effect_of_arguments, output, do_arguments_neither_recover_nor_write, depends_only_on_arguments};
 ghost use Rattle.outcome.specs.Words.{IsPossibleOutcome, IsOutcome};
 ghost use Rattle.outcome.specs.Work.{recovery_fault};
 ghost use Rattle.words_core.specs.Grammar.{command_of};
@@ -83,7 +83,8 @@ pub fn apk<T: Tree, O: Sink, E: Sink>(
     // a fault of a sink has its cause there. Running out of memory, or a fault of a sink, hides no
     // I/O error of the tree. After an I/O error of the tree, or out of memory, exactly its line is
     // printed.
-    ensures causes { IsAnswerExplainedByCounts result (T.counts tree.old) (T.counts tree.new)
+    ensures causes { AnswerTellsWhetherTreeOrSinkFailed result (T.counts tree.old)
+        (T.counts tree.new)
         (sink_before_and_after O.bytes O.counts out.old out.new)
         (sink_before_and_after E.bytes E.counts err.old err.new) }
 
@@ -101,13 +102,14 @@ pub fn apk<T: Tree, O: Sink, E: Sink>(
     // No call is a misuse of the tree if two conditions hold: the paths that recovery writes are
     // free in the files, and those that the outcome writes are free in the recovered files. Then
     // OUTPUT and OUTPUT.apk-tmp are no folder of another file, and no file is a folder of them.
-    ensures proper { IfObservable (T.history tree.old) (λ v. AreRunPathsFree words.now (files_of v)
+    ensures proper { IfObservable (T.history tree.old)
+        (λ v. AreRunPathsOfCommandLineFree words.now (files_of v)
         → (T.counts tree.new).misuses ≡ (T.counts tree.old).misuses) }
 
     // If these paths are free, and no failure of the tree and the sinks is planned, the run ends as
     // its outcome says, unless memory ran out: the run's, or the own memory of the tree or a sink.
     ensures unless_memory { IfObservable (T.history tree.old) (λ v.
-        AreRunPathsFree words.now (files_of v)
+        AreRunPathsOfCommandLineFree words.now (files_of v)
         → HasNoPlannedFailureAndCanCountMisuse (T.counts tree.old)
         → HasNoPlannedFailureAndCanCountMisuse (O.counts out.old)
         → HasNoPlannedFailureAndCanCountMisuse (E.counts err.old)
@@ -125,7 +127,7 @@ pub fn apk<T: Tree, O: Sink, E: Sink>(
         ≡ tree.old }
 
     // A command that only reads makes no new state of the tree.
-    ensures same { IsTrue (reads_only (command_of words.now))
+    ensures same { IsTrue (do_arguments_neither_recover_nor_write (command_of words.now))
         → T.history tree.new ≡ T.history tree.old }
 
     // Before it commits, a change has asked the tree about each name that it writes or removes. So
@@ -155,7 +157,7 @@ pub fn apk<T: Tree, O: Sink, E: Sink>(
     // fails: no file is ever temporarily missing. Not proved: that an unchanged file is never
     // rewritten with the same bytes.
     ensures reads { IfObservable (T.history tree.old) (λ v.
-        AreStatesOfRecoveryOrCommittingRun (IsOutcome (command_of words.now) (files_of v))
+        AreStatesAsRecoveredOrOfCommittingRun (IsOutcome (command_of words.now) (files_of v))
         (effect_of_arguments (command_of words.now)) (output words.now) v (T.history tree.old)
         (T.history tree.new)) }
 
@@ -182,7 +184,7 @@ pub fn apk<T: Tree, O: Sink, E: Sink>(
     // before.
     ensures crash { IfObservable (T.history tree.old) (λ v. (ignored : List ℕ → Bool)
         → IsDurable (StateDependsOn ignored) v
-        → IgnoresScratchNameOfOutput (output words.now) ignored
+        → IgnoresOutputScratchNameButNotIntent (output words.now) ignored
         → AreStatesOldOrLeadToOutcome (IsOutcome (command_of words.now) (files_of v)) (is_some
         (output
         words.now))
@@ -191,7 +193,7 @@ pub fn apk<T: Tree, O: Sink, E: Sink>(
     // A tree that was durable when the run began is durable after the run, whatever is answered.
     ensures is_durable { IfObservable (T.history tree.old) (λ v. (ignored : List ℕ → Bool)
         → IsDurable (StateDependsOn ignored) v
-        → IgnoresScratchNameOfOutput (output words.now) ignored
+        → IgnoresOutputScratchNameButNotIntent (output words.now) ignored
         → HoldsNow (T.history tree.new) (IsDurable (StateDependsOn ignored))) }
 
     // Once the outcome is answered, even a refusal, or a sink's fault instead, each crash leaves
@@ -199,8 +201,8 @@ pub fn apk<T: Tree, O: Sink, E: Sink>(
     // crash left the files as read before the run, or an intent was found and its change completed.
     ensures settled { IfObservable (T.history tree.old) (λ v. (ignored : List ℕ → Bool)
         → IsDurable (StateDependsOn ignored) v
-        → IgnoresScratchNameOfOutput (output words.now) ignored
-        → LeavesDurableFilesOnceAnswered (IsOutcome (command_of words.now) (files_of v))
+        → IgnoresOutputScratchNameButNotIntent (output words.now) ignored
+        → LeavesDurableFilesOnceAnsweredOrRefused (IsOutcome (command_of words.now) (files_of v))
         (effect_of_arguments (command_of words.now)) ignored v (T.history tree.new) result) }
 
     // Once an outcome that commits is answered, or a sink's fault instead, OUTPUT and
@@ -208,9 +210,9 @@ pub fn apk<T: Tree, O: Sink, E: Sink>(
     // outcome's files, under these names too.
     ensures durable_state { IfObservable (T.history tree.old) (λ v. (ignored : List ℕ → Bool)
         → IsDurable (StateDependsOn ignored) v
-        → IgnoresScratchNameOfOutput (output words.now) ignored
+        → IgnoresOutputScratchNameButNotIntent (output words.now) ignored
         → IsOkRefusedOrOutputFault result
-        → LeavesDurableStateIfCommitted (IsOutcome (command_of words.now) (files_of v))
+        → LeavesDurableStateAndOutputIfCommitted (IsOutcome (command_of words.now) (files_of v))
         (output words.now) ignored (T.history tree.new)) }
 {
     // A law that the proof needs; it has no effect at run time.

@@ -8,7 +8,7 @@ ghost use Rattle.apk_front.specs.Answers.{is_applet_help_or_version_named};
 ghost use Rattle.apk_front.specs.RunContracts.{IsJudgedRun, IsReadingRun, IsRunByArguments};
 ghost use Rattle.apk_front.specs.Verdicts.{read_only_outcome};
 ghost use Rattle.outcome.specs.Commands.{IsPossibleOutcomeWithoutDemo, IsOutcomeWithoutDemo, reads_in};
-ghost use Rattle.outcome.specs.Effect.{does_only_read, ignores_files, effect_of_arguments, effect_of, output, output_name_for_effect, reads_only, depends_only_on_arguments};
+ghost use Rattle.outcome.specs.Effect.{does_neither_recover_nor_write, ignores_files, effect_of_arguments, effect_of, output, output_name_for_effect, do_arguments_neither_recover_nor_write, depends_only_on_arguments};
 ghost use Rattle.outcome.specs.Words.{IsPossibleOutcome, IsOutcome};
 ghost use Rattle.words_core.specs.Grammar.{command_of};
 ghost use Rattle.apk_front.specs.Effects.{root_access_if_read_only};
@@ -43,7 +43,7 @@ pub(crate) fn judge<T: Tree>(
     ensures by_arguments { IsTrue (depends_only_on_arguments (command_of words.now))
         → IsRunByArguments (IsOutcome (command_of words.now)) tree.old tree.new result }
     // A command that only reads makes no new state of the tree.
-    ensures same { IsTrue (reads_only (command_of words.now))
+    ensures same { IsTrue (do_arguments_neither_recover_nor_write (command_of words.now))
         → T.history tree.new ≡ T.history tree.old }
     // Memory can run out only if the arguments name an applet, or ask for help or the version.
     ensures named { IsErrOf result TreeFault.Memory
@@ -75,7 +75,7 @@ fn run_command<T: Tree>(
     ensures by_arguments { IsTrue (ignores_files (effect_of command.now.applet))
         → IsRunByArguments (IsOutcome (Ok command.now)) tree.old tree.new result }
     // A command that only reads makes no new state of the tree.
-    ensures same { IsTrue (does_only_read (effect_of command.now.applet))
+    ensures same { IsTrue (does_neither_recover_nor_write (effect_of command.now.applet))
         → T.history tree.new ≡ T.history tree.old }
 {
     match command.applet() {
@@ -101,7 +101,7 @@ pub(crate) fn run<T: Tree>(
         (λ files outcome. outcome ≡ read_only_outcome command.now (reads_in files) files)
         tree.old tree.new result }
     // A command that only reads makes no new state of the tree.
-    ensures same { IsTrue (does_only_read (effect_of command.now.applet))
+    ensures same { IsTrue (does_neither_recover_nor_write (effect_of command.now.applet))
         → T.history tree.new ≡ T.history tree.old }
 {
     match applet_access(command.applet()) {
@@ -114,7 +114,7 @@ pub(crate) fn run<T: Tree>(
 #[tactic(auto, using(crate::proofs::Operands::dump_operands, crate::proofs::Operands::gen_operands, crate::proofs::Operands::verify_operands, crate::proofs::Operands::version_operand_rule))]
 fn look<T: Tree>(alloc: Global, command: &Command, tree: &mut T) -> Result<Verdict, TreeFault>
     // The applet only reads, by its effect.
-    requires { IsTrue (does_only_read (effect_of command.now.applet)) }
+    requires { IsTrue (does_neither_recover_nor_write (effect_of command.now.applet)) }
     // The verdict is that of the outcome, and the tree is only read.
     ensures run { IsReadingRun (read_only_outcome command.now)
         (T.history tree.old) (T.history tree.new) (T.counts tree.old) (T.counts tree.new) result }
@@ -161,7 +161,8 @@ pub enum RootAccess {
 pub fn access_for(alloc: Global, words: &Words) -> Result<RootAccess, AllocError>
     // `Read` exactly if the command line only reads.
     ensures { IfOk result (λ access. access
-        ≡ root_access_if_read_only (reads_only (command_of words.now))) }
+        ≡ root_access_if_read_only (do_arguments_neither_recover_nor_write
+        (command_of words.now))) }
 {
     match read_words(alloc, words) {
         Ok(command) => Ok(applet_access(command.applet())),
@@ -173,7 +174,8 @@ pub fn access_for(alloc: Global, words: &Words) -> Result<RootAccess, AllocError
 /// What an applet does below its root: one that first recovers the root writes, whatever it does
 /// then.
 pub(crate) fn applet_access(applet: Applet) -> RootAccess
-    ensures { result ≡ root_access_if_read_only (does_only_read (effect_of applet)) }
+    ensures { result ≡ root_access_if_read_only (does_neither_recover_nor_write
+        (effect_of applet)) }
 {
     match applet {
         Applet::Verify

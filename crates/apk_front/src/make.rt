@@ -15,10 +15,10 @@ ghost use Rattle.base_core.specs.Tree.{files_of};
 ghost use Rattle.command_core.specs.Sound.{IsValidCommand};
 ghost use Rattle.command_core.specs.declared.command.Applet.TheVariants.{Mkndx, Mkpkg};
 ghost use Rattle.command_core.specs.declared.values.TheConstants.{FILES};
-ghost use Rattle.make_core.specs.make_index.Files.{OperandReadsFindOnlyValidFileBytes};
+ghost use Rattle.make_core.specs.make_index.Files.{EachOperandReadFindsNoFileOrFileBytes};
 ghost use Rattle.make_core.specs.make_info.Output.{output_name};
 ghost use Rattle.make_core.specs.make_info.Reads.{Reads};
-ghost use Rattle.make_core.specs.package_files.Sources.{AreNamesBelowFirstFolder, values_of_letter};
+ghost use Rattle.make_core.specs.package_files.Sources.{AreSortedNamesBelowFirstFolder, values_of_letter};
 ghost use Rattle.outcome.specs.Make.{index_report_line, make_outcome, mkndx, mkpkg, outcome_unless_output_reserved};
 ghost use Rattle.outcome.specs.Outcome.{Outcome, just_refusal};
 ghost use Rattle.report_core.specs.declared.refusal.Refusal.TheVariants.{ResultTooLarge};
@@ -55,7 +55,7 @@ pub(crate) fn mkpkg<T: Tree>(
         ReportsOneOfOutcomes (IsPackageOutcome command.now (files_of v)) verdict)) }
     // On every tree it is that of an outcome for some listing and some contents at each read.
     ensures by_reads { IfOk result (λ verdict. (names : List (List ℕ))
-        × AreNamesBelowFirstFolder (values_of_letter FILES command.now.values) names
+        × AreSortedNamesBelowFirstFolder (values_of_letter FILES command.now.values) names
         × (read : Reads) × Reports verdict (mkpkg read no_names command.now names)) }
     // The effect of the run on the tree.
     ensures run { IsMakingRun (IsPackageOutcome command.now) (output_name command.now)
@@ -94,7 +94,7 @@ pub(crate) fn mkndx<T: Tree>(
     // On every tree the verdict is the specification's, for some contents at each read. The files
     // are not used, so that `no_names` is written for them.
     ensures by_reads { IfOk result (λ verdict. (read : Reads)
-        × OperandReadsFindOnlyValidFileBytes read 0 command.now.operands
+        × EachOperandReadFindsNoFileOrFileBytes read 0 command.now.operands
         × Reports verdict (mkndx read no_names command.now)) }
     // The effect of the run on the tree.
     ensures run { IsMakingRun (IsIndexOutcome command.now) (output_name command.now)

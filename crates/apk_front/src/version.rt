@@ -5,7 +5,7 @@ ghost use Rattle.std.specs.Prelude.{◌≡◌, ◌++◌, length, true, IfOk, OnO
 ghost use Rattle.apk_front.specs.Verdicts.{as_outcome};
 ghost use Rattle.base_core.specs.Files.{Files};
 ghost use Rattle.outcome.specs.Outcome.{outcome_without_commit, just_report_unless_refusal};
-ghost use Rattle.outcome.specs.Version.{invalid_version_line, invalid_version_lines, order_line, version_order_report, version, version_refusal};
+ghost use Rattle.outcome.specs.Version.{line_if_invalid_version, invalid_version_lines, order_line, version_order_report, version, version_refusal};
 
 use crate::answer::Verdict;
 use base_core::Text;
@@ -111,7 +111,8 @@ fn lines(alloc: Global, operands: &Operands) -> Result<Text, AllocError>
 
 // Adds the line of a text that is no version; for a version nothing is added.
 fn add_line(report: &mut Vec<u8>, text: &[u8]) -> Result<(), AllocError>
-    ensures { OnOk result (report.new.items ≡ report.old.items ++ invalid_version_line text.now) }
+    ensures { OnOk result (report.new.items ≡ report.old.items
+        ++ line_if_invalid_version text.now) }
 {
     if Version::read(text).is_some() {
         return Ok(());

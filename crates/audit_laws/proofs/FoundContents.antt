@@ -9,7 +9,7 @@ use Rattle.root_laws.specs.candidate_core.Candidates.{Candidate, is_same_id}
 use Rattle.root_laws.specs.change_inputs.Chains.{and_then}
 use Rattle.root_laws.specs.change_inputs.Inputs.{first_index_read_number}
 use Rattle.root_laws.proofs.change_outcome.Made.{and_then_ok}
-use Rattle.root_laws.specs.change_outcome.MembersAfter.{MemberFound, added_package_by_path, added_member_found, found_package_contents, members_after, found_members, member_of_name_after, member_of_name_by_change, member_of_name_by_selected, member_of_added_name, member_of_removed_name, members_of_names_after, kept_member_found}
+use Rattle.root_laws.specs.change_outcome.MembersAfter.{MemberFound, added_package_by_path, added_member_found, found_package_contents, members_after, found_members, member_of_name_after, member_of_name_by_change, member_of_name_by_selected, added_member_unless_script_needed, no_member_unless_removal_needs_script, members_of_names_after, kept_member_found}
 use Rattle.root_laws.specs.change_outcome.PackageFiles.{AddedPackage, first_script_number_of_package, package_file_path_of_candidate, added_package_or_refusal, package_in_file, scripts_of_change, package_unless_other_than_candidate, unless_script_number, package_unless_bad_or_different, unless_script_needed}
 use Rattle.audit_core.specs.db_core.Members.{Member, is_added}
 use Rattle.audit_core.specs.db_core.Packages.{is_package_named}
@@ -73,14 +73,14 @@ module _ (told : HasFirstValue) (read : Reads) where
       by_number (Some number) e = absurd (cc (e))
 
   comes_ok : (repositories : List Repository) (no_scripts : Bool) (n : ℕ) (name : List ℕ) (change : Change) (c : Candidate) (o : Option MemberFound)
-      → member_of_added_name read repositories no_scripts n name change c ≡ Ok o → IfListed o
+      → added_member_unless_script_needed read repositories no_scripts n name change c ≡ Ok o → IfListed o
   comes_ok repositories no_scripts n name change c o e =
       let pkg = and_then_ok (added_package_by_path read n c (package_file_path_of_candidate repositories c)) (λ pkg.
       unless_script_needed no_scripts name pkg.value (scripts_of_change change) (Some (added_member_found pkg))) o e in
       subst IfListed (script_ok no_scripts name pkg.0.value (scripts_of_change change) (Some (added_member_found pkg.0)) o pkg.2)
       (λ comes. path_ok n c (package_file_path_of_candidate repositories c) pkg.0 pkg.1)
 
-  goes_ok : (no_scripts : Bool) (name : List ℕ) (change : Change) (before : Option Plain) (o : Option MemberFound) → member_of_removed_name no_scripts name change before ≡ Ok o → IfListed o
+  goes_ok : (no_scripts : Bool) (name : List ℕ) (change : Change) (before : Option Plain) (o : Option MemberFound) → no_member_unless_removal_needs_script no_scripts name change before ≡ Ok o → IfListed o
   goes_ok no_scripts name change None o e = let same : None ≡ o = cc in subst IfListed same tt
   goes_ok no_scripts name change (Some pkg) o e = subst IfListed (script_ok no_scripts name pkg (scripts_of_change change) None o e) tt
 

@@ -24,7 +24,7 @@ use Rattle.root_laws.proofs.change_files.OwnedFiles.{coming_is}
 use Rattle.root_laws.proofs.change_files.RecordNames.{database_after}
 use Rattle.root_laws.specs.change_inputs.Chains.{and_then, unless_cause}
 use Rattle.root_laws.specs.change_inputs.Database.{Database, container_database, database_of_packages_file_and_is_text, root_database}
-use Rattle.root_laws.specs.change_outcome.ChangeOutcome.{ChangeDone, ChangeWishes, change_or_refusal, file_change, database_and_world_after_change}
+use Rattle.root_laws.specs.change_outcome.ChangeOutcome.{ChangeDone, ChangeWishes, change_or_refusal, packages_before_and_after_with_purge, database_and_world_after_change}
 use Rattle.root_laws.specs.change_outcome.Made.{IsChangeMade}
 use Rattle.root_laws.specs.change_outcome.MembersAfter.{MemberFound, found_package_contents, found_members}
 use Rattle.command_core.specs.Command.{CommandLine}
@@ -42,7 +42,7 @@ use Rattle.root_laws.specs.pkg_core.GoodContents.{AreContentsOfExpectedFiles, Ha
 use Rattle.root_laws.proofs.pkg_core.Digests.{HasFirstValue}
 use Rattle.report_core.specs.declared.refusal.Refusal.{Refusal}
 use Rattle.report_core.specs.declared.refusal.Refusal.TheVariants.{DatabaseBad}
-use Rattle.root_laws.specs.RootLeft.{IsRootLeftByChange}
+use Rattle.root_laws.specs.RootLeft.{IsRootLeftToLaterCommandsByChange}
 use Rattle.root_names.specs.RootNames.{database_name, text_database_name}
 use Rattle.audit_laws.specs.AfterChange.{ExplainsDifference, IsEmptyFileWithOtherDigest, IsDifferenceExplainedAfterChange, change_left, contents_left, packages_left}
 use Rattle.audit_laws.proofs.AfterFiles.{by_left, left_by, stays_so}
@@ -85,7 +85,7 @@ not_record records name reserved free = by_test (is_old_or_new_database_or_world
 comes_if : (change : FileChange) (path : List ℕ) (l : Listing) → owner_listing change path ≡ Some l → is_added l.member ≡ true → added_owner_listing change path ≡ Some l
 comes_if change path l owner comes = ap if_member_added owner ∙ ap (λ (b : Bool). if b then Some l else None) comes
 
-module _ (laws : Laws) (command : CommandLine) (read : Reads) (files : Files) (chosen : Option (List ℕ)) (clash : Option NamePair) (done : ChangeDone) (left : IsRootLeftByChange command read chosen done)
+module _ (laws : Laws) (command : CommandLine) (read : Reads) (files : Files) (chosen : Option (List ℕ)) (clash : Option NamePair) (done : ChangeDone) (left : IsRootLeftToLaterCommandsByChange command read chosen done)
     (e : change_of_command command read files chosen clash ≡ Ok done) (off : command.flags.simulate ≡ false) where
   abbrev s : InputsAndReplacement
   s = left.selected
@@ -116,7 +116,7 @@ module _ (laws : Laws) (command : CommandLine) (read : Reads) (files : Files) (c
   files_are : done.files ≡ files_after_change change bytes_of records files
   files_are =
       ap (λ (d : ChangeDone). d.files) made_so.is
-      ∙ ap (λ (fs : List MemberFound). files_after_change (file_change s.inputs (wishes_of command) fs) (listing_bytes (found_package_contents fs)) records files) same_found
+      ∙ ap (λ (fs : List MemberFound). files_after_change (packages_before_and_after_with_purge s.inputs (wishes_of command) fs) (listing_bytes (found_package_contents fs)) records files) same_found
 
   database_there : done.files database_name ≡ Some made_so.database
   database_there = ap (λ (fs : Files). fs database_name) files_are ∙ database_after change bytes_of records files
@@ -205,7 +205,7 @@ pub empty_alone :
     → ((contents : ℕ → List Contents) (members : List Member) (l : Listing) → Contains (listings_of_members members) l → HaveValidDigestLengths (expected_files_of_package l.member.pkg)
     → AreContentsOfExpectedFiles (expected_files_of_package l.member.pkg) (contents l.place) → (is_file_with_contents l.entry ≡ false → has_target l.entry ≡ false → is_as_listed l.entry [] ≡ true)
     → is_as_listed l.entry (listing_bytes contents l) ≡ true)
-    → (command : CommandLine) (read : Reads) (chosen : Option (List ℕ)) (done : ChangeDone) (left : IsRootLeftByChange command read chosen done) (path : List ℕ) (l : Listing)
+    → (command : CommandLine) (read : Reads) (chosen : Option (List ℕ)) (done : ChangeDone) (left : IsRootLeftToLaterCommandsByChange command read chosen done) (path : List ℕ) (l : Listing)
     → added_owner_listing (change_left left) path ≡ Some l → is_as_listed l.entry (listing_bytes (contents_left left) l) ≡ false → IsEmptyFileWithOtherDigest l.entry
 empty_alone told placed brought command read chosen done left path l comes unlike =
     let members = found_members left.found in

@@ -10,7 +10,7 @@ use Rattle.base_core.specs.Files.{Files}
 use Rattle.root_laws.specs.change_files.FileChange.{FileChange, owner_listing}
 use Rattle.root_laws.specs.change_files.FilesAfter.{listing_bytes}
 use Rattle.root_laws.specs.change_files.Touched.{IsModifiedConfigFile}
-use Rattle.root_laws.specs.change_outcome.ChangeOutcome.{ChangeDone, file_change}
+use Rattle.root_laws.specs.change_outcome.ChangeOutcome.{ChangeDone, packages_before_and_after_with_purge}
 use Rattle.root_laws.specs.change_outcome.MembersAfter.{found_package_contents, found_members}
 use Rattle.command_core.specs.Command.{CommandLine}
 use Rattle.audit_core.specs.db_core.Members.{Listing, is_added}
@@ -18,7 +18,7 @@ use Rattle.root_laws.specs.engine_core.Wishes.{wishes_of}
 use Rattle.audit_core.specs.file_guard.AsListed.{has_target, is_as_listed}
 use Rattle.root_laws.specs.make_info.Reads.{Reads}
 use Rattle.root_laws.specs.pkg_core.Contents.{Contents}
-use Rattle.root_laws.specs.RootLeft.{IsRootLeftByChange, database_of_members}
+use Rattle.root_laws.specs.RootLeft.{IsRootLeftToLaterCommandsByChange, database_of_members}
 
 -- ---- why a file differs after a change
 
@@ -63,17 +63,18 @@ pub record IsDifferenceExplainedAfterChange (contents : ℕ → List Contents) (
 -- the packages after a command's change, as the next command reads them from the database
 abbrev pub packages_left :
     {command : CommandLine} → {read : Reads} → {chosen : Option (List ℕ)} → {done : ChangeDone}
-    → IsRootLeftByChange command read chosen done → List Plain
+    → IsRootLeftToLaterCommandsByChange command read chosen done → List Plain
 packages_left left = (database_of_members (found_members left.found) left.bytes).packages
 
 -- the change of files that a command has made
 abbrev pub change_left :
     {command : CommandLine} → {read : Reads} → {chosen : Option (List ℕ)} → {done : ChangeDone}
-    → IsRootLeftByChange command read chosen done → FileChange
-change_left {command} left = file_change left.selected.inputs (wishes_of command) left.found
+    → IsRootLeftToLaterCommandsByChange command read chosen done → FileChange
+change_left {command} left =
+    packages_before_and_after_with_purge left.selected.inputs (wishes_of command) left.found
 
 -- for the index of each added package, the contents of its files
 abbrev pub contents_left :
     {command : CommandLine} → {read : Reads} → {chosen : Option (List ℕ)} → {done : ChangeDone}
-    → IsRootLeftByChange command read chosen done → ℕ → List Contents
+    → IsRootLeftToLaterCommandsByChange command read chosen done → ℕ → List Contents
 contents_left left = found_package_contents left.found

@@ -15,7 +15,7 @@ ghost use Rattle.root_laws.specs.engine_core.Changed.{change_of_command};
 ghost use Rattle.audit_core.specs.file_guard.AsListed.{is_as_listed};
 ghost use Rattle.root_laws.specs.make_info.Reads.{Reads};
 ghost use Rattle.audit_core.specs.path_clashes.Clash.{NamePair};
-ghost use Rattle.root_laws.specs.RootLeft.{IsRootLeftByChange};
+ghost use Rattle.root_laws.specs.RootLeft.{IsRootLeftToLaterCommandsByChange};
 ghost use Rattle.std.specs.Prelude.{◌≡◌, ◌↔◌, ℕ, false, List, Ok, Option, Some};
 
 use audit_core::{an_audit_reports_just_the_files_that_differ, listings_are_at_their_places};
@@ -35,7 +35,7 @@ pub fn after_a_change_an_audit_reports_what_it_left_to_the_user()
     // these reasons. `files` are the files before the change.
     ensures each { (command : CommandLine) (read : Reads) (files : Files)
         (chosen : Option (List ℕ)) (clash : Option NamePair) (done : ChangeDone)
-        (left : IsRootLeftByChange command read chosen done) (d : FileDifference)
+        (left : IsRootLeftToLaterCommandsByChange command read chosen done) (d : FileDifference)
         → change_of_command command read files chosen clash ≡ Ok done
         → command.flags.simulate ≡ false
         → IsIn d (file_differences done.files (packages_left left))
@@ -43,7 +43,8 @@ pub fn after_a_change_an_audit_reports_what_it_left_to_the_user()
     // If the bytes that an added package has for a file are not as its own entry lists them, the
     // entry is that of an empty file with another digest.
     ensures empty { (command : CommandLine) (read : Reads) (chosen : Option (List ℕ))
-        (done : ChangeDone) (left : IsRootLeftByChange command read chosen done) (path : List ℕ)
+        (done : ChangeDone) (left : IsRootLeftToLaterCommandsByChange command read chosen done)
+        (path : List ℕ)
         (l : Listing) → added_owner_listing (change_left left) path ≡ Some l
         → is_as_listed l.entry (listing_bytes (contents_left left) l) ≡ false
         → IsEmptyFileWithOtherDigest l.entry }

@@ -14,7 +14,7 @@ use Rattle.base_core.specs.ByteOrder.{bytes_cmp}
 use Rattle.base_core.specs.Sorted.{sorted_by, with_element_inserted}
 use Rattle.base_core.proofs.Sorting.{Each, rises_in_order, ranks}
 use Rattle.base_core.proofs.Sorting as sorting
-use Rattle.change_files.specs.PlanLists.{sorted_distinct_names, prepend_unless_equal_to_first, without_adjacent_repeats}
+use Rattle.change_files.specs.PlanLists.{sorted_distinct_names, prepend_unless_equal_to_first, names_with_adjacent_repeats_merged}
 
 -- ---- sorted
 
@@ -65,14 +65,14 @@ from_unless q x (y ∷ ys) h = by_test (bytes_eq x y) h
     by_test true h = inr h
     by_test false h = h
 
-pub in_once : (q : List ℕ) (xs : List (List ℕ)) → IsIn q xs → IsIn q (without_adjacent_repeats xs)
+pub in_once : (q : List ℕ) (xs : List (List ℕ)) → IsIn q xs → IsIn q (names_with_adjacent_repeats_merged xs)
 in_once q [] h = h
-in_once q (x ∷ xs) (inl is) = in_unless q x (without_adjacent_repeats xs) (inl is)
-in_once q (x ∷ xs) (inr more) = in_unless q x (without_adjacent_repeats xs) (inr (in_once q xs more))
+in_once q (x ∷ xs) (inl is) = in_unless q x (names_with_adjacent_repeats_merged xs) (inl is)
+in_once q (x ∷ xs) (inr more) = in_unless q x (names_with_adjacent_repeats_merged xs) (inr (in_once q xs more))
 
-pub from_once : (q : List ℕ) (xs : List (List ℕ)) → IsIn q (without_adjacent_repeats xs) → IsIn q xs
+pub from_once : (q : List ℕ) (xs : List (List ℕ)) → IsIn q (names_with_adjacent_repeats_merged xs) → IsIn q xs
 from_once q [] h = h
-from_once q (x ∷ xs) h = elim (from_unless q x (without_adjacent_repeats xs) h) [ inl is ↦ inl is | inr more ↦ inr (from_once q xs more) ]
+from_once q (x ∷ xs) h = elim (from_unless q x (names_with_adjacent_repeats_merged xs) h) [ inl is ↦ inl is | inr more ↦ inr (from_once q xs more) ]
 
 pub in_order : (q : List ℕ) (names : List (List ℕ)) → IsIn q names → IsIn q (sorted_distinct_names names)
 unfolding sorted_distinct_names
@@ -115,10 +115,10 @@ rises_next x (y ∷ ys) late rises = by_test (bytes_eq x y) refl
 abbrev RisesWeakly : List (List ℕ) → Type 0
 RisesWeakly xs = sorting.Rises (λ x y. is_lt (bytes_cmp x y)) (ranks bytes_cmp nat_list_cmp_total) xs
 
-rises_once : (xs : List (List ℕ)) → RisesWeakly xs → Rises (without_adjacent_repeats xs)
+rises_once : (xs : List (List ℕ)) → RisesWeakly xs → Rises (names_with_adjacent_repeats_merged xs)
 rises_once [] h = tt
 rises_once (x ∷ xs) h =
-    rises_next x (without_adjacent_repeats xs) (λ q here. each_in (λ y. is_lt (order y x) ≡ false) xs h.0 q (from_once q xs here)) (rises_once xs h.1)
+    rises_next x (names_with_adjacent_repeats_merged xs) (λ q here. each_in (λ y. is_lt (order y x) ≡ false) xs h.0 q (from_once q xs here)) (rises_once xs h.1)
 
 pub order_rises : (names : List (List ℕ)) → Rises (sorted_distinct_names names)
 unfolding sorted_distinct_names

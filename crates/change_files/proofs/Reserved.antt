@@ -14,7 +14,7 @@ use Rattle.change_files.specs.Fate.{apk_new_name}
 use Rattle.change_files.specs.FileChange.{FileChange}
 use Rattle.change_files.specs.FilesAfter.{DatabaseAndWorldAfter, database_name, text_database_name, world_name, listing_written_under_name}
 use Rattle.change_files.specs.NamesAfter.{added_paths}
-use Rattle.change_files.specs.PlanLists.{first_reserved_added_path}
+use Rattle.change_files.specs.PlanLists.{first_reserved_added_path_in_byte_order}
 use Rattle.change_files.specs.Touched.{is_old_or_new_database_or_world_name}
 use Rattle.change_files.proofs.InOrder.{in_filter}
 use Rattle.change_files.proofs.OwnedFiles.{in_coming_paths, written_is}
@@ -33,8 +33,8 @@ none_smallest (x ∷ xs) e q here = some_smaller x (smallest_text xs) e
     some_smaller x None e = (cc)
     some_smaller x (Some a) e = some_if (precedes a x) a x e
 
-pub unreserved_path : (change : FileChange) (path : List ℕ) → first_reserved_added_path change.members ≡ None → IsIn path (added_paths change.members) → is_reserved path ≡ false
-unfolding first_reserved_added_path
+pub unreserved_path : (change : FileChange) (path : List ℕ) → first_reserved_added_path_in_byte_order change.members ≡ None → IsIn path (added_paths change.members) → is_reserved path ≡ false
+unfolding first_reserved_added_path_in_byte_order
 unreserved_path change path none here =
     false_from_ne_true (is_reserved path) (λ reserved.
     none_smallest (filter is_reserved (added_paths change.members)) none path (in_filter is_reserved (added_paths change.members) path here reserved))
@@ -92,7 +92,7 @@ unreserved_beside path free =
 
 -- ---- what is written, and the records
 
-pub written_unreserved : (change : FileChange) (files : Files) (name : List ℕ) (l : Listing) → first_reserved_added_path change.members ≡ None → listing_written_under_name change files name ≡ Some l → is_reserved name ≡ false
+pub written_unreserved : (change : FileChange) (files : Files) (name : List ℕ) (l : Listing) → first_reserved_added_path_in_byte_order change.members ≡ None → listing_written_under_name change files name ≡ Some l → is_reserved name ≡ false
 written_unreserved change files name l none e =
     let written = written_is change files name l e in
     let free = unreserved_path change l.path none (in_coming_paths change l.path l written.comes) in

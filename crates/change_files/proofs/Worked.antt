@@ -9,12 +9,12 @@ use Rattle.version_core.specs.Token.{later_component_lexeme, hash_lexeme, next_l
 use Rattle.file_owners.specs.path_claims.Contest.{member_beating_all_others}
 use Rattle.path_clashes.specs.Clash.{IsClash, NamePair, precedes_pair}
 use Rattle.file_owners.specs.Owners.{claims_in, member_beats, owner_of_path}
-use Rattle.file_owners.specs.Replaces.{is_preferred_replacer, does_first_list_second_in_replaces, takes_over}
+use Rattle.file_owners.specs.Replaces.{is_preferred_by_priority_or_later_name, does_first_list_second_in_replaces, takes_over}
 use Rattle.change_files.specs.Fate.{fate_of}
 use Rattle.change_files.specs.FileChange.{FileChange, is_listed_after_change, old_entry, old_listings, owner_listing}
 use Rattle.change_files.specs.FilesAfter.{is_left_over_modified_file_kept, is_removed, listing_written_under_name}
 use Rattle.change_files.specs.NamesAfter.{is_released, counts_as_written, name_change}
-use Rattle.change_files.specs.PlanLists.{file_writes_of, first_reserved_added_path, sorted_distinct_names, removals_of}
+use Rattle.change_files.specs.PlanLists.{file_writes_of, first_reserved_added_path_in_byte_order, sorted_distinct_names, removals_of}
 use Rattle.file_guard.proofs.Sample.{plain_file}
 use Rattle.change_files.proofs.Sample.{folder, info, need, package_with, with_file}
 
@@ -38,17 +38,17 @@ change old members = record { old = old; members = members; purge = false }
 
 -- neither replaces the other: nobody owns it
 nobody : file_writes_of (change [] (member_of_added p1 [] ∷ member_of_added q1 [] ∷ [])) no_names ≡ []
-unfolding listings_of_members listings_of_path member_beats owner_of_path claims_in member_beating_all_others takes_over does_first_list_second_in_replaces is_preferred_replacer is_version tokens next_lexeme later_component_lexeme number_lexeme suffix_rank hash_lexeme revision_lexeme dependency_of_value old_listings old_entry is_listed_after_change owner_listing fate_of listing_written_under_name sorted_distinct_names file_writes_of
+unfolding listings_of_members listings_of_path member_beats owner_of_path claims_in member_beating_all_others takes_over does_first_list_second_in_replaces is_preferred_by_priority_or_later_name is_version tokens next_lexeme later_component_lexeme number_lexeme suffix_rank hash_lexeme revision_lexeme dependency_of_value old_listings old_entry is_listed_after_change owner_listing fate_of listing_written_under_name sorted_distinct_names file_writes_of
 nobody = refl
 
 -- the second replaces the first
 one_write : file_writes_of (change [] (member_of_added p1 [] ∷ member_of_added q2 [] ∷ [])) no_names ≡ record { name = codes "usr/x"; member = 1; folder = 1; file = 1 } ∷ []
-unfolding listings_of_members listings_of_path member_beats owner_of_path claims_in member_beating_all_others takes_over does_first_list_second_in_replaces is_preferred_replacer is_version tokens next_lexeme later_component_lexeme number_lexeme suffix_rank hash_lexeme revision_lexeme dependency_of_value old_listings old_entry is_listed_after_change owner_listing fate_of listing_written_under_name sorted_distinct_names file_writes_of
+unfolding listings_of_members listings_of_path member_beats owner_of_path claims_in member_beating_all_others takes_over does_first_list_second_in_replaces is_preferred_by_priority_or_later_name is_version tokens next_lexeme later_component_lexeme number_lexeme suffix_rank hash_lexeme revision_lexeme dependency_of_value old_listings old_entry is_listed_after_change owner_listing fate_of listing_written_under_name sorted_distinct_names file_writes_of
 one_write = refl
 
 -- the first one stays and keeps its file, which the second does not replace: nothing is written
 stays : file_writes_of (change (p1 ∷ []) (member_of_kept p1 ∷ [])) (with_file (codes "usr/x") (codes "1")) ≡ []
-unfolding listings_of_members listings_of_path member_beats owner_of_path claims_in member_beating_all_others takes_over does_first_list_second_in_replaces is_preferred_replacer is_version tokens next_lexeme later_component_lexeme number_lexeme suffix_rank hash_lexeme revision_lexeme dependency_of_value old_listings old_entry is_listed_after_change owner_listing fate_of listing_written_under_name sorted_distinct_names file_writes_of
+unfolding listings_of_members listings_of_path member_beats owner_of_path claims_in member_beating_all_others takes_over does_first_list_second_in_replaces is_preferred_by_priority_or_later_name is_version tokens next_lexeme later_component_lexeme number_lexeme suffix_rank hash_lexeme revision_lexeme dependency_of_value old_listings old_entry is_listed_after_change owner_listing fate_of listing_written_under_name sorted_distinct_names file_writes_of
 stays = refl
 
 -- it goes: its file is removed
@@ -93,14 +93,14 @@ smaller_other = refl
 abbrev r2 : Plain
 r2 = package_with (info (codes "r") (codes "1") []) (folder (codes "usr/x") (plain_file (codes "y") 0 [] ∷ []) ∷ folder (codes "lib/apk/db") (plain_file (codes "z") 0 [] ∷ []) ∷ [])
 
-reserved : first_reserved_added_path (member_of_added r2 [] ∷ []) ≡ Some (codes "lib/apk/db/z")
-unfolding listings_of_members first_reserved_added_path
+reserved : first_reserved_added_path_in_byte_order (member_of_added r2 [] ∷ []) ≡ Some (codes "lib/apk/db/z")
+unfolding listings_of_members first_reserved_added_path_in_byte_order
 reserved = refl
 
 -- two of them: the smaller path, not the one that is listed first
 abbrev r3 : Plain
 r3 = package_with (info (codes "r") (codes "1") []) (folder (codes "lib/apk/db") (plain_file (codes "z") 0 [] ∷ []) ∷ folder (codes "etc/apk") (plain_file (codes "world") 0 [] ∷ []) ∷ [])
 
-first_of_two : first_reserved_added_path (member_of_added r3 [] ∷ []) ≡ Some (codes "etc/apk/world")
-unfolding listings_of_members first_reserved_added_path
+first_of_two : first_reserved_added_path_in_byte_order (member_of_added r3 [] ∷ []) ≡ Some (codes "etc/apk/world")
+unfolding listings_of_members first_reserved_added_path_in_byte_order
 first_of_two = refl

@@ -21,13 +21,14 @@ prepend_unless_equal_to_first name [] = name ∷ []
 prepend_unless_equal_to_first name (x ∷ xs) = cond (bytes_eq name x) (x ∷ xs) (name ∷ x ∷ xs)
 
 -- the names, in which adjacent equal ones are replaced by one
-abbrev pub without_adjacent_repeats : List (List ℕ) → List (List ℕ)
-without_adjacent_repeats [] = []
-without_adjacent_repeats (x ∷ xs) = prepend_unless_equal_to_first x (without_adjacent_repeats xs)
+abbrev pub names_with_adjacent_repeats_merged : List (List ℕ) → List (List ℕ)
+names_with_adjacent_repeats_merged [] = []
+names_with_adjacent_repeats_merged (x ∷ xs) =
+    prepend_unless_equal_to_first x (names_with_adjacent_repeats_merged xs)
 
 -- the names, sorted in byte order, each once
 unfoldable pub sorted_distinct_names : List (List ℕ) → List (List ℕ)
-sorted_distinct_names names = without_adjacent_repeats (sorted_by bytes_cmp names)
+sorted_distinct_names names = names_with_adjacent_repeats_merged (sorted_by bytes_cmp names)
 
 -- the paths of the files that the packages before the change list
 abbrev pub old_paths : FileChange → List (List ℕ)
@@ -75,5 +76,5 @@ paths_with_apk_new_file change files =
 -- ---- reserved paths
 
 -- the first reserved path in byte order that an added package lists
-unfoldable pub first_reserved_added_path : List Member → Option (List ℕ)
-first_reserved_added_path members = smallest_text (filter is_reserved (added_paths members))
+unfoldable pub first_reserved_added_path_in_byte_order : List Member → Option (List ℕ)
+first_reserved_added_path_in_byte_order members = smallest_text (filter is_reserved (added_paths members))

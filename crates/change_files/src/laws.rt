@@ -17,7 +17,7 @@ ghost use Rattle.change_files.specs.Fate.{apk_new_name};
 ghost use Rattle.change_files.specs.FileChange.{FileChange, added_owner_listing, is_listed_after_change, old_listings, owner_listing, was_listed};
 ghost use Rattle.change_files.specs.FilesAfter.{DatabaseAndWorldAfter, files_after_change, database_name, is_left_over_modified_file_kept, is_left_over_and_not_written, is_removed, is_listing_written_under_name, listing_written_as_apk_new_beside, listing_bytes, text_database_name, world_name, listing_written_under_name};
 ghost use Rattle.change_files.specs.NamesAfter.{is_released, name_change};
-ghost use Rattle.change_files.specs.PlanLists.{FileWrite, paths_with_apk_new_file, file_writes_of, first_reserved_added_path, kept_left_over_paths_of, removals_of};
+ghost use Rattle.change_files.specs.PlanLists.{FileWrite, paths_with_apk_new_file, file_writes_of, first_reserved_added_path_in_byte_order, kept_left_over_paths_of, removals_of};
 ghost use Rattle.change_files.specs.Touched.{DiffersFromOldEntryIfAny, IsModifiedConfigFile, IsPlannedWrite, is_name_of_written_apk_new_file, is_added_path, is_old_or_new_database_or_world_name};
 
 // ---- what is written
@@ -104,7 +104,7 @@ pub fn what_is_written_is_not_reserved()
     // If no added package lists a reserved path, a name under which a listed file is written is not
     // reserved.
     ensures written { (change : FileChange) (files : Files) (name : List ℕ) (l : Listing)
-        → first_reserved_added_path change.members ≡ None
+        → first_reserved_added_path_in_byte_order change.members ≡ None
         → listing_written_under_name change files name ≡ Some l
         → is_reserved name ≡ false }
     // The names of the database, of world and of a text database are reserved.

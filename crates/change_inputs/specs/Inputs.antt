@@ -29,9 +29,9 @@ pub record Root : Type 0 where
 
 -- a root with this database, this text of world's file, this world and these repositories; the new world is what the
 -- command makes of world
-abbrev pub root_from_parts :
+abbrev pub root_with_new_world_of_command :
     CommandLine → Database → List ℕ → List Dependency → List Repository → Root
-root_from_parts command database text world repositories = record {
+root_with_new_world_of_command command database text world repositories = record {
   database = database;
   world_text = text;
   world = world;
@@ -50,7 +50,8 @@ root_from_databases_world_repositories command file text world_file repositories
     and_then
     (root_repositories command.flags.allow_untrusted (found_text_or_empty repositories_file))
     (λ repositories.
-    Ok (root_from_parts command database (found_text_or_empty world_file) world repositories))))
+    Ok (root_with_new_world_of_command command database
+    (found_text_or_empty world_file) world repositories))))
 
 -- all that a change reads: the contents of a root's files, and the value of each repository's index
 pub record Inputs : Type 0 where

@@ -18,10 +18,10 @@ use Rattle.package_changes.proofs.change_files.PlanNames.{removals_hold, written
 use Rattle.package_changes.proofs.change_files.Reserved.{written_unreserved}
 use Rattle.change_inputs.specs.Inputs.{Inputs}
 use Rattle.change_outcome.specs.ChangeOutcome.{intent_of_change, is_absent_or_different, name_if_needed, names_of_written_database_and_world}
-use Rattle.journal_core.specs.journal_intent.FreeNames.{HasFreeDistinctNames, IsNoneOf, IsOneOf}
+use Rattle.journal_core.specs.journal_intent.FreeNames.{HasFreeNamesAndUnrepeatedWrites, IsNoneOf, IsOneOf}
 use Rattle.journal_core.specs.journal_intent.Intent.{Intent}
 use Rattle.journal_core.specs.journal_intent.IntentValue.{intent_of_lists}
-use Rattle.change_outcome.specs.Premises.{HasNoReservedPath}
+use Rattle.change_outcome.specs.Premises.{OldAndAddedPackagesListNoReservedPath}
 use Rattle.change_outcome.proofs.FreeNames.{free_outside, frees, name_of_any, none_of, once_rising, outside_unreserved}
 
 pub needed : (b : Bool) (name q : List ℕ) → IsIn q (name_if_needed b name) → (q ≡ name) × (b ≡ true)
@@ -96,7 +96,7 @@ module _ (inputs : Inputs) (change : FileChange) (files : Files) (records : Data
         | inr world ↦ inr (needed (not (bytes_eq inputs.root.world_text records.world)) world_name q world).0
       ]
 
-  module _ (free : HasNoReservedPath change) where
+  module _ (free : OldAndAddedPackagesListNoReservedPath change) where
     pub written_free : (q : List ℕ) → is_listing_written_under_name change files q ≡ true → is_reserved q ≡ false
     written_free q written = let l = some_listing (listing_written_under_name change files q) written in written_unreserved change files q l.0 free.coming l.1
 
@@ -137,7 +137,7 @@ module _ (inputs : Inputs) (change : FileChange) (files : Files) (records : Data
           | inr own ↦ not_removed q (database_and_world_names q own) gone
         ]
 
-    pub free_names : HasFreeDistinctNames (intent_of_lists actions.removals actions.writes)
+    pub free_names : HasFreeNamesAndUnrepeatedWrites (intent_of_lists actions.removals actions.writes)
     free_names = record {
       removals = frees actions.removals (λ q at. free_outside q (removal_outside q (any_name q actions.removals at)));
       writes = frees actions.writes (λ q at. free_outside q (write_outside q (any_name q actions.writes at)));

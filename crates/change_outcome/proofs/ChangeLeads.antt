@@ -25,7 +25,7 @@ use Rattle.journal_core.specs.Staged.{HasNoStagedNames}
 use Rattle.journal_core.specs.journal_intent.FreeNames.{IsNoneOf, IsOneOf}
 use Rattle.journal_core.specs.journal_intent.Intent.{Intent}
 use Rattle.change_outcome.specs.Leading.{CanStageActionsLeadingToFiles}
-use Rattle.change_outcome.specs.Premises.{HasNoReservedPath, AreDatabaseAndWorldReadFromFiles}
+use Rattle.change_outcome.specs.Premises.{OldAndAddedPackagesListNoReservedPath, AreDatabaseAndWorldReadFromFiles}
 use Rattle.change_outcome.proofs.ActionNames.{free_names, from_removals, from_writes, if_needed, needed, none_removed, none_written, removed_free, written_free}
 
 some_there : (o : Option (List ℕ)) (bytes : List ℕ) → o ≡ Some bytes → IsSome o
@@ -123,7 +123,7 @@ module _ (inputs : Inputs) (change : FileChange) (bytes_of : Listing → List �
       let parts = or_parts (not (length actions.removals == 0)) (not (length actions.writes == 0)) nothing in
       keeps q (ap (λ (names : List (List ℕ)). list_any (bytes_eq q) names) (no_names actions.removals parts.0)) (ap (λ (names : List (List ℕ)). list_any (bytes_eq q) names) (no_names actions.writes parts.1)) i
 
-  module _ (free : HasNoReservedPath change) where
+  module _ (free : OldAndAddedPackagesListNoReservedPath change) where
     unreserved_no_record : (q : List ℕ) → is_reserved q ≡ false → is_old_or_new_database_or_world_name records q ≡ false
     unreserved_no_record q unreserved = false_from_ne_true (is_old_or_new_database_or_world_name records q) (λ is. true≢false (sym (records_reserved records q is) ∙ unreserved))
 

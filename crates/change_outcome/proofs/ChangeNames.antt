@@ -16,7 +16,7 @@ use Rattle.package_changes.proofs.change_files.Lists.{any_name}
 use Rattle.change_inputs.specs.Inputs.{Inputs}
 use Rattle.change_outcome.specs.ChangeOutcome.{intent_of_change}
 use Rattle.journal_core.specs.journal_intent.Intent.{AreDistinctNamesAllowedInIntent, Intent}
-use Rattle.change_outcome.specs.Premises.{HasNoReservedPath}
+use Rattle.change_outcome.specs.Premises.{OldAndAddedPackagesListNoReservedPath}
 use Rattle.change_outcome.proofs.ActionNames.{never_both, removal_outside, write_outside}
 
 -- ---- all of a list
@@ -66,7 +66,7 @@ both_true true true x y = absurd (true≢false y)
 both_true true false x y = refl
 both_true false b x y = absurd (true≢false (sym x))
 
-module _ (inputs : Inputs) (change : FileChange) (files : Files) (records : DatabaseAndWorldAfter) (free : HasNoReservedPath change) where
+module _ (inputs : Inputs) (change : FileChange) (files : Files) (records : DatabaseAndWorldAfter) (free : OldAndAddedPackagesListNoReservedPath change) where
   abbrev actions : Intent
   actions = intent_of_change inputs change files records
 

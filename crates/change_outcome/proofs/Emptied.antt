@@ -8,7 +8,7 @@ use Rattle.journal_core.specs.Recovery.{files_after_actions, files_after_staged_
 use Rattle.journal_core.specs.Staged.{files_with_staged}
 use Rattle.journal_core.proofs.Acts.{dropped_none}
 use Rattle.journal_core.proofs.journal_intent.AtName.{drop_name-at, put_name-off}
-use Rattle.journal_core.specs.journal_intent.FreeNames.{AreFreeNames, HasFreeDistinctNames, IsFreeName}
+use Rattle.journal_core.specs.journal_intent.FreeNames.{AreFreeNames, HasFreeNamesAndUnrepeatedWrites, IsFreeName}
 use Rattle.journal_core.specs.journal_intent.IntentValue.{intent_of_lists}
 
 true_false : true ≡ false → ⊥
@@ -64,7 +64,7 @@ moves_empty (name ∷ names) k F q staged free where_it_is =
     next (inr (suc i, less, is)) = inr (i, omega (arith, less), is ∙ ap stage_name (omega arith))
 
 -- a name below the stage has nothing once all that was staged is moved
-pub acted_empty : (removals writes contents : List (List ℕ)) (base : Files) (q : List ℕ) → HasFreeDistinctNames (intent_of_lists removals writes) → length contents ≡ length writes → is_staged q ≡ true → base q ≡ None
+pub acted_empty : (removals writes contents : List (List ℕ)) (base : Files) (q : List ℕ) → HasFreeNamesAndUnrepeatedWrites (intent_of_lists removals writes) → length contents ≡ length writes → is_staged q ≡ true → base q ≡ None
     → files_after_actions (intent_of_lists removals writes) (files_with_staged 1 contents base) q ≡ None
 acted_empty removals writes contents base q free count staged none =
     moves_empty writes 1 (files_without_names removals (files_with_staged 1 contents base)) q staged free.writes (before (staged_where contents 1 base q none))

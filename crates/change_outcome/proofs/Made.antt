@@ -4,15 +4,15 @@ use Rattle.db_write.specs.adb_write.Canonical.{ByteAndValueCounts, overflow_of}
 use Rattle.base_core.specs.Files.{Files, HasOnlyNamesAmong}
 use Rattle.package_changes.specs.change_files.FileChange.{FileChange}
 use Rattle.package_changes.specs.change_files.NamesAfter.{name_change}
-use Rattle.package_changes.specs.change_files.PlanLists.{first_reserved_added_path}
+use Rattle.package_changes.specs.change_files.PlanLists.{first_reserved_added_path_in_byte_order}
 use Rattle.change_inputs.specs.Chains.{and_then}
 use Rattle.change_inputs.specs.Inputs.{Inputs}
-use Rattle.change_outcome.specs.ChangeOutcome.{ChangeDone, ChangeWishes, IsFirstClashIfMembersFound, IsFirstClashOfChange, intent_of_change, change_done, members_after_change, change_or_refusal, change_with_members, file_change, database_and_world_after_change, touched_paths, unless_clash, unless_contested, or_result_too_large, unless_overflow, unless_reserved_path, change_done_unless_too_large}
+use Rattle.change_outcome.specs.ChangeOutcome.{ChangeDone, ChangeWishes, IsFirstClashUnlessMembersRefused, IsFirstClashOfChange, intent_of_change, change_done, members_after_change, change_or_refusal, change_with_members, packages_before_and_after_with_purge, database_and_world_after_change, touched_paths, unless_clash, unless_contested, or_result_too_large, unless_overflow, unless_reserved_path, change_done_unless_too_large}
 use Rattle.change_outcome.specs.MembersAfter.{MemberFound}
 use Rattle.change_outcome.specs.Triggers.{unless_trigger_due}
 use Rattle.db_write.specs.db_core.Members.{Member}
 use Rattle.db_write.specs.NewDatabase.{database_of}
-use Rattle.package_changes.specs.file_owners.Owners.{first_contested_path_of_members, owned_flags_of}
+use Rattle.package_changes.specs.file_owners.Owners.{first_contested_member_path_in_byte_order, owned_flags_of}
 use Rattle.journal_core.specs.Staged.{HasEmptyStageAndFreeJournalPaths}
 use Rattle.journal_core.specs.journal_intent.Intent.{intent_name}
 use Rattle.journal_core.specs.journal_intent.IntentValue.{value_of_intent}
@@ -58,12 +58,12 @@ overflow_ok (Some counts) x a e = absurd (cc (e))
 module _ (inputs : Inputs) (r : Replacement) (wishes : ChangeWishes) (read : Reads) (clash : Option NamePair) (files : Files) (done : ChangeDone) where
   with_found : (found : List MemberFound) → members_after_change inputs r wishes read ≡ Ok found → change_with_members inputs r wishes clash files found ≡ Ok done → IsChangeMade inputs r wishes read clash files done
   with_found found are e =
-      let change : FileChange = file_change inputs wishes found in
-      let reserved = unreserved_ok (first_reserved_added_path change.members) (unless_clash clash (unless_contested change.members (first_contested_path_of_members change.members)
+      let change : FileChange = packages_before_and_after_with_purge inputs wishes found in
+      let reserved = unreserved_ok (first_reserved_added_path_in_byte_order change.members) (unless_clash clash (unless_contested change.members (first_contested_member_path_in_byte_order change.members)
       (and_then (unless_trigger_due wishes.no_scripts (touched_paths change files) change.members) (λ is_allowed. change_done_unless_too_large inputs r wishes found files)))) done e in
-      let clashes = no_clash_ok clash (unless_contested change.members (first_contested_path_of_members change.members)
+      let clashes = no_clash_ok clash (unless_contested change.members (first_contested_member_path_in_byte_order change.members)
       (and_then (unless_trigger_due wishes.no_scripts (touched_paths change files) change.members) (λ is_allowed. change_done_unless_too_large inputs r wishes found files))) done reserved.1 in
-      let contested = uncontested_ok change.members (first_contested_path_of_members change.members)
+      let contested = uncontested_ok change.members (first_contested_member_path_in_byte_order change.members)
       (and_then (unless_trigger_due wishes.no_scripts (touched_paths change files) change.members) (λ is_allowed. change_done_unless_too_large inputs r wishes found files)) done clashes.1 in
       let triggers = and_then_ok (unless_trigger_due wishes.no_scripts (touched_paths change files) change.members) (λ is_allowed. change_done_unless_too_large inputs r wishes found files) done contested.1 in
       let large = and_then_ok (or_result_too_large (database_of change.members (owned_flags_of change.members))) (λ database.
@@ -92,35 +92,35 @@ module _ (inputs : Inputs) (r : Replacement) (wishes : ChangeWishes) (read : Rea
   pub leaves_files : IsChangeMade inputs r wishes read clash files done → AreDatabaseAndWorldReadFromFiles files inputs.root → done.commits ≡ false → done.files ≡ files
   leaves_files m root nothing =
       ap (λ (d : ChangeDone). d.files) m.is
-      ∙ does_nothing inputs (file_change inputs wishes m.found) _ m.database files root (sym (ap (λ (d : ChangeDone). d.commits) m.is) ∙ nothing)
+      ∙ does_nothing inputs (packages_before_and_after_with_purge inputs wishes m.found) _ m.database files root (sym (ap (λ (d : ChangeDone). d.commits) m.is) ∙ nothing)
 
-  no_clash_found : (m : IsChangeMade inputs r wishes read clash files done) → IsFirstClashOfChange inputs r wishes read files clash → HasNoClash (name_change (file_change inputs wishes m.found) files) files
+  no_clash_found : (m : IsChangeMade inputs r wishes read clash files done) → IsFirstClashOfChange inputs r wishes read files clash → HasNoClash (name_change (packages_before_and_after_with_purge inputs wishes m.found) files) files
   no_clash_found m clashes =
-      let at : IsFirstClashIfMembersFound inputs wishes files (Ok m.found) clash = subst (λ (x : Result (List MemberFound) Refusal). IsFirstClashIfMembersFound inputs wishes files x clash) m.members clashes in
-      subst (λ (o : Option NamePair). IsFirstClashOrNone (name_change (file_change inputs wishes m.found) files) files o) m.no_clash at
+      let at : IsFirstClashUnlessMembersRefused inputs wishes files (Ok m.found) clash = subst (λ (x : Result (List MemberFound) Refusal). IsFirstClashUnlessMembersRefused inputs wishes files x clash) m.members clashes in
+      subst (λ (o : Option NamePair). IsFirstClashOrNone (name_change (packages_before_and_after_with_purge inputs wishes m.found) files) files o) m.no_clash at
 
   pub keeps_room : IsChangeMade inputs r wishes read clash files done → IsFirstClashOfChange inputs r wishes read files clash → HasEmptyStageAndFreeJournalPaths files → HasEmptyStageAndFreeJournalPaths done.files
   keeps_room m clashes stage =
       subst (λ (d : ChangeDone). HasEmptyStageAndFreeJournalPaths d.files) (sym m.is)
-      (room (file_change inputs wishes m.found) _ (database_and_world_after_change inputs m.database) files m.unreserved stage (no_clash_found m clashes))
+      (room (packages_before_and_after_with_purge inputs wishes m.found) _ (database_and_world_after_change inputs m.database) files m.unreserved stage (no_clash_found m clashes))
 
   pub brings_no_intent : IsChangeMade inputs r wishes read clash files done → files intent_name ≡ None → done.files intent_name ≡ None
   brings_no_intent m absent =
       ap (λ (d : ChangeDone). d.files intent_name) m.is
-      ∙ no_intent (file_change inputs wishes m.found) _ (database_and_world_after_change inputs m.database) files m.unreserved absent
+      ∙ no_intent (packages_before_and_after_with_purge inputs wishes m.found) _ (database_and_world_after_change inputs m.database) files m.unreserved absent
 
 -- ---- the first clash
 
-found_once : (inputs : Inputs) (wishes : ChangeWishes) (files : Files) (members : Result (List MemberFound) Refusal) (a b : Option NamePair) → IsFirstClashIfMembersFound inputs wishes files members a → IsFirstClashIfMembersFound inputs wishes files members b → a ≡ b
-found_once inputs wishes files (Ok found) a b one other = one_first (name_change (file_change inputs wishes found) files) files a b one other
+found_once : (inputs : Inputs) (wishes : ChangeWishes) (files : Files) (members : Result (List MemberFound) Refusal) (a b : Option NamePair) → IsFirstClashUnlessMembersRefused inputs wishes files members a → IsFirstClashUnlessMembersRefused inputs wishes files members b → a ≡ b
+found_once inputs wishes files (Ok found) a b one other = one_first (name_change (packages_before_and_after_with_purge inputs wishes found) files) files a b one other
 found_once inputs wishes files (Err refusal) a b one other = one ∙ sym other
 
 pub clash_once : (inputs : Inputs) (r : Replacement) (wishes : ChangeWishes) (read : Reads) (files : Files) (a b : Option NamePair)
     → IsFirstClashOfChange inputs r wishes read files a → IsFirstClashOfChange inputs r wishes read files b → a ≡ b
 clash_once inputs r wishes read files a b one other = found_once inputs wishes files (members_after_change inputs r wishes read) a b one other
 
-clash_of_found : (inputs : Inputs) (wishes : ChangeWishes) (within : List (List ℕ)) (files : Files) → HasOnlyNamesAmong within files → (members : Result (List MemberFound) Refusal) → (clash : Option NamePair) × IsFirstClashIfMembersFound inputs wishes files members clash
-clash_of_found inputs wishes within files finite (Ok found) = clash_exists (file_change inputs wishes found) files within finite
+clash_of_found : (inputs : Inputs) (wishes : ChangeWishes) (within : List (List ℕ)) (files : Files) → HasOnlyNamesAmong within files → (members : Result (List MemberFound) Refusal) → (clash : Option NamePair) × IsFirstClashUnlessMembersRefused inputs wishes files members clash
+clash_of_found inputs wishes within files finite (Ok found) = clash_exists (packages_before_and_after_with_purge inputs wishes found) files within finite
 clash_of_found inputs wishes within files finite (Err refusal) = (None, refl)
 
 pub a_clash_found : (inputs : Inputs) (r : Replacement) (wishes : ChangeWishes) (read : Reads) (within : List (List ℕ)) (files : Files) → HasOnlyNamesAmong within files

@@ -6,7 +6,7 @@ use Rattle.base_core.specs.Files.{Files}
 use Rattle.base_core.specs.declared.cause.Cause.{Cause}
 use Rattle.change_inputs.specs.Chains.{and_then, unless_cause}
 use Rattle.change_inputs.specs.Database.{Database, payload_database, root_database}
-use Rattle.change_inputs.specs.Inputs.{Inputs, Root, database_read_number, indexes_of, inputs_from_parts, inputs_of, repositories_read_number, root_from_parts, root_from_databases_world_repositories, root_for, text_database_read_number, world_read_number}
+use Rattle.change_inputs.specs.Inputs.{Inputs, Root, database_read_number, indexes_of, inputs_from_parts, inputs_of, repositories_read_number, root_with_new_world_of_command, root_from_databases_world_repositories, root_for, text_database_read_number, world_read_number}
 use Rattle.change_inputs.specs.Repositories.{root_repositories}
 use Rattle.change_inputs.specs.World.{root_world, found_text_or_empty}
 use Rattle.command_core.specs.Command.{CommandLine}
@@ -50,15 +50,15 @@ module _ (command : CommandLine) (file text world_file repositories_file : Optio
       let after_database : Database → Result Root Refusal = λ database.
       and_then (root_world (found_text_or_empty world_file)) (λ world.
       and_then (root_repositories command.flags.allow_untrusted (found_text_or_empty repositories_file)) (λ repositories.
-      Ok (root_from_parts command database (found_text_or_empty world_file) world repositories))) in
+      Ok (root_with_new_world_of_command command database (found_text_or_empty world_file) world repositories))) in
       let database = and_then_ok (root_database command.flags.initdb file text) after_database root e in
       let after_world : List Dependency → Result Root Refusal = λ world.
       and_then (root_repositories command.flags.allow_untrusted (found_text_or_empty repositories_file)) (λ repositories.
-      Ok (root_from_parts command database.0 (found_text_or_empty world_file) world repositories)) in
+      Ok (root_with_new_world_of_command command database.0 (found_text_or_empty world_file) world repositories)) in
       let world = and_then_ok (root_world (found_text_or_empty world_file)) after_world root database.2 in
-      let after_repositories : List Repository → Result Root Refusal = λ repositories. Ok (root_from_parts command database.0 (found_text_or_empty world_file) world.0 repositories) in
+      let after_repositories : List Repository → Result Root Refusal = λ repositories. Ok (root_with_new_world_of_command command database.0 (found_text_or_empty world_file) world.0 repositories) in
       let repositories = and_then_ok (root_repositories command.flags.allow_untrusted (found_text_or_empty repositories_file)) after_repositories root world.2 in
-      let same : root_from_parts command database.0 (found_text_or_empty world_file) world.0 repositories.0 ≡ root = (let last = repositories.2 in cc) in (
+      let same : root_with_new_world_of_command command database.0 (found_text_or_empty world_file) world.0 repositories.0 ≡ root = (let last = repositories.2 in cc) in (
         ap (λ (x : Root). x.database.file) (sym same) ∙ database_file command.flags.initdb file text database.0 database.1,
         ap (λ (x : Root). x.world_text) (sym same),
       )

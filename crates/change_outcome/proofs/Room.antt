@@ -13,7 +13,7 @@ use Rattle.package_changes.specs.change_files.FileChange.{FileChange}
 use Rattle.package_changes.specs.change_files.FilesAfter.{DatabaseAndWorldAfter, bytes_after_write_or_removal, files_after_change, database_name, is_removed, listing_written_as_apk_new_beside, path_of_apk_new_name, text_database_name, world_name, listing_written_under_name, listing_written_in_place}
 use Rattle.std.specs.Option.{option_or}
 use Rattle.package_changes.specs.change_files.NamesAfter.{added_paths, counts_as_written, name_change}
-use Rattle.package_changes.specs.change_files.PlanLists.{first_reserved_added_path}
+use Rattle.package_changes.specs.change_files.PlanLists.{first_reserved_added_path_in_byte_order}
 use Rattle.package_changes.specs.change_files.Touched.{is_old_or_new_database_or_world_name}
 use Rattle.package_changes.proofs.change_files.AfterNames.{names_after}
 use Rattle.package_changes.proofs.change_files.Reserved.{unreserved_path, written_unreserved}
@@ -90,7 +90,7 @@ beside_written change files name there = by_both (listing_written_in_place chang
     by_both (Some l) b e = (l, refl)
 
 -- the database, world, or a name that is not reserved
-pub counted_is : (change : FileChange) (files : Files) (name : List ℕ) → first_reserved_added_path change.members ≡ None → counts_as_written change files name ≡ true
+pub counted_is : (change : FileChange) (files : Files) (name : List ℕ) → first_reserved_added_path_in_byte_order change.members ≡ None → counts_as_written change files name ≡ true
     → (name ≡ database_name) ⊎ ((name ≡ world_name) ⊎ (is_reserved name ≡ false))
 unfolding counts_as_written
 counted_is change files name none counts =
@@ -160,7 +160,7 @@ intent_no_record : (records : DatabaseAndWorldAfter) → is_old_or_new_database_
 intent_no_record records = unlike_records (λ q. bytes_eq q intent_name) records intent_name refl refl refl refl
 
 -- a reserved name that is absent stays so
-module _ (change : FileChange) (bytes_of : Listing → List ℕ) (records : DatabaseAndWorldAfter) (files : Files) (none : first_reserved_added_path change.members ≡ None) where
+module _ (change : FileChange) (bytes_of : Listing → List ℕ) (records : DatabaseAndWorldAfter) (files : Files) (none : first_reserved_added_path_in_byte_order change.members ≡ None) where
   unwritten : (q : List ℕ) → is_reserved q ≡ true → (o : Option Listing) → listing_written_under_name change files q ≡ o → o ≡ None
   unwritten q reserved None is = refl
   unwritten q reserved (Some l) is = absurd (true≢false (sym reserved ∙ written_unreserved change files q l none is))
@@ -178,7 +178,7 @@ module _ (change : FileChange) (bytes_of : Listing → List ℕ) (records : Data
   pub no_intent : files intent_name ≡ None → files_after_change change bytes_of records files intent_name ≡ None
   no_intent absent = reserved_absent intent_name refl (intent_no_record records) absent
 
-module _ (change : FileChange) (bytes_of : Listing → List ℕ) (records : DatabaseAndWorldAfter) (files : Files) (none : first_reserved_added_path change.members ≡ None) (stage : HasEmptyStageAndFreeJournalPaths files) (apart : HasNoClash (name_change change files) files) where
+module _ (change : FileChange) (bytes_of : Listing → List ℕ) (records : DatabaseAndWorldAfter) (files : Files) (none : first_reserved_added_path_in_byte_order change.members ≡ None) (stage : HasEmptyStageAndFreeJournalPaths files) (apart : HasNoClash (name_change change files) files) where
   abbrev after : Files
   after = files_after_change change bytes_of records files
 

@@ -9,18 +9,18 @@ use Rattle.base_core.specs.Files.{Files}
 use Rattle.package_changes.specs.change_files.FileChange.{FileChange}
 use Rattle.package_changes.specs.change_files.FilesAfter.{DatabaseAndWorldAfter, files_after_change, listing_bytes}
 use Rattle.package_changes.specs.change_files.NamesAfter.{name_change}
-use Rattle.package_changes.specs.change_files.PlanLists.{paths_with_apk_new_file, file_writes_of, first_reserved_added_path, kept_left_over_paths_of, sorted_distinct_names, removals_of}
+use Rattle.package_changes.specs.change_files.PlanLists.{paths_with_apk_new_file, file_writes_of, first_reserved_added_path_in_byte_order, kept_left_over_paths_of, sorted_distinct_names, removals_of}
 use Rattle.change_inputs.specs.Chains.{and_then}
 use Rattle.change_inputs.specs.Inputs.{Inputs}
 use Rattle.db_write.specs.db_core.Members.{Member, member_name}
 use Rattle.db_write.specs.NewDatabase.{database_of}
 use Rattle.dep_core.specs.World.{world_text}
-use Rattle.package_changes.specs.file_owners.Owners.{first_contested_path_of_members, owned_flags_of}
+use Rattle.package_changes.specs.file_owners.Owners.{first_contested_member_path_in_byte_order, owned_flags_of}
 use Rattle.journal_core.specs.journal_intent.Intent.{Intent}
 use Rattle.journal_core.specs.journal_intent.IntentValue.{value_of_intent}
 use Rattle.change_inputs.specs.make_info.Reads.{Reads}
 use Rattle.package_changes.specs.Changes.{Replacement, changes_of}
-use Rattle.package_changes.specs.Report.{still_needed_lines}
+use Rattle.package_changes.specs.Report.{lines_on_names_that_stay}
 use Rattle.package_changes.specs.path_claims.Claims.{ContestedPath}
 use Rattle.package_changes.specs.path_clashes.Clash.{NamePair}
 use Rattle.package_changes.specs.path_clashes.FirstClash.{IsFirstClashOrNone}
@@ -45,8 +45,8 @@ pub record ChangeWishes : Type 0 where
 
 -- what decides which files a change writes, removes and keeps: the packages before, the found packages after it, and
 -- `--purge`
-abbrev pub file_change : Inputs → ChangeWishes → List MemberFound → FileChange
-file_change inputs wishes found = record {
+abbrev pub packages_before_and_after_with_purge : Inputs → ChangeWishes → List MemberFound → FileChange
+packages_before_and_after_with_purge inputs wishes found = record {
   old = inputs.root.database.packages;
   members = found_members found;
   purge = wishes.purge;
@@ -152,7 +152,7 @@ touched_paths change files = map (λ w. w.name) (file_writes_of change files) ++
 -- was to be removed, for each modified configuration file, and for each due trigger; and the sums.
 abbrev pub change_report : Replacement → ChangeWishes → FileChange → Files → List ℕ
 change_report r wishes change files =
-    change_lines (changes_of r) ++ still_needed_lines r.before r.selected wishes.to_remove
+    change_lines (changes_of r) ++ lines_on_names_that_stay r.before r.selected wishes.to_remove
     ++ lines_of_apk_new_and_kept_paths (paths_with_apk_new_file change files)
     (kept_left_over_paths_of change files)
     ++ trigger_lines (touched_paths change files) change.members ++ member_sum_line change.members
@@ -173,7 +173,7 @@ pub record ChangeDone : Type 0 where
 abbrev pub change_done :
     Inputs → Replacement → ChangeWishes → List MemberFound → Files → DatabaseAndWorldAfter → ChangeDone
 change_done inputs r wishes found files records =
-    let change = file_change inputs wishes found in
+    let change = packages_before_and_after_with_purge inputs wishes found in
     record {
       report = change_report r wishes change files;
       files = files_after_change change (listing_bytes (found_package_contents found)) records files;
@@ -185,7 +185,7 @@ change_done inputs r wishes found files records =
 abbrev pub change_done_unless_too_large :
     Inputs → Replacement → ChangeWishes → List MemberFound → Files → Result ChangeDone Refusal
 change_done_unless_too_large inputs r wishes found files =
-    let change = file_change inputs wishes found in
+    let change = packages_before_and_after_with_purge inputs wishes found in
     and_then (or_result_too_large (database_of change.members (owned_flags_of change.members))) (λ database.
     let records = database_and_world_after_change inputs database in
     let actions = intent_of_change inputs change files records in
@@ -198,10 +198,10 @@ abbrev pub change_with_members :
     Inputs → Replacement → ChangeWishes → Option NamePair → Files → List MemberFound
     → Result ChangeDone Refusal
 change_with_members inputs r wishes clash files found =
-    let change = file_change inputs wishes found in
-    unless_reserved_path (first_reserved_added_path change.members)
+    let change = packages_before_and_after_with_purge inputs wishes found in
+    unless_reserved_path (first_reserved_added_path_in_byte_order change.members)
     (unless_clash clash
-    (unless_contested change.members (first_contested_path_of_members change.members)
+    (unless_contested change.members (first_contested_member_path_in_byte_order change.members)
     (and_then (unless_trigger_due wishes.no_scripts (touched_paths change files) change.members)
     (λ is_allowed. change_done_unless_too_large inputs r wishes found files))))
 
@@ -224,25 +224,26 @@ change_or_refusal inputs r wishes read clash files =
 -- `clash` is the first clash of the names after a change, or None, if the packages after it are found; otherwise None.
 -- `files` decide whether a configuration file is kept or a file is written beside it; names clash among
 -- `present_files`.
-abbrev pub IsFirstClashIfMembersFoundAmong :
+abbrev pub IsFirstClashUnlessMembersRefusedAmong :
     Inputs → ChangeWishes → Files → Files → Result (List MemberFound) Refusal → Option NamePair
     → Type 0
-IsFirstClashIfMembersFoundAmong inputs wishes files present_files (Ok found) clash =
-    IsFirstClashOrNone (name_change (file_change inputs wishes found) files) present_files clash
-IsFirstClashIfMembersFoundAmong inputs wishes files present_files (Err refusal) clash = clash ≡ None
+IsFirstClashUnlessMembersRefusedAmong inputs wishes files present_files (Ok found) clash =
+    IsFirstClashOrNone (name_change
+    (packages_before_and_after_with_purge inputs wishes found) files) present_files clash
+IsFirstClashUnlessMembersRefusedAmong inputs wishes files present_files (Err refusal) clash = clash ≡ None
 
--- *IsFirstClashIfMembersFoundAmong* for the packages that the reads find
+-- *IsFirstClashUnlessMembersRefusedAmong* for the packages that the reads find
 abbrev pub IsFirstClashOfChangeAmong :
     Inputs → Replacement → ChangeWishes → Reads → Files → Files → Option NamePair → Type 0
 IsFirstClashOfChangeAmong inputs r wishes read files present_files clash =
-    IsFirstClashIfMembersFoundAmong inputs wishes files present_files
+    IsFirstClashUnlessMembersRefusedAmong inputs wishes files present_files
     (members_after_change inputs r wishes read) clash
 
--- *IsFirstClashIfMembersFoundAmong*, with the same files as `present_files`, as on an observable tree
-abbrev pub IsFirstClashIfMembersFound :
+-- *IsFirstClashUnlessMembersRefusedAmong*, with the same files as `present_files`, as on an observable tree
+abbrev pub IsFirstClashUnlessMembersRefused :
     Inputs → ChangeWishes → Files → Result (List MemberFound) Refusal → Option NamePair → Type 0
-IsFirstClashIfMembersFound inputs wishes files members clash =
-    IsFirstClashIfMembersFoundAmong inputs wishes files files members clash
+IsFirstClashUnlessMembersRefused inputs wishes files members clash =
+    IsFirstClashUnlessMembersRefusedAmong inputs wishes files files members clash
 
 -- *IsFirstClashOfChangeAmong*, with the same files as `present_files`, as on an observable tree
 abbrev pub IsFirstClashOfChange :

@@ -3,7 +3,7 @@
 use Rattle.std.specs.Prelude.{◌≡◌, ℕ, ◌<◌, ◌^◌, List, length, None, IsSome}
 use Rattle.base_core.specs.Files.{Files}
 use Rattle.journal_core.specs.Staged.{HasNoStagedNames}
-use Rattle.journal_core.specs.journal_intent.FreeNames.{HasFreeDistinctNames, IsNoneOf, IsOneOf}
+use Rattle.journal_core.specs.journal_intent.FreeNames.{HasFreeNamesAndUnrepeatedWrites, IsNoneOf, IsOneOf}
 use Rattle.journal_core.specs.journal_intent.IntentValue.{intent_of_lists}
 
 -- a change has fewer writes than this limit, so that their number plus 1 fits into 64 bits
@@ -15,7 +15,7 @@ write_count_limit = 2 ^ 63
 pub record CanStageActionsLeadingToFiles (removals writes : List (List ℕ))
     (files after : Files) : Type 0 where
   -- the names are not used by the journal; none is written twice, and none is both written and removed
-  pub free : HasFreeDistinctNames (intent_of_lists removals writes)
+  pub free : HasFreeNamesAndUnrepeatedWrites (intent_of_lists removals writes)
   -- there are fewer writes than the limit
   pub few : length writes < write_count_limit
   -- nothing is staged in the files before

@@ -3,12 +3,12 @@
 use Rattle.std.specs.Prelude.{◌≡◌, ℕ, List, Option, None, Ok}
 use Rattle.db_write.specs.adb_write.Canonical.{overflow_of}
 use Rattle.base_core.specs.Files.{Files}
-use Rattle.package_changes.specs.change_files.PlanLists.{first_reserved_added_path}
+use Rattle.package_changes.specs.change_files.PlanLists.{first_reserved_added_path_in_byte_order}
 use Rattle.change_inputs.specs.Inputs.{Inputs}
-use Rattle.change_outcome.specs.ChangeOutcome.{ChangeDone, ChangeWishes, intent_of_change, change_done, members_after_change, file_change, database_and_world_after_change}
+use Rattle.change_outcome.specs.ChangeOutcome.{ChangeDone, ChangeWishes, intent_of_change, change_done, members_after_change, packages_before_and_after_with_purge, database_and_world_after_change}
 use Rattle.change_outcome.specs.MembersAfter.{MemberFound, found_members}
 use Rattle.db_write.specs.NewDatabase.{database_of}
-use Rattle.package_changes.specs.file_owners.Owners.{first_contested_path_of_members, owned_flags_of}
+use Rattle.package_changes.specs.file_owners.Owners.{first_contested_member_path_in_byte_order, owned_flags_of}
 use Rattle.journal_core.specs.journal_intent.IntentValue.{value_of_intent}
 use Rattle.change_inputs.specs.make_info.Reads.{Reads}
 use Rattle.package_changes.specs.Changes.{Replacement}
@@ -22,18 +22,19 @@ pub record IsChangeMade (inputs : Inputs) (r : Replacement) (wishes : ChangeWish
   -- the packages after the change are found
   pub members : members_after_change inputs r wishes read ≡ Ok found
   -- no added package lists a reserved path
-  pub unreserved : first_reserved_added_path (found_members found) ≡ None
+  pub unreserved : first_reserved_added_path_in_byte_order (found_members found) ≡ None
   -- no name after the change is a folder of another
   pub no_clash : clash ≡ None
   -- each path has an owner
-  pub uncontested : first_contested_path_of_members (found_members found) ≡ None
+  pub uncontested : first_contested_member_path_in_byte_order (found_members found) ≡ None
   -- the bytes of the new database, which exceeds no limit of the writer
   pub database : List ℕ
   -- the database of these packages has these bytes
   pub new_database : database_of (found_members found) (owned_flags_of (found_members found))
       ≡ Ok database
   -- the journal entry (intent) exceeds no limit of the writer
-  pub fits : (let actions = intent_of_change inputs (file_change inputs wishes found) files
+  pub fits : (let actions =
+      intent_of_change inputs (packages_before_and_after_with_purge inputs wishes found) files
       (database_and_world_after_change inputs database) in
       overflow_of (value_of_intent actions) ≡ None)
   -- `done` is the result of the change

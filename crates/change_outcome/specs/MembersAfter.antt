@@ -48,19 +48,19 @@ added_package_by_path read n c (Some path) = added_package_or_refusal c (read n 
 
 -- the member of the added candidate `c`, whose file the read with number `n` finds, or the refusal: of its file, or of
 -- a script that the change would have to run
-abbrev pub member_of_added_name :
+abbrev pub added_member_unless_script_needed :
     Reads → List Repository → Bool → ℕ → List ℕ → Change → Candidate
     → Result (Option MemberFound) Refusal
-member_of_added_name read repositories no_scripts n name change c =
+added_member_unless_script_needed read repositories no_scripts n name change c =
     and_then (added_package_by_path read n c (package_file_path_of_candidate repositories c)) (λ pkg.
     unless_script_needed no_scripts name pkg.value (scripts_of_change change)
     (Some (added_member_found pkg)))
 
 -- None, since a removed package is no member any more; or the refusal, if one of its scripts would have to run
-abbrev pub member_of_removed_name :
+abbrev pub no_member_unless_removal_needs_script :
     Bool → List ℕ → Change → Option Plain → Result (Option MemberFound) Refusal
-member_of_removed_name no_scripts name change None = Ok None
-member_of_removed_name no_scripts name change (Some pkg) =
+no_member_unless_removal_needs_script no_scripts name change None = Ok None
+no_member_unless_removal_needs_script no_scripts name change (Some pkg) =
     unless_script_needed no_scripts name pkg (scripts_of_change change) None
 
 -- the result for a name that changes: with a selected candidate its package is added, otherwise removed
@@ -68,9 +68,9 @@ abbrev pub member_of_name_by_selected :
     Reads → List Repository → Bool → ℕ → List ℕ → Change → Option Plain → Option Candidate
     → Result (Option MemberFound) Refusal
 member_of_name_by_selected read repositories no_scripts n name change before None =
-    member_of_removed_name no_scripts name change before
+    no_member_unless_removal_needs_script no_scripts name change before
 member_of_name_by_selected read repositories no_scripts n name change before (Some c) =
-    member_of_added_name read repositories no_scripts n name change c
+    added_member_unless_script_needed read repositories no_scripts n name change c
 
 -- the result for a name, a member or None, given the change of its package, the package `before` and the `selected`
 -- candidate with this name; without a change the package is kept

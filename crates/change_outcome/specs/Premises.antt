@@ -5,17 +5,17 @@ use Rattle.std.specs.Prelude.{◌≡◌, All, false, None}
 use Rattle.db_write.specs.adb_schema.Reserved.{is_reserved}
 use Rattle.base_core.specs.Files.{Files}
 use Rattle.package_changes.specs.change_files.FileChange.{FileChange, old_listings}
-use Rattle.package_changes.specs.change_files.PlanLists.{first_reserved_added_path}
+use Rattle.package_changes.specs.change_files.PlanLists.{first_reserved_added_path_in_byte_order}
 use Rattle.change_inputs.specs.Inputs.{Root}
 use Rattle.change_inputs.specs.World.{found_text_or_empty}
 use Rattle.root_names.specs.RootNames.{database_name, world_name}
 
 -- no package before the change and no added package lists a reserved path
-pub record HasNoReservedPath (change : FileChange) : Type 0 where
+pub record OldAndAddedPackagesListNoReservedPath (change : FileChange) : Type 0 where
   -- no package before lists a reserved path
   pub before : All (λ l. is_reserved l.path ≡ false) (old_listings change)
   -- no added package lists a reserved path
-  pub coming : first_reserved_added_path change.members ≡ None
+  pub coming : first_reserved_added_path_in_byte_order change.members ≡ None
 
 -- the database and world were read from these files
 pub record AreDatabaseAndWorldReadFromFiles (files : Files) (root : Root) : Type 0 where

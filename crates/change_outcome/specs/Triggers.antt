@@ -60,13 +60,15 @@ abbrev pub due_trigger_line : Plain → List ℕ → List ℕ
 due_trigger_line pkg folder = report_line (trigger_due_text (package_name pkg) folder)
 
 -- a line for each of the folders for which the package's trigger is due
-abbrev pub due_trigger_lines : List (List ℕ) → Plain → List ℕ
-due_trigger_lines folders pkg = flat_map (due_trigger_line pkg) (filter (is_trigger_due pkg) folders)
+abbrev pub due_trigger_lines_for_folders : List (List ℕ) → Plain → List ℕ
+due_trigger_lines_for_folders folders pkg =
+    flat_map (due_trigger_line pkg) (filter (is_trigger_due pkg) folders)
 
 -- the lines on triggers of the packages after a change that writes and removes files with these
 -- paths, in their order
 unfoldable pub trigger_lines : List (List ℕ) → List Member → List ℕ
-trigger_lines paths members = flat_map (λ m. due_trigger_lines (folders_of_paths paths) m.pkg) members
+trigger_lines paths members =
+    flat_map (λ m. due_trigger_lines_for_folders (folders_of_paths paths) m.pkg) members
 
 -- whether a trigger of the package is due for one of the folders
 abbrev pub has_due_trigger : List (List ℕ) → Plain → Bool

@@ -20,7 +20,7 @@ ghost use Rattle.package_changes.specs.Changes.{Replacement};
 ghost use Rattle.package_changes.specs.path_clashes.Clash.{NamePair};
 ghost use Rattle.change_outcome.specs.Leading.{CanStageActionsLeadingToFiles, write_count_limit};
 ghost use Rattle.change_outcome.specs.Made.{IsChangeMade};
-ghost use Rattle.change_outcome.specs.Premises.{HasNoReservedPath, AreDatabaseAndWorldReadFromFiles};
+ghost use Rattle.change_outcome.specs.Premises.{OldAndAddedPackagesListNoReservedPath, AreDatabaseAndWorldReadFromFiles};
 
 // ---- what is read
 
@@ -49,7 +49,8 @@ pub fn actions_lead_to_given_files()
 pub fn the_actions_of_a_change_lead_to_its_files()
     ensures { (inputs : Inputs) (change : FileChange) (bytes_of : Listing → List ℕ)
         (database : List ℕ) (files : Files)
-        → HasNoReservedPath change → AreDatabaseAndWorldReadFromFiles files inputs.root
+        → OldAndAddedPackagesListNoReservedPath change
+        → AreDatabaseAndWorldReadFromFiles files inputs.root
         → HasNoStagedNames files
         → let records = database_and_world_after_change inputs database in
         let actions = intent_of_change inputs change files records in
@@ -64,7 +65,7 @@ pub fn the_actions_of_a_change_lead_to_its_files()
 pub fn the_names_of_a_change_may_be_changed()
     ensures { (inputs : Inputs) (change : FileChange) (files : Files)
         (records : DatabaseAndWorldAfter)
-        → HasNoReservedPath change
+        → OldAndAddedPackagesListNoReservedPath change
         → let actions = intent_of_change inputs change files records in
         All IsName actions.removals → All IsName actions.writes
         → AreDistinctNamesAllowedInIntent (actions.removals ++ actions.writes) }

@@ -3,7 +3,7 @@
 //! `docs/commands.md`, "`add` and `del`", part "Which triggers are due".
 
 ghost use Rattle.change_outcome.specs.adb_schema.Views.{package_value};
-ghost use Rattle.change_outcome.specs.Triggers.{due_trigger_line, due_trigger_lines, folders_of_paths, has_due_trigger, watches_folder, trigger_lines, unless_trigger_due};
+ghost use Rattle.change_outcome.specs.Triggers.{due_trigger_line, due_trigger_lines_for_folders, folders_of_paths, has_due_trigger, watches_folder, trigger_lines, unless_trigger_due};
 ghost use Rattle.change_outcome.specs.db_core.Seen.{members_of};
 ghost use Rattle.change_report.specs.Due.{refusal_if_trigger_due, planned_paths};
 ghost use Rattle.report_core.specs.Reports.{trigger_folder_text, report_line, trigger_due_text};
@@ -85,7 +85,8 @@ fn push_due_lines(
     folders: &[&[u8]],
 ) -> Result<(), AllocError>
     ensures { OnOk result (report.new
-        ≡ report.old ++ due_trigger_lines (map (λ f. f.now) folders.now) (package_value pkg.now)) }
+        ≡ report.old ++ due_trigger_lines_for_folders (map (λ f. f.now) folders.now)
+        (package_value pkg.now)) }
 {
     if !has_trigger_script(pkg, PhantomData) {
         return Ok(());

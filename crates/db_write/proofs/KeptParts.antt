@@ -16,8 +16,8 @@ use Rattle.adb_copy.proofs.Zeros.{at_other, at_same, nth_zeros, zeros_arr, zeros
 use Rattle.db_core.specs.Members.{Member, members_of_kept}
 use Rattle.adb_view.specs.FieldIndexes.{INFO_FILE_SIZE, INFO_HASHES}
 use Rattle.db_core.specs.Packages.{installed_id}
-use Rattle.db_write.specs.Information.{package_file_size_in_info}
-use Rattle.db_write.specs.NewDatabase.{database_file_unless_too_large, database_of, database_value, values_by_successive_flags, folder_file_count, folder_in_new_database, folders_in_new_database, info_in_new_database, member_file_count, owned_entries_without_zeros, package_in_new_database, packages_in_new_database}
+use Rattle.db_write.specs.Information.{file_size_in_info_of_package}
+use Rattle.db_write.specs.NewDatabase.{database_file_of_payload_unless_too_large, database_of, database_value, values_by_successive_flags, folder_file_count, folder_in_new_database, folders_in_new_database, info_in_new_database, member_file_count, owned_entries_without_zeros, package_in_new_database, packages_in_new_database}
 use Rattle.db_write.specs.Unchanged.{set_flags_of_all_listed_files}
 use Rattle.db_write.proofs.ReadBack.{Back, is_file}
 use Rattle.db_write.proofs.RootNames.{info_entry, package_folders, package_info}
@@ -40,7 +40,7 @@ hashes_after m flags =
     ∙ (ap text_in (nth_obj (all_without_zeros vs) 2 ∙ (nth_zeros vs 2 ∙ ap without_zeros (at_other 12 2 size (with_value_set_at_index 2 hash (entries_in info)) (apart 12 refl) ∙ at_same 2 hash (entries_in info))))
     ∙ text_zeros hash)
 
-pub size_after : (m : Member) (flags : List Bool) → package_file_size_in_info (package_in_new_database m flags) ≡ package_file_size_in_info m.pkg
+pub size_after : (m : Member) (flags : List Bool) → file_size_in_info_of_package (package_in_new_database m flags) ≡ file_size_in_info_of_package m.pkg
 unfolding info_without_zeros_with_id_and_file_size without_zeros
 size_after m flags =
     let info : Plain = entry_in m.pkg 0 in
@@ -125,4 +125,4 @@ written_again law members flags bytes root h =
     let v : Plain = database_value members flags in
     let back : root_value_of_payload Idb (payload_in bytes) ≡ v = ap (λ (file : List ℕ). root_value_of_payload Idb (payload_in file)) (sym (is_file members flags bytes h)) ∙ law Idb IDB_WORD v refl root in
     (λ j. database_of (members_of_kept (entries_at 0 (back j))) (set_flags_of_all_listed_files (members_of_kept (entries_at 0 (back j)))))
-    ∙ (ap (λ u. database_file_unless_too_large (payload_or_overflow u)) (database_same v root.shaped ∙ database_free members flags) ∙ h)
+    ∙ (ap (λ u. database_file_of_payload_unless_too_large (payload_or_overflow u)) (database_same v root.shaped ∙ database_free members flags) ∙ h)

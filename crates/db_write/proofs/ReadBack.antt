@@ -22,9 +22,9 @@ use Rattle.adb_sound.proofs.Payloads.{payload_long}
 use Rattle.adb_sound.specs.pkg_core.Whole.{container_fault, container_fault_after_header, container_fault_of_table}
 use Rattle.adb_view.proofs.ValueEntries.{entries_arr, nth_obj}
 use Rattle.db_core.specs.Members.{Member}
-use Rattle.db_write.specs.NewDatabase.{database_file_unless_too_large, database_of, database_value, packages_in_new_database}
+use Rattle.db_write.specs.NewDatabase.{database_file_of_payload_unless_too_large, database_of, database_value, packages_in_new_database}
 
-written_by : (v : Plain) (o : Option ByteAndValueCounts) (bytes : List ℕ) → database_file_unless_too_large (payload_unless_overflow (canonical v) o) ≡ Ok bytes → file_of IDB_WORD (canonical v) ≡ bytes
+written_by : (v : Plain) (o : Option ByteAndValueCounts) (bytes : List ℕ) → database_file_of_payload_unless_too_large (payload_unless_overflow (canonical v) o) ≡ Ok bytes → file_of IDB_WORD (canonical v) ≡ bytes
 written_by v None bytes h = cc (h)
 written_by v (Some c) bytes h = absurd (cc (h))
 

@@ -13,7 +13,7 @@ use Rattle.adb_sound.specs.adb_write.Canonical.{ByteAndValueCounts, canonical, p
 use Rattle.adb_sound.specs.adb_write.Size.{payload_size_of, value_count}
 use Rattle.adb_sound.specs.Root.{IsValidRootValueOfTable}
 use Rattle.db_core.specs.Members.{AreMembersInNameOrder, Member, listings_of_members}
-use Rattle.db_write.specs.NewDatabase.{database_file_unless_too_large, database_of, database_value}
+use Rattle.db_write.specs.NewDatabase.{database_file_of_payload_unless_too_large, database_of, database_value}
 use Rattle.db_core.specs.OwnedListings.{owned_listings}
 use Rattle.db_core.specs.SoundMembers.{AreMembersOfSoundContainers, HaveOneOwnerPerPathAndNoneReserved}
 use Rattle.db_write.proofs.RootNames.{names_once}
@@ -23,7 +23,7 @@ use Rattle.db_write.proofs.SoundPackages.{MayEnter}
 
 -- ---- what is written is within the limits
 
-within_by : (v : Plain) (o : Option ByteAndValueCounts) (bytes : List ℕ) → database_file_unless_too_large (payload_unless_overflow (canonical v) o) ≡ Ok bytes → is_some o ≡ false
+within_by : (v : Plain) (o : Option ByteAndValueCounts) (bytes : List ℕ) → database_file_of_payload_unless_too_large (payload_unless_overflow (canonical v) o) ≡ Ok bytes → is_some o ≡ false
 within_by v None bytes h = refl
 within_by v (Some c) bytes h = absurd (cc (h))
 

@@ -16,7 +16,7 @@ use Rattle.adb_copy.proofs.Fields.{INFO, info_written, object_written}
 use Rattle.adb_copy.proofs.Shapes.{entries_shape, nth_shape}
 use Rattle.adb_copy.proofs.Zeros.{zeros_array}
 use Rattle.db_core.specs.Members.{Member, member_of_kept, members_of_kept}
-use Rattle.db_write.specs.NewDatabase.{database_file_unless_too_large, database_of, database_value, values_by_successive_flags, folder_file_count, folder_in_new_database, folders_in_new_database, info_in_new_database, member_file_count, owned_entries_without_zeros, package_in_new_database, packages_in_new_database, total_of}
+use Rattle.db_write.specs.NewDatabase.{database_file_of_payload_unless_too_large, database_of, database_value, values_by_successive_flags, folder_file_count, folder_in_new_database, folders_in_new_database, info_in_new_database, member_file_count, owned_entries_without_zeros, package_in_new_database, packages_in_new_database, total_of}
 use Rattle.db_write.specs.Unchanged.{set_flags_of_all_listed_files}
 
 -- ---- flags that are all set
@@ -110,4 +110,4 @@ database_same v h =
 pub bytes_same : (v : Plain) (payload : List ℕ) → HasShape (shape_of (Kinds.Obj Tables.Idb)) v → without_zeros v ≡ v → payload_or_overflow v ≡ Ok payload
     → database_of (members_of_kept (entries_at 0 v)) (set_flags_of_all_listed_files (members_of_kept (entries_at 0 v))) ≡ Ok (file_of IDB_WORD payload)
 unfolding database_of
-bytes_same v payload h free canonical = ap (λ u. database_file_unless_too_large (payload_or_overflow u)) (database_same v h ∙ free) ∙ ap database_file_unless_too_large canonical
+bytes_same v payload h free canonical = ap (λ u. database_file_of_payload_unless_too_large (payload_or_overflow u)) (database_same v h ∙ free) ∙ ap database_file_of_payload_unless_too_large canonical

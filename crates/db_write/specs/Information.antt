@@ -7,5 +7,5 @@ use Rattle.adb_view.specs.FieldIndexes.{INFO_FILE_SIZE, PACKAGE_INFO}
 use Rattle.adb_view.specs.Values.{entry_in, int_in}
 
 -- the length of the package's file, as its information gives it; 0 if it gives none
-abbrev pub package_file_size_in_info : Plain → ℕ
-package_file_size_in_info pkg = int_in (entry_in (entry_in pkg PACKAGE_INFO) INFO_FILE_SIZE)
+abbrev pub file_size_in_info_of_package : Plain → ℕ
+file_size_in_info_of_package pkg = int_in (entry_in (entry_in pkg PACKAGE_INFO) INFO_FILE_SIZE)

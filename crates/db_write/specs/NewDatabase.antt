@@ -91,12 +91,12 @@ database_value members flags =
     trimmed_object_or_null (more (array_or_null (packages_in_new_database members flags)) none)
 
 -- the file of a database with this payload; or the counts, if the payload exceeds a limit of the writer
-abbrev pub database_file_unless_too_large : Result (List ℕ) ByteAndValueCounts
+abbrev pub database_file_of_payload_unless_too_large : Result (List ℕ) ByteAndValueCounts
     → Result (List ℕ) ByteAndValueCounts
-database_file_unless_too_large (Ok payload) = Ok (file_of IDB_WORD payload)
-database_file_unless_too_large (Err counts) = Err counts
+database_file_of_payload_unless_too_large (Ok payload) = Ok (file_of IDB_WORD payload)
+database_file_of_payload_unless_too_large (Err counts) = Err counts
 
 -- the file of the new database, or the counts of the writer at the first value that exceeds a limit
 unfoldable pub database_of : List Member → List Bool → Result (List ℕ) ByteAndValueCounts
 database_of members flags =
-    database_file_unless_too_large (payload_or_overflow (database_value members flags))
+    database_file_of_payload_unless_too_large (payload_or_overflow (database_value members flags))

@@ -21,7 +21,7 @@ ghost use Rattle.adb_sound.specs.adb_write.Canonical.{payload_or_overflow};
 ghost use Rattle.adb_sound.specs.adb_write.File.{file_of};
 ghost use Rattle.db_core.specs.Members.{AreMembersInNameOrder, Member, member_of_added, listings_of_members, member_of_kept, members_of_kept};
 ghost use Rattle.db_core.specs.Packages.{installed_id};
-ghost use Rattle.db_write.specs.Information.{package_file_size_in_info};
+ghost use Rattle.db_write.specs.Information.{file_size_in_info_of_package};
 ghost use Rattle.db_write.specs.NewDatabase.{database_of, database_value, package_in_new_database, packages_in_new_database};
 ghost use Rattle.db_core.specs.OwnedListings.{owned_listings, owned_paths};
 ghost use Rattle.db_core.specs.SoundMembers.{AreMembersOfSoundContainers, IsPackageOfSoundContainer, HaveOneOwnerPerPathAndNoneReserved};
@@ -133,8 +133,8 @@ pub fn a_package_keeps_its_information()
         → installed_id (package_in_new_database (member_of_kept pkg) flags) ≡ installed_id pkg }
     // The size of the package's file is unchanged.
     ensures size { (m : Member) (flags : List Bool)
-        → package_file_size_in_info (package_in_new_database m flags)
-        ≡ package_file_size_in_info m.pkg }
+        → file_size_in_info_of_package (package_in_new_database m flags)
+        ≡ file_size_in_info_of_package m.pkg }
     // The field with the index i is unchanged, but for zeros.
     ensures others { (m : Member) (flags : List Bool) (i : ℕ)
         → i ≢ INFO_HASHES → i ≢ INFO_FILE_SIZE

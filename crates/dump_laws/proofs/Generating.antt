@@ -24,7 +24,7 @@ use Rattle.outcome.specs.adb_dump.Dump.{dump_text}
 use Rattle.outcome.specs.adb_dump.Values.{IsOfBytes, IsNormalValueOfTable}
 use Rattle.outcome.proofs.adb_dump.Booleans.{chosen}
 use Rattle.outcome.specs.gen_core.Dumps.{IsNormalRootValueOfTable}
-use Rattle.outcome.specs.gen_core.Generated.{DumpedRoot, dumped_root, file_of_root, file_unless_too_large, generated_file, schema_word_or_zero}
+use Rattle.outcome.specs.gen_core.Generated.{DumpedRoot, dumped_root, file_of_root, file_of_schema_and_payload_unless_too_large, generated_file, schema_word_or_zero}
 use Rattle.outcome.specs.Dump.{dump_fault_of_blocks, dump_of, dump_of_blocks, dump_by_root_table, dump_by_schema, text_unless_fault}
 use Rattle.dump_laws.proofs.Printed.{HasNamesAmong, Overflows, printed, within}
 
@@ -46,7 +46,7 @@ some_word w e = go (schema_word w) e
     go (Some n) e = refl
 
 -- the payload of a container that was generated
-written_file : (word : ℕ) (r : Result (List ℕ) ByteAndValueCounts) (file : List ℕ) → file_unless_too_large word r ≡ Ok file → (payload : List ℕ) × (r ≡ Ok payload) × (file_of word payload ≡ file)
+written_file : (word : ℕ) (r : Result (List ℕ) ByteAndValueCounts) (file : List ℕ) → file_of_schema_and_payload_unless_too_large word r ≡ Ok file → (payload : List ℕ) × (r ≡ Ok payload) × (file_of word payload ≡ file)
 written_file word (Ok payload) file e = (payload, refl, cc)
 written_file word (Err counts) file e = absurd cc
 
@@ -66,7 +66,7 @@ printed_again laws over texts text file e = go (dumped_root text) refl e
 
 -- ---- a container, its text, and the container again
 
-generated : Texts → (which : Which) (v : Plain) → IsNormalRootValueOfTable which v → generated_file (dump_text which v) ≡ file_unless_too_large (schema_word_or_zero which) (payload_or_overflow v)
+generated : Texts → (which : Which) (v : Plain) → IsNormalRootValueOfTable which v → generated_file (dump_text which v) ≡ file_of_schema_and_payload_unless_too_large (schema_word_or_zero which) (payload_or_overflow v)
 unfolding generated_file
 generated texts which v is = ap file_of_root (texts.accepted which v is)
 
@@ -125,7 +125,7 @@ found_value found which payload bytes = go (plain_of payload (shape_of (Obj whic
     go (Some v) h = h
 
 pub generated_value : Texts → Found → (file text : List ℕ) (schema : ℕ) (which : Which) → All (λ b. b < 256) (payload_in file) → dump_of file ≡ Ok text → schema_of_header file ≡ Ok schema → table_of_schema schema ≡ Some which
-    → generated_file text ≡ file_unless_too_large schema (payload_or_overflow (root_value_of_payload which (payload_in file)))
+    → generated_file text ≡ file_of_schema_and_payload_unless_too_large schema (payload_or_overflow (root_value_of_payload which (payload_in file)))
 generated_value texts found file text schema which bytes e h root =
     let word = root_word schema which root in
     let k = word_known which schema word in
@@ -133,7 +133,7 @@ generated_value texts found file text schema which bytes e h root =
     let is : IsNormalRootValueOfTable which (root_value_of_payload which (payload_in file)) = record { root = k.0; normal = v.0; bytes = v.1 } in
     ap generated_file (sym (printed_text file text schema which e h root))
     ∙ generated texts which (root_value_of_payload which (payload_in file)) is
-    ∙ ap (λ (n : ℕ). file_unless_too_large n (payload_or_overflow (root_value_of_payload which (payload_in file)))) k.1
+    ∙ ap (λ (n : ℕ). file_of_schema_and_payload_unless_too_large n (payload_or_overflow (root_value_of_payload which (payload_in file)))) k.1
 
 abbrev ok_text : List ℕ → Result (List ℕ) Cause
 ok_text t = Ok t
@@ -149,4 +149,4 @@ generated_again laws over texts which value schema payload text is word wrote e 
     let same : dump_text which value ≡ text = same_text (dump_text which value) text (sym dump ∙ e) in
     let k = word_known which schema word in
     ap generated_file (sym same) ∙ generated texts which value is
-    ∙ ap (λ (n : ℕ). file_unless_too_large n (payload_or_overflow value)) k.1 ∙ ap (file_unless_too_large schema) wrote
+    ∙ ap (λ (n : ℕ). file_of_schema_and_payload_unless_too_large n (payload_or_overflow value)) k.1 ∙ ap (file_of_schema_and_payload_unless_too_large schema) wrote

@@ -14,7 +14,7 @@ ghost use Rattle.outcome.specs.adb_write.Canonical.{payload_or_overflow};
 ghost use Rattle.outcome.specs.adb_write.File.{file_of};
 ghost use Rattle.outcome.specs.pkg_core.Whole.{table_of_schema};
 ghost use Rattle.outcome.specs.gen_core.Dumps.{IsNormalRootValueOfTable};
-ghost use Rattle.outcome.specs.gen_core.Generated.{file_unless_too_large, generated_file};
+ghost use Rattle.outcome.specs.gen_core.Generated.{file_of_schema_and_payload_unless_too_large, generated_file};
 ghost use Rattle.outcome.specs.Dump.{dump_of};
 
 use adb_block::{what_is_spelled_is_read, what_is_written_is_spelled};
@@ -47,7 +47,8 @@ pub fn what_is_printed_is_generated_again()
         → All (λ b. b < 256) (payload_in file) → dump_of file ≡ Ok text
         → schema_of_header file ≡ Ok schema → table_of_schema schema ≡ Some which
         → generated_file text
-        ≡ file_unless_too_large schema (payload_or_overflow (root_value_of_payload which
+        ≡ file_of_schema_and_payload_unless_too_large schema (payload_or_overflow
+        (root_value_of_payload which
         (payload_in file))) }
     // A canonical container without contents is made again, byte for byte.
     ensures canonical { (which : Which) (value : Plain) (schema : ℕ) (payload text : List ℕ)

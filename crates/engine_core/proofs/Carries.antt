@@ -16,13 +16,13 @@ use Rattle.base_core.specs.Files.{Files}
 use Rattle.base_core.specs.Tree.{TreeState, files_of}
 use Rattle.change_report.specs.change_files.FileChange.{FileChange}
 use Rattle.change_report.specs.change_files.FilesAfter.{DatabaseAndWorldAfter, listing_bytes}
-use Rattle.change_report.specs.change_files.PlanLists.{FileWrite, file_writes_of, first_reserved_added_path, sorted_distinct_names}
+use Rattle.change_report.specs.change_files.PlanLists.{FileWrite, file_writes_of, first_reserved_added_path_in_byte_order, sorted_distinct_names}
 use Rattle.change_report.specs.change_inputs.Answers.{Agrees}
 use Rattle.change_report.specs.change_inputs.Chains.{and_then}
 use Rattle.change_report.specs.change_inputs.Inputs.{Inputs}
 use Rattle.change_report.specs.change_inputs.declared.root.Refused.{Refused}
 use Rattle.change_report.specs.change_inputs.declared.root.Refused.TheVariants.{Disk, Memory, Refusal as IsRefused}
-use Rattle.change_report.specs.change_outcome.Premises.{HasNoReservedPath, AreDatabaseAndWorldReadFromFiles}
+use Rattle.change_report.specs.change_outcome.Premises.{OldAndAddedPackagesListNoReservedPath, AreDatabaseAndWorldReadFromFiles}
 use Rattle.change_report.proofs.change_outcome.ChangeLeads.{leads}
 use Rattle.change_report.proofs.change_outcome.ChangeNames.{change_names}
 use Rattle.change_report.proofs.change_outcome.FreeNames.{name_of_any, none_of, once_rising}
@@ -31,7 +31,7 @@ use Rattle.change_report.specs.journal_intent.Intent.{AreDistinctNamesAllowedInI
 use Rattle.engine_core.proofs.Once.{once_both}
 use Rattle.change_report.proofs.change_outcome.Leading.{acted_is}
 use Rattle.change_report.proofs.change_outcome.Room.{room}
-use Rattle.change_report.specs.change_outcome.ChangeOutcome.{ChangeDone, ChangeWishes, intent_of_change, bytes_or_empty_under, change_done, has_actions, file_change, is_absent_or_different, name_if_needed, database_and_world_after_change, or_result_too_large, unless_overflow, change_done_unless_too_large, names_of_written_database_and_world}
+use Rattle.change_report.specs.change_outcome.ChangeOutcome.{ChangeDone, ChangeWishes, intent_of_change, bytes_or_empty_under, change_done, has_actions, packages_before_and_after_with_purge, is_absent_or_different, name_if_needed, database_and_world_after_change, or_result_too_large, unless_overflow, change_done_unless_too_large, names_of_written_database_and_world}
 use Rattle.change_report.specs.change_outcome.MembersAfter.{MemberFound, found_package_contents, found_members}
 use Rattle.change_report.specs.journal_core.Recovery.{files_after_actions, intent_name}
 use Rattle.change_report.specs.journal_core.Staged.{AreIntentAndStagedPathsFree, HasEmptyStageAndFreeJournalPaths, HasNoStagedNames, Staging, action_count, new_stage_of_removals_and_writes, files_with_staged}
@@ -93,7 +93,7 @@ some_copied (Some x) false bytes is = absurd (cc)
 abbrev pub ready_change : Inputs → Replacement → ChangeWishes → List MemberFound → Files → List ℕ → Result ChangeDone Refusal
 ready_change inputs r wishes found files database =
     let records = database_and_world_after_change inputs database in
-    let actions = intent_of_change inputs (file_change inputs wishes found) files records in
+    let actions = intent_of_change inputs (packages_before_and_after_with_purge inputs wishes found) files records in
     unless_overflow (overflow_of (value_of_intent actions)) (change_done inputs r wishes found files records)
 
 -- ---- what is made ready
@@ -164,8 +164,8 @@ records_are_reserved inputs records q here = two_reserved (is_absent_or_differen
 
 -- of the plan alone
 module _ (history : List TreeState) (p : Plan) (found : List MemberFound) (files : Files) (plan : IsPlanned history p found files) where
-  pub no_reserved : HasNoReservedPath (file_change (inputs_of_plan p) (wishes_of_plan p) found)
-  no_reserved = record { before = plan.unreserved; coming = sym (ap first_reserved_added_path plan.arrived.members) ∙ plan.owners.allowed }
+  pub no_reserved : OldAndAddedPackagesListNoReservedPath (packages_before_and_after_with_purge (inputs_of_plan p) (wishes_of_plan p) found)
+  no_reserved = record { before = plan.unreserved; coming = sym (ap first_reserved_added_path_in_byte_order plan.arrived.members) ∙ plan.owners.allowed }
 
   module _ (records : NewRecords) (own : AreNewRecordsOf (inputs_of_plan p) records) (rw : RecordWrites) (which : AreRecordWrites (inputs_of_plan p) records rw) where
     pub record_names_are : database_and_world_names rw ≡ names_of_written_database_and_world (inputs_of_plan p) (database_and_world_after_change (inputs_of_plan p) records.database.items)
@@ -184,7 +184,7 @@ module _ (history : List TreeState) (p : Plan) (found : List MemberFound) (files
         (λ q here. records_are_reserved (inputs_of_plan p) (database_and_world_after_change (inputs_of_plan p) records.database.items) q (subst (λ (ns : List (List ℕ)). IsIn q ns) record_names_are here))
 
     pub write_names_are : written_names p.files ++ database_and_world_names rw
-        ≡ map (λ w. w.name) (file_writes_of (file_change (inputs_of_plan p) (wishes_of_plan p) found) files) ++ names_of_written_database_and_world (inputs_of_plan p) (database_and_world_after_change (inputs_of_plan p) records.database.items)
+        ≡ map (λ w. w.name) (file_writes_of (packages_before_and_after_with_purge (inputs_of_plan p) (wishes_of_plan p) found) files) ++ names_of_written_database_and_world (inputs_of_plan p) (database_and_world_after_change (inputs_of_plan p) records.database.items)
     write_names_are = let lists = plan.lists.writes in λ i. map (λ w. w.name) (lists i) ++ record_names_are i
 
 contained : {X : Type 0} (P : X → Type 0) (xs : List X) (x : X) → All P xs → Contains xs x → P x
@@ -233,7 +233,7 @@ module _ (history : List TreeState) (p : Plan) (found : List MemberFound) (files
   inputs = inputs_of_plan p
 
   abbrev change : FileChange
-  change = file_change inputs (wishes_of_plan p) found
+  change = packages_before_and_after_with_purge inputs (wishes_of_plan p) found
 
   abbrev records : DatabaseAndWorldAfter
   records = database_and_world_after_change inputs own.database.items
@@ -253,7 +253,7 @@ module _ (history : List TreeState) (p : Plan) (found : List MemberFound) (files
   pub removed_is : removals ≡ actions.removals
   removed_is = ready.removed ∙ ap (λ (names : List (List ℕ)). sorted_distinct_names (names ++ name_if_needed inputs.root.database.from_text text_database_name)) ready.plan.lists.removals
 
-  free : HasNoReservedPath change
+  free : OldAndAddedPackagesListNoReservedPath change
   free = no_reserved history p found files ready.plan
 
   pub may_be_changed : (names : List (List ℕ)) → names ≡ map name_of_write writes → All IsName removals → All IsName names → AreDistinctNamesAllowedInIntent (removals ++ names)
@@ -439,7 +439,7 @@ ready_is history p r ready =
 pub entry_large : {A : Type 0} (view : A → Bool) (history : List TreeState) (p : Plan) (found : List MemberFound) (files : Files) (made : NewRecords) (rw : RecordWrites) (writes : List StagedWrite) (removals : List (List ℕ))
     → IsMadeReady history p found files made rw writes removals → (fault : Refused)
     → Agrees view (Err fault) (unless_overflow (overflow_of (value_of_intent (intent_of_lists removals (map name_of_write writes)))) true)
-    → Agrees {A = Bool} {B = Bool} (λ _. true) (Err fault) (unless_overflow (overflow_of (value_of_intent (intent_of_change (inputs_of_plan p) (file_change (inputs_of_plan p) (wishes_of_plan p) found) files (database_and_world_after_change (inputs_of_plan p) made.database.items)))) true)
+    → Agrees {A = Bool} {B = Bool} (λ _. true) (Err fault) (unless_overflow (overflow_of (value_of_intent (intent_of_change (inputs_of_plan p) (packages_before_and_after_with_purge (inputs_of_plan p) (wishes_of_plan p) found) files (database_and_world_after_change (inputs_of_plan p) made.database.items)))) true)
 entry_large view history p found files made rw writes removals ready (IsRefused refusal) told =
     ap (λ (o : Option ByteAndValueCounts). unless_overflow o true) (sym (overflow_is history p found files made rw writes removals ready)) ∙ told
 entry_large view history p found files made rw writes removals ready Disk told = told
@@ -597,7 +597,7 @@ module _ (history : List TreeState) (p : Plan) (found : List MemberFound) (files
     large_entry counts fault large =
         subst (λ (w : Result ChangeDone Refusal). IsEndOfRunOfWantedChange (Ok found) w history history counts counts (Err fault)) (sym made_database)
         (entry_refused (Ok found)
-        (overflow_of (value_of_intent (intent_of_change (inputs_of_plan p) (file_change (inputs_of_plan p) (wishes_of_plan p) found) files (database_and_world_after_change (inputs_of_plan p) records.database.items))))
+        (overflow_of (value_of_intent (intent_of_change (inputs_of_plan p) (packages_before_and_after_with_purge (inputs_of_plan p) (wishes_of_plan p) found) files (database_and_world_after_change (inputs_of_plan p) records.database.items))))
         (change_done (inputs_of_plan p) (replacement_of_plan p) (wishes_of_plan p) found files (database_and_world_after_change (inputs_of_plan p) records.database.items)) history counts fault (large history found files plan))
 
     -- the journal entry fits

@@ -13,19 +13,19 @@ use Rattle.base_core.specs.Tree.{IsWellFormed, TreeState, bytes_of_file_number, 
 use Rattle.change_report.specs.Due.{planned_paths}
 use Rattle.change_report.specs.change_files.FileChange.{FileChange, old_listings}
 use Rattle.change_report.specs.change_files.NamesAfter.{name_change}
-use Rattle.change_report.specs.change_files.PlanLists.{first_reserved_added_path}
+use Rattle.change_report.specs.change_files.PlanLists.{first_reserved_added_path_in_byte_order}
 use Rattle.change_report.specs.change_inputs.Answers.{IsDiskOrMemoryFailure}
 use Rattle.change_report.specs.change_inputs.Chains.{and_then}
 use Rattle.change_report.specs.change_inputs.Inputs.{Inputs}
 use Rattle.change_report.specs.change_inputs.declared.root.Refused.{Refused}
 use Rattle.change_report.specs.change_inputs.declared.root.Refused.TheVariants as Commands
-use Rattle.change_report.specs.change_outcome.ChangeOutcome.{ChangeDone, ChangeWishes, IsFirstClashIfMembersFound, members_after_change, change_with_members, file_change, member_name_at_place, touched_paths, unless_clash, unless_contested, unless_reserved_path, change_done_unless_too_large}
+use Rattle.change_report.specs.change_outcome.ChangeOutcome.{ChangeDone, ChangeWishes, IsFirstClashUnlessMembersRefused, members_after_change, change_with_members, packages_before_and_after_with_purge, member_name_at_place, touched_paths, unless_clash, unless_contested, unless_reserved_path, change_done_unless_too_large}
 use Rattle.change_report.specs.change_outcome.MembersAfter.{MemberFound, found_members}
 use Rattle.change_report.specs.change_outcome.Triggers.{unless_trigger_due}
 use Rattle.change_report.specs.db_core.Members.{Member, listings_of_members, member_name, member_of_kept}
 use Rattle.change_report.specs.db_core.Seen.{members_of, packages_of}
 use Rattle.change_report.specs.db_core.declared.members.Members.{Members}
-use Rattle.change_report.specs.file_owners.Owners.{first_contested_path_of_members}
+use Rattle.change_report.specs.file_owners.Owners.{first_contested_member_path_in_byte_order}
 use Rattle.change_report.specs.make_info.Reads.{Reads}
 use Rattle.change_report.specs.own_core.Planned.{ArePlanLists, HasDisjointUnreservedNames, HasSources, IsClashBySome, IsPlanForMembersAlone, IsPlanOverSomeFiles, IsRefusalForMembersAlone, IsRefusalOverFiles, MayBeRefusalOf, file_change_between, member_name_at}
 use Rattle.change_report.specs.own_core.declared.fault.PlanFault.{PlanFault}
@@ -67,7 +67,7 @@ within_files v names within q is = within q (by_number (v.names q) is)
 
 record ClashSeen (inputs : Inputs) (wishes : ChangeWishes) (found : List MemberFound) (old : List TreeState) : Type 0 where
   pub clash : Option NamePair
-  pub is_clash : IsFirstClashIfMembersFound inputs wishes (files_now old) (Ok found) clash
+  pub is_clash : IsFirstClashUnlessMembersRefused inputs wishes (files_now old) (Ok found) clash
 
 -- by some files, and among some, the first clash; where the history tells its files both are these
 record ClashTold (change : FileChange) (old : List TreeState) (clash : Option NamePair) : Type 0 where
@@ -91,11 +91,11 @@ module _ (have : HaveClash) (inputs : Inputs) (r : Replacement) (wishes : Change
   clash_seen : (old : List TreeState) → All IsWellFormed old → ClashSeen inputs wishes found old
   clash_seen [] whole =
       let c = have.exists inputs r wishes read [] no_names nothing_within in
-      record { clash = c.0; is_clash = subst (λ (f : Result (List MemberFound) Refusal). IsFirstClashIfMembersFound inputs wishes no_names f c.0) is_found c.1 }
+      record { clash = c.0; is_clash = subst (λ (f : Result (List MemberFound) Refusal). IsFirstClashUnlessMembersRefused inputs wishes no_names f c.0) is_found c.1 }
   clash_seen (v ∷ earlier) whole =
       let finite = (All-head IsWellFormed v earlier whole).finite v.names (inl refl) in
       let c = have.exists inputs r wishes read finite.0 (files_of v) (within_files v finite.0 finite.1) in
-      record { clash = c.0; is_clash = subst (λ (f : Result (List MemberFound) Refusal). IsFirstClashIfMembersFound inputs wishes (files_of v) f c.0) is_found c.1 }
+      record { clash = c.0; is_clash = subst (λ (f : Result (List MemberFound) Refusal). IsFirstClashUnlessMembersRefused inputs wishes (files_of v) f c.0) is_found c.1 }
 
   module _ (old now : List TreeState) (before after : Counts) (whole : All IsWellFormed old) (quiet : IsOnlyRead old now before after) where
     found_by : (result : Result (List ℕ) Refused) → ((clash : Option NamePair) → IsEndOfRunOfWantedChange (Ok found) (change_with_members inputs r wishes clash (files_now old) found) old now before after result)
@@ -109,24 +109,24 @@ module _ (have : HaveClash) (inputs : Inputs) (r : Replacement) (wishes : Change
 
     -- ---- no plan
 
-    reserved_path : (path : List ℕ) → first_reserved_added_path (found_members found) ≡ Some path → IsRunOnFoundPackages inputs r wishes found old now before after (Err (Commands.Refusal (Reserved path)))
+    reserved_path : (path : List ℕ) → first_reserved_added_path_in_byte_order (found_members found) ≡ Some path → IsRunOnFoundPackages inputs r wishes found old now before after (Err (Commands.Refusal (Reserved path)))
     reserved_path path is = found_by _ (λ clash. comes_to_refusal _ _ old now before after quiet (Reserved path)
-        (ap (λ (o : Option (List ℕ)). unless_reserved_path o (unless_clash clash (unless_contested (found_members found) (first_contested_path_of_members (found_members found))
-        (and_then (unless_trigger_due wishes.no_scripts (touched_paths (file_change inputs wishes found) (files_now old)) (found_members found)) (λ allowed. change_done_unless_too_large inputs r wishes found (files_now old)))))) is))
+        (ap (λ (o : Option (List ℕ)). unless_reserved_path o (unless_clash clash (unless_contested (found_members found) (first_contested_member_path_in_byte_order (found_members found))
+        (and_then (unless_trigger_due wishes.no_scripts (touched_paths (packages_before_and_after_with_purge inputs wishes found) (files_now old)) (found_members found)) (λ allowed. change_done_unless_too_large inputs r wishes found (files_now old)))))) is))
 
-    by_clash : (result : Result (List ℕ) Refused) (clash : Option NamePair) → (told : ClashTold (file_change inputs wishes found) old clash)
+    by_clash : (result : Result (List ℕ) Refused) (clash : Option NamePair) → (told : ClashTold (packages_before_and_after_with_purge inputs wishes found) old clash)
         → IsEndOfRunOfWantedChange (Ok found) (change_with_members inputs r wishes clash told.files found) old now before after result → IsRunOnFoundPackages inputs r wishes found old now before after result
     by_clash result clash told comes =
         record { files = told.files; there = told.there; present_files = told.present_files; stand = told.stand; clash = clash; is_clash = told.is_clash; comes = comes }
 
-    path_clash : (path other : List ℕ) → first_reserved_added_path (found_members found) ≡ None → ClashTold (file_change inputs wishes found) old (Some (record { path = path; other = other }))
+    path_clash : (path other : List ℕ) → first_reserved_added_path_in_byte_order (found_members found) ≡ None → ClashTold (packages_before_and_after_with_purge inputs wishes found) old (Some (record { path = path; other = other }))
         → IsRunOnFoundPackages inputs r wishes found old now before after (Err (Commands.Refusal (PathClash path other)))
     path_clash path other none told =
         let pair : NamePair = record { path = path; other = other } in
         by_clash _ (Some pair) told
         (comes_to_refusal _ _ old now before after quiet (PathClash path other)
-        (ap (λ (o : Option (List ℕ)). unless_reserved_path o (unless_clash (Some pair) (unless_contested (found_members found) (first_contested_path_of_members (found_members found))
-        (and_then (unless_trigger_due wishes.no_scripts (touched_paths (file_change inputs wishes found) told.files) (found_members found)) (λ allowed. change_done_unless_too_large inputs r wishes found told.files)))))
+        (ap (λ (o : Option (List ℕ)). unless_reserved_path o (unless_clash (Some pair) (unless_contested (found_members found) (first_contested_member_path_in_byte_order (found_members found))
+        (and_then (unless_trigger_due wishes.no_scripts (touched_paths (packages_before_and_after_with_purge inputs wishes found) told.files) (found_members found)) (λ allowed. change_done_unless_too_large inputs r wishes found told.files)))))
         none))
 
     named : (place : ℕ) (name : List ℕ) → member_name_at (found_members found) place ≡ Some name → member_name_at_place (found_members found) place ≡ name
@@ -136,11 +136,11 @@ module _ (have : HaveClash) (inputs : Inputs) (r : Replacement) (wishes : Change
         by None e = absurd (cc (e))
         by (Some m) e = same_Some (member_name m) name e
 
-    owned_path : (path first second : List ℕ) → IsRefusalForMembersAlone (found_members found) (Plans.Owned path first second) → ClashTold (file_change inputs wishes found) old None
+    owned_path : (path first second : List ℕ) → IsRefusalForMembersAlone (found_members found) (Plans.Owned path first second) → ClashTold (packages_before_and_after_with_purge inputs wishes found) old None
         → IsRunOnFoundPackages inputs r wishes found old now before after (Err (Commands.Refusal (Owned path first second)))
     owned_path path first second (none, contest) told =
-        let contested : Option ContestedPath = first_contested_path_of_members (found_members found) in
-        let rest = and_then (unless_trigger_due wishes.no_scripts (touched_paths (file_change inputs wishes found) told.files) (found_members found)) (λ allowed. change_done_unless_too_large inputs r wishes found told.files) in
+        let contested : Option ContestedPath = first_contested_member_path_in_byte_order (found_members found) in
+        let rest = and_then (unless_trigger_due wishes.no_scripts (touched_paths (packages_before_and_after_with_purge inputs wishes found) told.files) (found_members found)) (λ allowed. change_done_unless_too_large inputs r wishes found told.files) in
         by_clash _ None told
         (comes_to_refusal _ _ old now before after quiet (Owned path first second)
         (ap (λ (o : Option (List ℕ)). unless_reserved_path o (unless_contested (found_members found) contested rest)) none
@@ -148,17 +148,17 @@ module _ (have : HaveClash) (inputs : Inputs) (r : Replacement) (wishes : Change
         ∙ ((λ i. Err (Owned (sym contest.at i) (named contest.contest.rivals.first first contest.lister i) (named contest.contest.rivals.second second contest.other i))))))
 
     pub unplanned : (fault : PlanFault) (refused : Refused) → IsRefusalOfPlanFault fault refused → IsRefusalForMembersAlone (found_members found) fault
-        → IfObservable old (λ v. IsRefusalOverFiles (file_change inputs wishes found) (files_of v) fault) → MayBeRefusalOf (file_change inputs wishes found) old fault → IsRunOnFoundPackages inputs r wishes found old now before after (Err refused)
+        → IfObservable old (λ v. IsRefusalOverFiles (packages_before_and_after_with_purge inputs wishes found) (files_of v) fault) → MayBeRefusalOf (packages_before_and_after_with_purge inputs wishes found) old fault → IsRunOnFoundPackages inputs r wishes found old now before after (Err refused)
     unplanned (Plans.Reserved path) refused is cause first may = subst (λ (e : Refused). IsRunOnFoundPackages inputs r wishes found old now before after (Err e)) (sym is) (reserved_path path cause)
-    unplanned (Plans.PathClash path other) refused is cause first may = subst (λ (e : Refused). IsRunOnFoundPackages inputs r wishes found old now before after (Err e)) (sym is) (path_clash path other cause (clash_told (file_change inputs wishes found) old (Some (record { path = path; other = other })) may first))
-    unplanned (Plans.Owned path one two) refused is cause first may = subst (λ (e : Refused). IsRunOnFoundPackages inputs r wishes found old now before after (Err e)) (sym is) (owned_path path one two cause (clash_told (file_change inputs wishes found) old None may first))
+    unplanned (Plans.PathClash path other) refused is cause first may = subst (λ (e : Refused). IsRunOnFoundPackages inputs r wishes found old now before after (Err e)) (sym is) (path_clash path other cause (clash_told (packages_before_and_after_with_purge inputs wishes found) old (Some (record { path = path; other = other })) may first))
+    unplanned (Plans.Owned path one two) refused is cause first may = subst (λ (e : Refused). IsRunOnFoundPackages inputs r wishes found old now before after (Err e)) (sym is) (owned_path path one two cause (clash_told (packages_before_and_after_with_purge inputs wishes found) old None may first))
     unplanned Plans.Disk refused is cause first may = subst (λ (e : Refused). IsRunOnFoundPackages inputs r wishes found old now before after (Err e)) (sym is) (found_failure Commands.Disk tt)
     unplanned Plans.Memory refused is cause first may = subst (λ (e : Refused). IsRunOnFoundPackages inputs r wishes found old now before after (Err e)) (sym is) (found_failure Commands.Memory tt)
 
 -- ---- a plan
 
 change_is : (history : List TreeState) (a : ReadPackages) (ms : Members) (wishes : ChangeWishes) (found : List MemberFound) → IsArrived history a ms found
-    → file_change_between a.selection.now.db ms wishes.purge ≡ file_change (inputs_of_packages a) wishes found
+    → file_change_between a.selection.now.db ms wishes.purge ≡ packages_before_and_after_with_purge (inputs_of_packages a) wishes found
 change_is history a ms wishes found arrived = λ i. record { old = arrived.read.database i; members = arrived.members i; purge = wishes.purge }
 
 -- why there is none, of the packages that are found
@@ -203,18 +203,18 @@ planned_now old mid same p found arrived plan names sources owners unreserved =
 pub planned_run : (old mid now : List TreeState) (before between after : Counts) (a : ReadPackages) (ms : Members) (p : FilePlan) (wishes : ChangeWishes) (found : List MemberFound) (result : Result (List ℕ) Refused)
     → IsOnlyRead old mid before between → IsArrived old a ms found → (plan : IsPlanOverSomeFiles (file_change_between a.selection.now.db ms wishes.purge) old p) → IsPlanForMembersAlone (members_of ms) p
     → IsEndOfRunOfWantedChange (Ok found)
-    (and_then (unless_trigger_due wishes.no_scripts (touched_paths (file_change (inputs_of_packages a) wishes found) plan.files) (found_members found))
+    (and_then (unless_trigger_due wishes.no_scripts (touched_paths (packages_before_and_after_with_purge (inputs_of_packages a) wishes found) plan.files) (found_members found))
     (λ allowed. change_done_unless_too_large (inputs_of_packages a) (replacement_of_packages a) wishes found plan.files)) mid now between after result
     → IsRunOnFoundPackages (inputs_of_packages a) (replacement_of_packages a) wishes found old now before after result
 planned_run old mid now before between after a ms p wishes found result quiet arrived plan owners comes =
     let inputs = inputs_of_packages a in
     let r = replacement_of_packages a in
     let members : List Member = found_members found in
-    let rest : Result ChangeDone Refusal = and_then (unless_trigger_due wishes.no_scripts (touched_paths (file_change inputs wishes found) plan.files) members) (λ allowed. change_done_unless_too_large inputs r wishes found plan.files) in
+    let rest : Result ChangeDone Refusal = and_then (unless_trigger_due wishes.no_scripts (touched_paths (packages_before_and_after_with_purge inputs wishes found) plan.files) members) (λ allowed. change_done_unless_too_large inputs r wishes found plan.files) in
     let wanted_is : change_with_members inputs r wishes None plan.files found ≡ rest =
-    ap (λ (o : Option (List ℕ)). unless_reserved_path o (unless_contested members (first_contested_path_of_members members) rest)) (sym (ap first_reserved_added_path arrived.members) ∙ owners.allowed)
-    ∙ ap (λ (o : Option ContestedPath). unless_contested members o rest) (sym (ap first_contested_path_of_members arrived.members) ∙ owners.owners) in
-    let none = none_told (file_change inputs wishes found) plan.files old plan.told
+    ap (λ (o : Option (List ℕ)). unless_reserved_path o (unless_contested members (first_contested_member_path_in_byte_order members) rest)) (sym (ap first_reserved_added_path_in_byte_order arrived.members) ∙ owners.allowed)
+    ∙ ap (λ (o : Option ContestedPath). unless_contested members o rest) (sym (ap first_contested_member_path_in_byte_order arrived.members) ∙ owners.owners) in
+    let none = none_told (packages_before_and_after_with_purge inputs wishes found) plan.files old plan.told
     (subst (λ (c : FileChange). IsFirstClashOverSomeFiles (name_change c plan.files) None) (change_is old a ms wishes found arrived) plan.may_have_none)
     (subst (λ (c : FileChange). IfObservable old (λ v. HasNoClash (name_change c plan.files) plan.files)) (change_is old a ms wishes found arrived) plan.no_clash) in
     record {
@@ -237,7 +237,7 @@ planned_step old mid p found plan same arrived =
 pub planned_step_run : (old mid now : List TreeState) (before between after : Counts) (p : Plan) (found : List MemberFound) (result : Result (List ℕ) Refused)
     → ((files : Files) → IsPlanned mid p found files
     → IsEndOfRunOfWantedChange (Ok found)
-    (and_then (unless_trigger_due (wishes_of_plan p).no_scripts (touched_paths (file_change (inputs_of_plan p) (wishes_of_plan p) found) files) (found_members found))
+    (and_then (unless_trigger_due (wishes_of_plan p).no_scripts (touched_paths (packages_before_and_after_with_purge (inputs_of_plan p) (wishes_of_plan p) found) files) (found_members found))
     (λ allowed. change_done_unless_too_large (inputs_of_plan p) (replacement_of_plan p) (wishes_of_plan p) found files)) mid now between after result)
     → IsPlanFrom old (wishes_of_plan p).purge p.packages.now.selection.now.db p.members p.files → IsOnlyRead old mid before between → IsArrived old p.packages.now p.members found
     → IsRunOnFoundPackages (inputs_of_plan p) (replacement_of_plan p) (wishes_of_plan p) found old now before after result
@@ -248,7 +248,7 @@ planned_step_run old mid now before between after p found result comes plan quie
 -- the triggers of a planned change are those that the plan's paths have
 pub triggers_are : (history : List TreeState) (p : Plan) (found : List MemberFound) (files : Files) → IsPlanned history p found files
     → unless_trigger_due (wishes_of_plan p).no_scripts (planned_paths p.files) (members_of p.members)
-    ≡ unless_trigger_due (wishes_of_plan p).no_scripts (touched_paths (file_change (inputs_of_plan p) (wishes_of_plan p) found) files) (found_members found)
+    ≡ unless_trigger_due (wishes_of_plan p).no_scripts (touched_paths (packages_before_and_after_with_purge (inputs_of_plan p) (wishes_of_plan p) found) files) (found_members found)
 triggers_are history p found files planned =
     λ i. unless_trigger_due (wishes_of_plan p).no_scripts (map (λ w. w.name) (planned.lists.writes i) ++ planned.lists.removals i) (planned.arrived.members i)
 

@@ -15,7 +15,7 @@ use Rattle.change_report.specs.change_inputs.Chains.{and_then}
 use Rattle.change_report.specs.change_inputs.Inputs.{Inputs}
 use Rattle.change_report.specs.change_inputs.declared.root.Refused.{Refused}
 use Rattle.change_report.specs.change_inputs.declared.root.Refused.TheVariants.{Disk, Memory, Refusal as IsRefused}
-use Rattle.change_report.specs.change_outcome.ChangeOutcome.{ChangeDone, ChangeWishes, IsFirstClashIfMembersFoundAmong, members_after_change, change_or_refusal, change_with_members, file_change, touched_paths, change_done_unless_too_large}
+use Rattle.change_report.specs.change_outcome.ChangeOutcome.{ChangeDone, ChangeWishes, IsFirstClashUnlessMembersRefusedAmong, members_after_change, change_or_refusal, change_with_members, packages_before_and_after_with_purge, touched_paths, change_done_unless_too_large}
 use Rattle.change_report.specs.change_outcome.Triggers.{unless_trigger_due}
 use Rattle.change_report.specs.change_outcome.MembersAfter.{MemberFound, found_members, members_after}
 use Rattle.command_core.specs.Command.{CommandLine}
@@ -135,10 +135,10 @@ module _ (s : Selection) (real : s.command.now.flags.simulate ≡ false) where
       change_is read files clash ∙ ap (λ (m : Result (List MemberFound) Refusal). and_then m (change_with_members (inputs_of_selection s) (replacement_seen s) (wishes_of_selection s) clash files)) is
 
   clash_is : (read : Reads) (found : List MemberFound) (files present_files : Files) (clash : Option NamePair) → members_after_change (inputs_of_selection s) (replacement_seen s) (wishes_of_selection s) read ≡ Ok found
-      → IsFirstClashIfMembersFoundAmong (inputs_of_selection s) (wishes_of_selection s) files present_files (Ok found) clash → IsFirstClashUnlessRefusedAmong s.command.now read files present_files (Ok (selection_seen s)) clash
+      → IsFirstClashUnlessMembersRefusedAmong (inputs_of_selection s) (wishes_of_selection s) files present_files (Ok found) clash → IsFirstClashUnlessRefusedAmong s.command.now read files present_files (Ok (selection_seen s)) clash
   clash_is read found files present_files clash is here =
       subst (λ (b : Bool). IsFirstClashUnlessSimulatedAmong b (wishes_of_selection s) read files present_files (selection_seen s) clash) (sym real)
-      (subst (λ (m : Result (List MemberFound) Refusal). IsFirstClashIfMembersFoundAmong (inputs_of_selection s) (wishes_of_selection s) files present_files m clash) (sym is) here)
+      (subst (λ (m : Result (List MemberFound) Refusal). IsFirstClashUnlessMembersRefusedAmong (inputs_of_selection s) (wishes_of_selection s) files present_files m clash) (sym is) here)
 
   module _ (old mid : List TreeState) (before between : Counts) (quiet : IsOnlyRead old mid before between) where
     -- a package that comes is refused
@@ -226,7 +226,7 @@ module _ (law : HaveMembers) (old mid : List TreeState) (before between : Counts
       (comes files planned))
       plan.files quiet plan_arrived)
     where
-      allowed : (files : Files) → IsPlanned mid p found files → unless_trigger_due (wishes_of_plan p).no_scripts (touched_paths (file_change (inputs_of_plan p) (wishes_of_plan p) found) files) (found_members found) ≡ Ok true
+      allowed : (files : Files) → IsPlanned mid p found files → unless_trigger_due (wishes_of_plan p).no_scripts (touched_paths (packages_before_and_after_with_purge (inputs_of_plan p) (wishes_of_plan p) found) files) (found_members found) ≡ Ok true
       allowed files planned = sym (triggers_are mid p found files planned) ∙ plan.triggers
 
 -- ---- a trigger is due
@@ -245,7 +245,7 @@ pub untriggered : HaveMembers → (old mid : List TreeState) (before between : C
 untriggered law old mid before between quiet p files members found arrivals fault flags is_flags told =
     planned_step_run old mid mid before between between p found (Err fault)
     (λ fs planned.
-    part_fails {A = Unit {0}} {B = Bool} (Ok found) (unless_trigger_due (wishes_of_plan p).no_scripts (touched_paths (file_change (inputs_of_plan p) (wishes_of_plan p) found) fs) (found_members found))
+    part_fails {A = Unit {0}} {B = Bool} (Ok found) (unless_trigger_due (wishes_of_plan p).no_scripts (touched_paths (packages_before_and_after_with_purge (inputs_of_plan p) (wishes_of_plan p) found) fs) (found_members found))
     (unless_trigger_due flags.no_scripts (planned_paths p.files) (members_of p.members)) (λ allowed. change_done_unless_too_large (inputs_of_plan p) (replacement_of_plan p) (wishes_of_plan p) found fs) (λ _. true) mid between fault
     ((λ i. unless_trigger_due (is_flags i).no_scripts (planned_paths p.files) (members_of p.members)) ∙ triggers_are mid p found fs planned) told)
     files quiet (has_arrived old p.packages.now p.members found (members ∙ law _ _ _ found arrivals.read) arrivals)

@@ -8,7 +8,7 @@ use Rattle.std.specs.Str.{bytes_eq}
 use Rattle.std.proofs.lemmas.Slice.Eq.{bytes_eq-Decides}
 use Rattle.std.proofs.lemmas.Bool.{or_from}
 use Rattle.change_report.proofs.file_owners.NamedPlaces.{turned}
-use Rattle.change_report.specs.change_files.PlanLists.{sorted_distinct_names, prepend_unless_equal_to_first, without_adjacent_repeats}
+use Rattle.change_report.specs.change_files.PlanLists.{sorted_distinct_names, prepend_unless_equal_to_first, names_with_adjacent_repeats_merged}
 use Rattle.change_report.specs.journal_intent.FreeNames.{HaveNoRepeats, IsNoneOf, IsOneOf}
 use Rattle.base_core.specs.ByteOrder.{bytes_cmp}
 use Rattle.base_core.specs.Sorted.{sorted_by, with_element_inserted}
@@ -39,7 +39,7 @@ once_sorted : (xs : List (List ℕ)) → HaveNoRepeats xs → HaveNoRepeats (sor
 once_sorted [] once = tt
 once_sorted (x ∷ xs) once = once_with x (sorted_by bytes_cmp xs) (any_in_order (bytes_eq x) xs ∙ once.0) (once_sorted xs once.1)
 
-without_same : (xs : List (List ℕ)) → HaveNoRepeats xs → without_adjacent_repeats xs ≡ xs
+without_same : (xs : List (List ℕ)) → HaveNoRepeats xs → names_with_adjacent_repeats_merged xs ≡ xs
 without_same [] once = refl
 without_same (x ∷ []) once = refl
 without_same (x ∷ y ∷ ys) once =

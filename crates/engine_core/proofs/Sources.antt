@@ -20,7 +20,7 @@ use Rattle.change_report.proofs.change_files.Reserved.{records_reserved}
 use Rattle.change_report.proofs.change_files.Untouched.{takes_its_path}
 use Rattle.std.proofs.lemmas.Bool.{false_from_ne_true}
 use Rattle.change_report.specs.change_inputs.Inputs.{Inputs}
-use Rattle.change_report.specs.change_outcome.Premises.{HasNoReservedPath, AreDatabaseAndWorldReadFromFiles}
+use Rattle.change_report.specs.change_outcome.Premises.{OldAndAddedPackagesListNoReservedPath, AreDatabaseAndWorldReadFromFiles}
 use Rattle.change_report.proofs.change_outcome.ActionNames.{written_free}
 use Rattle.change_report.specs.change_outcome.ChangeOutcome.{bytes_or_empty_under, is_absent_or_different, database_and_world_after_change}
 use Rattle.change_report.specs.change_outcome.MembersAfter.{MemberFound, found_package_contents}
@@ -58,7 +58,7 @@ unfolding listing_bytes
 listing_bytes_are contents members name l entry =
     ap (λ (e : Plain). if has_target e then link_file_bytes_of_entry e else bytes_of_file l.folder l.file (contents l.place)) entry
 
-module _ (inputs : Inputs) (change : FileChange) (contents : ℕ → List Contents) (database : List ℕ) (files : Files) (root : AreDatabaseAndWorldReadFromFiles files inputs.root) (free : HasNoReservedPath change) where
+module _ (inputs : Inputs) (change : FileChange) (contents : ℕ → List Contents) (database : List ℕ) (files : Files) (root : AreDatabaseAndWorldReadFromFiles files inputs.root) (free : OldAndAddedPackagesListNoReservedPath change) where
   abbrev records : DatabaseAndWorldAfter
   records = database_and_world_after_change inputs database
 
@@ -164,7 +164,7 @@ mapped_long f g [] = refl
 mapped_long f g (x ∷ xs) = ap suc (mapped_long f g xs)
 
 module _ (inputs : Inputs) (change : FileChange) (found : List MemberFound) (own : NewRecords) (rw : RecordWrites) (packages : ℕ → Option TestedPackage)
-    (is_own : AreNewRecordsOf inputs own) (which : AreRecordWrites inputs own rw) (free : HasNoReservedPath change)
+    (is_own : AreNewRecordsOf inputs own) (which : AreRecordWrites inputs own rw) (free : OldAndAddedPackagesListNoReservedPath change)
     (v : TreeState) (earlier : List TreeState) (read : FilesAreRead (v ∷ earlier) found packages)
     (files : Files) (root : AreDatabaseAndWorldReadFromFiles files inputs.root) where
   abbrev left : Files

@@ -13,7 +13,7 @@ use Rattle.change_report.specs.change_inputs.Seen.{inputs_seen}
 use Rattle.change_report.specs.change_inputs.declared.loaded.Loaded.{Loaded}
 use Rattle.change_report.specs.change_inputs.declared.root.Refused.{Refused}
 use Rattle.change_report.specs.change_inputs.declared.root.Refused.TheVariants.{Disk, Memory, Refusal as IsRefused}
-use Rattle.change_report.specs.change_outcome.ChangeOutcome.{ChangeDone, ChangeWishes, IsFirstClashIfMembersFoundAmong, members_after_change, change_or_refusal, change_with_members}
+use Rattle.change_report.specs.change_outcome.ChangeOutcome.{ChangeDone, ChangeWishes, IsFirstClashUnlessMembersRefusedAmong, members_after_change, change_or_refusal, change_with_members}
 use Rattle.change_report.specs.change_outcome.MembersAfter.{MemberFound, members_after}
 use Rattle.command_core.specs.Command.{CommandLine}
 use Rattle.dep_core.specs.Repositories.{Repository}
@@ -129,7 +129,7 @@ module _ (have : HaveOwnReads) (command : CommandLine) (inputs : Inputs) (read o
 
       by : (b : Bool) → IsFirstClashUnlessSimulatedAmong b (wishes_of command) other files present_files s clash → IsFirstClashUnlessSimulatedAmong b (wishes_of command) read files present_files s clash
       by true clash_is = clash_is
-      by false clash_is = subst (λ (found : Result (List MemberFound) Refusal). IsFirstClashIfMembersFoundAmong s.inputs (wishes_of command) files present_files found clash) (of_inputs s.inputs is) clash_is
+      by false clash_is = subst (λ (found : Result (List MemberFound) Refusal). IsFirstClashUnlessMembersRefusedAmong s.inputs (wishes_of command) files present_files found clash) (of_inputs s.inputs is) clash_is
 
   packages_same : (s : InputsAndReplacement) → s.inputs ≡ inputs → packages_found_after_change command read (Ok s) ≡ packages_found_after_change command other (Ok s)
   packages_same s is = subst (λ (i : Inputs). members_after_change i s.replacement (wishes_of command) read ≡ members_after_change i s.replacement (wishes_of command) other) (sym is) (members_same s.replacement (wishes_of command))

@@ -3,7 +3,7 @@ use Rattle.std.proofs.Common.{◌≡◌, ℕ, Bool, false, true, List, [], ◌�
 use Rattle.std.specs.Prelude.{codes}
 use Rattle.adb_view.specs.Plain.{Plain, blob, more, none, obj}
 use Rattle.change_report.specs.change_inputs.Database.{database_of_packages_file_and_is_text}
-use Rattle.change_report.specs.change_inputs.Inputs.{Inputs, inputs_from_parts, root_from_parts}
+use Rattle.change_report.specs.change_inputs.Inputs.{Inputs, inputs_from_parts, root_with_new_world_of_command}
 use Rattle.command_core.specs.Command.{command_from_parts}
 use Rattle.command_core.specs.Flags.{no_flags}
 use Rattle.command_core.specs.declared.command.Applet.{Applet}
@@ -41,7 +41,7 @@ needs_a = dependency_from_parts (codes "a") None 1 false None
 
 abbrev inputs : Inputs
 inputs =
-    inputs_from_parts (root_from_parts (command_from_parts Upgrade no_flags [] [] 2) (database_of_packages_file_and_is_text (obj (more (info_of_b (codes "1")) none) ∷ []) None false) [] (needs_a ∷ []) []) []
+    inputs_from_parts (root_with_new_world_of_command (command_from_parts Upgrade no_flags [] [] 2) (database_of_packages_file_and_is_text (obj (more (info_of_b (codes "1")) none) ∷ []) None false) [] (needs_a ∷ []) []) []
 
 -- ---- the operand that is refused
 

@@ -91,7 +91,7 @@ pub record IsPackageFileChangedSinceTested (packages : Result (List MemberFound)
 
 -- A change with the result `wanted` is staged and committed, or the tree failed on the way. The run begins in the state
 -- `v`; `old` and `now` are the histories of the tree before and after it.
-pub record IsRunThatCommitsChange (wanted : Result ChangeDone Refusal) (v : TreeState)
+pub record IsRunThatCommitsChangeUnlessTreeFails (wanted : Result ChangeDone Refusal) (v : TreeState)
     (old now : List TreeState) (result : Result (List ℕ) Refused) : Type 0 where
   -- the result of the change
   pub done : ChangeDone
@@ -111,7 +111,8 @@ abbrev pub IsUnchangedOrCommit :
     Result ChangeDone Refusal → TreeState → List TreeState → List TreeState
     → Result (List ℕ) Refused → Type 0
 IsUnchangedOrCommit wanted v old now result =
-    ((now ≡ old) × OnOk result (DoesCommit wanted → ⊥)) ⊎ IsRunThatCommitsChange wanted v old now result
+    ((now ≡ old) × OnOk result (DoesCommit wanted → ⊥))
+    ⊎ IsRunThatCommitsChangeUnlessTreeFails wanted v old now result
 
 -- ---- the answer and the effect together
 

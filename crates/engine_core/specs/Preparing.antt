@@ -14,7 +14,7 @@ use Rattle.change_report.specs.change_files.NamesAfter.{name_change}
 use Rattle.change_report.specs.path_clashes.Clash.{HasNoClash}
 use Rattle.change_report.specs.change_inputs.Inputs.{Inputs}
 use Rattle.change_report.specs.change_outcome.Premises.{AreDatabaseAndWorldReadFromFiles}
-use Rattle.change_report.specs.change_outcome.ChangeOutcome.{ChangeWishes, members_after_change, file_change, is_absent_or_different}
+use Rattle.change_report.specs.change_outcome.ChangeOutcome.{ChangeWishes, members_after_change, packages_before_and_after_with_purge, is_absent_or_different}
 use Rattle.change_report.specs.change_outcome.MembersAfter.{MemberFound, found_members}
 use Rattle.change_report.specs.change_outcome.Triggers.{unless_trigger_due}
 use Rattle.change_report.specs.db_core.Seen.{members_of, packages_of}
@@ -134,7 +134,8 @@ pub record IsPlanned (history : List TreeState) (p : Plan) (found : List MemberF
   -- on an observable tree, the files are the tree's
   pub told : IfObservable history (λ v. files ≡ files_of v)
   -- the plan is that of the change over these files
-  pub lists : ArePlanLists (file_change (inputs_of_plan p) (wishes_of_plan p) found) files p.files
+  pub lists : ArePlanLists (packages_before_and_after_with_purge (inputs_of_plan p)
+      (wishes_of_plan p) found) files p.files
   -- no name is both written and removed, and none is reserved
   pub names : HasDisjointUnreservedNames p.files
   -- each written file has a source in an added package
@@ -143,10 +144,11 @@ pub record IsPlanned (history : List TreeState) (p : Plan) (found : List MemberF
   pub owners : IsPlanForMembersAlone (members_of p.members) p.files
   -- no name after the change is a folder of another
   pub no_clash : IfObservable history (λ v.
-      HasNoClash (name_change (file_change (inputs_of_plan p) (wishes_of_plan p) found) files) files)
+      HasNoClash (name_change (packages_before_and_after_with_purge (inputs_of_plan p)
+      (wishes_of_plan p) found) files) files)
   -- no path that a package before lists is reserved
   pub unreserved : All (λ l. is_reserved l.path ≡ false)
-      (old_listings (file_change (inputs_of_plan p) (wishes_of_plan p) found))
+      (old_listings (packages_before_and_after_with_purge (inputs_of_plan p) (wishes_of_plan p) found))
 
 -- the files of a change are planned, by some packages that are found and over some files
 abbrev pub IsPlannedFromSomeFiles : List TreeState → Plan → Type 0

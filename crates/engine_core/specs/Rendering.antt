@@ -8,7 +8,7 @@ use Rattle.base_core.specs.Tree.{TreeState}
 use Rattle.change_report.specs.change_files.PlanLists.{sorted_distinct_names}
 use Rattle.change_report.specs.change_inputs.Answers.{Agrees}
 use Rattle.change_report.specs.change_inputs.declared.root.Refused.{Refused}
-use Rattle.change_report.specs.change_outcome.ChangeOutcome.{intent_of_change, change_report, has_actions, file_change, name_if_needed, database_and_world_after_change, unless_overflow}
+use Rattle.change_report.specs.change_outcome.ChangeOutcome.{intent_of_change, change_report, has_actions, packages_before_and_after_with_purge, name_if_needed, database_and_world_after_change, unless_overflow}
 use Rattle.change_report.specs.change_outcome.MembersAfter.{MemberFound}
 use Rattle.change_report.specs.db_core.Seen.{members_of}
 use Rattle.change_report.specs.journal_core.Staged.{Staging, new_stage_of_removals_and_writes}
@@ -63,7 +63,7 @@ IsRefusedForOverflow p records refused =
     → IsPlanned history p found files
     → Agrees {A = Bool} {B = Bool} (λ _. true) (Err refused) (unless_overflow (overflow_of
     (value_of_intent (intent_of_change (inputs_of_plan p)
-    (file_change (inputs_of_plan p) (wishes_of_plan p) found) files
+    (packages_before_and_after_with_purge (inputs_of_plan p) (wishes_of_plan p) found) files
     (database_and_world_after_change (inputs_of_plan p) records.database.items)))) true)
 
 -- ---- the whole
@@ -81,4 +81,4 @@ pub record IsRendered (p : Plan) (records : NewRecords) (r : Rendered) : Type 0 
   pub report : (history : List TreeState) (found : List MemberFound) (files : Files)
       → IsPlanned history p found files
       → r.report ≡ change_report (replacement_of_plan p) (wishes_of_plan p)
-      (file_change (inputs_of_plan p) (wishes_of_plan p) found) files
+      (packages_before_and_after_with_purge (inputs_of_plan p) (wishes_of_plan p) found) files

@@ -10,7 +10,7 @@ use Rattle.change_report.specs.change_inputs.Chains.{and_then}
 use Rattle.change_report.specs.change_inputs.declared.root.Refused.{Refused}
 use Rattle.change_report.specs.change_inputs.declared.root.Refused.TheVariants.{Disk}
 use Rattle.change_report.specs.change_inputs.Inputs.{Inputs}
-use Rattle.change_report.specs.change_outcome.ChangeOutcome.{ChangeWishes, IsFirstClashIfMembersFoundAmong, change_with_members}
+use Rattle.change_report.specs.change_outcome.ChangeOutcome.{ChangeWishes, IsFirstClashUnlessMembersRefusedAmong, change_with_members}
 use Rattle.change_report.specs.change_outcome.MembersAfter.{MemberFound}
 use Rattle.command_core.specs.Command.{CommandLine}
 use Rattle.change_report.specs.make_info.Reads.{Reads}
@@ -61,7 +61,7 @@ pub record IsRunOnFoundPackages (inputs : Inputs) (r : Replacement) (wishes : Ch
   -- two names of which one would be a folder of the other after the change; None if there are none
   pub clash : Option NamePair
   -- `clash` is the first such clash of the change among `present_files`
-  pub is_clash : IsFirstClashIfMembersFoundAmong inputs wishes files present_files (Ok found) clash
+  pub is_clash : IsFirstClashUnlessMembersRefusedAmong inputs wishes files present_files (Ok found) clash
   -- the run ends as the packages found and the result of the change say
   pub comes : IsEndOfRunOfWantedChange (Ok found) (change_with_members inputs r wishes clash files found)
       old now before after result

@@ -7,7 +7,7 @@ ghost use Rattle.base_core.specs.Files.{Files};
 ghost use Rattle.base_core.specs.Tree.{TreeState};
 ghost use Rattle.change_report.specs.change_inputs.Answers.{Agrees};
 ghost use Rattle.change_report.specs.change_inputs.Seen.{inputs_seen};
-ghost use Rattle.change_report.specs.change_outcome.ChangeOutcome.{change_report, has_actions, file_change, or_result_too_large, unless_overflow};
+ghost use Rattle.change_report.specs.change_outcome.ChangeOutcome.{change_report, has_actions, packages_before_and_after_with_purge, or_result_too_large, unless_overflow};
 ghost use Rattle.change_report.specs.change_outcome.MembersAfter.{MemberFound};
 ghost use Rattle.change_report.specs.db_core.Seen.{members_of};
 ghost use Rattle.change_report.specs.db_write.NewDatabase.{database_of};
@@ -182,7 +182,8 @@ fn report_of(alloc: Global, plan: &Plan<'_, '_, '_>) -> Result<Text, AllocError>
     ensures { IfOk result (λ report. (history : List TreeState) (found : List MemberFound)
         (files : Files) → IsPlanned history plan.now found files
         → report ≡ change_report (replacement_of_plan plan.now) (wishes_of_plan plan.now)
-        (file_change (inputs_of_plan plan.now) (wishes_of_plan plan.now) found) files) }
+        (packages_before_and_after_with_purge (inputs_of_plan plan.now)
+        (wishes_of_plan plan.now) found) files) }
 {
     // A law that the proof needs; it has no effect at run time.
     places_lead_to_packages_and_candidates();

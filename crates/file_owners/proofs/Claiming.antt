@@ -10,7 +10,7 @@ use Rattle.path_claims.specs.Seen.{claim_seen}
 use Rattle.path_claims.specs.declared.owner.Owners.{Owners}
 use Rattle.path_claims.proofs.Places.{no_some, value_or}
 use Rattle.file_owners.specs.Gathered.{claims_with_listings}
-use Rattle.file_owners.specs.Owners.{numbered_claim_of_listing, claims_of_listings_numbered_from, claims_in, first_contested_path_of_members, member_beats, owned_flags_of, owner_of_path}
+use Rattle.file_owners.specs.Owners.{indexed_claim_of_listing, claims_of_listings_indexed_from, claims_in, first_contested_member_path_in_byte_order, member_beats, owned_flags_of, owner_of_path}
 
 joined : {X : Type 0} (xs : List X) (y : X) (ys : List X) → (xs ++ (y ∷ [])) ++ ys ≡ xs ++ (y ∷ ys)
 joined [] y ys = refl
@@ -24,12 +24,12 @@ none_behind : {X : Type 0} (xs : List X) → xs ++ [] ≡ xs
 none_behind [] = refl
 none_behind (x ∷ xs) = ap (λ r. x ∷ r) (none_behind xs)
 
-gathered : (cs : List PathClaim) (ls : List Listing) → claims_with_listings cs ls ≡ cs ++ claims_of_listings_numbered_from (length cs) ls
+gathered : (cs : List PathClaim) (ls : List Listing) → claims_with_listings cs ls ≡ cs ++ claims_of_listings_indexed_from (length cs) ls
 gathered cs [] = sym (none_behind cs)
 gathered cs (l ∷ ls) =
-    gathered (cs ++ (numbered_claim_of_listing (length cs) l ∷ [])) ls
-    ∙ (ap (λ n. (cs ++ (numbered_claim_of_listing (length cs) l ∷ [])) ++ claims_of_listings_numbered_from n ls) (one_longer cs (numbered_claim_of_listing (length cs) l))
-    ∙ joined cs (numbered_claim_of_listing (length cs) l) (claims_of_listings_numbered_from (length cs + 1) ls))
+    gathered (cs ++ (indexed_claim_of_listing (length cs) l ∷ [])) ls
+    ∙ (ap (λ n. (cs ++ (indexed_claim_of_listing (length cs) l ∷ [])) ++ claims_of_listings_indexed_from n ls) (one_longer cs (indexed_claim_of_listing (length cs) l))
+    ∙ joined cs (indexed_claim_of_listing (length cs) l) (claims_of_listings_indexed_from (length cs + 1) ls))
 
 pub all_gathered : (members : List Member) → claims_with_listings [] (listings_of_members members) ≡ claims_in members
 unfolding claims_in
@@ -37,7 +37,7 @@ all_gathered members = gathered [] (listings_of_members members)
 
 -- ---- their numbers
 
-numbered_from : (n : ℕ) (ls : List Listing) (i : ℕ) (c : PathClaim) → slice_get (claims_of_listings_numbered_from n ls) i ≡ Some c → c.number ≡ n + i
+numbered_from : (n : ℕ) (ls : List Listing) (i : ℕ) (c : PathClaim) → slice_get (claims_of_listings_indexed_from n ls) i ≡ Some c → c.number ≡ n + i
 numbered_from n [] i c g = absurd (no_some c g)
 numbered_from n (l ∷ ls) zero c g = let e : n ≡ c.number = ap (λ v. v.number) (ap (value_or c) g) in omega arith
 numbered_from n (l ∷ ls) (suc i) c g = let r = numbered_from (n + 1) ls i c g in omega arith
@@ -56,7 +56,7 @@ owners_are : (members : List Member) (cs : List PathClaim) → map (λ c. owner_
 unfolding owner_of_path
 owners_are members cs = refl
 
-flags_from : (f : List ℕ → Option ℕ) (n : ℕ) (ls : List Listing) → map (λ c. is_owning_member c.member (f c.path)) (claims_of_listings_numbered_from n ls) ≡ map (λ l. is_owning_member l.place (f l.path)) ls
+flags_from : (f : List ℕ → Option ℕ) (n : ℕ) (ls : List Listing) → map (λ c. is_owning_member c.member (f c.path)) (claims_of_listings_indexed_from n ls) ≡ map (λ l. is_owning_member l.place (f l.path)) ls
 flags_from f n [] = refl
 flags_from f n (l ∷ ls) = ap (λ r. is_owning_member l.place (f l.path) ∷ r) (flags_from f (n + 1) ls)
 
@@ -93,7 +93,7 @@ owned_seen members cs (Ok found) g h =
 
 pub contested_seen_by : (members : List Member) (cs : List PathClaim) (r : Result Owners AllocError) → cs ≡ claims_with_listings [] (listings_of_members members)
     → IfOk r (λ found. option_map contested_seen found.contested ≡ first_contested_path (member_beats members) cs)
-    → IfOk r (λ found. option_map contested_seen found.contested ≡ first_contested_path_of_members members)
-unfolding first_contested_path_of_members
+    → IfOk r (λ found. option_map contested_seen found.contested ≡ first_contested_member_path_in_byte_order members)
+unfolding first_contested_member_path_in_byte_order
 contested_seen_by members cs (Err e) g h = h
 contested_seen_by members cs (Ok found) g h = h ∙ ap (first_contested_path (member_beats members)) (g ∙ all_gathered members)

@@ -9,11 +9,11 @@ use Rattle.path_claims.proofs.adb_fields.Listed.{none_listed}
 use Rattle.db_core.specs.Members.{Listing, Member, listing_of_file_entry, listings_of_member, listings_of_members_from, listings_in_folder_from_file, listings_in_folders_from, listings_of_members}
 use Rattle.path_claims.specs.Claims.{PathClaim}
 use Rattle.file_owners.specs.Gathered.{claims_with_listings}
-use Rattle.file_owners.specs.Owners.{numbered_claim_of_listing}
+use Rattle.file_owners.specs.Owners.{indexed_claim_of_listing}
 
 pub with_more : (cs : List PathClaim) (xs ys : List Listing) → claims_with_listings (claims_with_listings cs xs) ys ≡ claims_with_listings cs (xs ++ ys)
 with_more cs [] ys = refl
-with_more cs (x ∷ xs) ys = with_more (cs ++ (numbered_claim_of_listing (length cs) x ∷ [])) xs ys
+with_more cs (x ∷ xs) ys = with_more (cs ++ (indexed_claim_of_listing (length cs) x ∷ [])) xs ys
 
 front : (vs : Plains) (i : ℕ) → i < count_of vs → drop i (list_of vs) ≡ nth vs i ∷ drop (suc i) (list_of vs)
 front none i h = absurd (omega arith)

@@ -24,7 +24,7 @@ use Rattle.adb_view.specs.Values.{entry_in, int_in, text_in}
 use Rattle.db_core.specs.Members.{Member, member_name}
 use Rattle.file_owners.specs.NamedPlaces.{ArePlacesOfNamedMembers, ArePlacesNamedByEachMember}
 use Rattle.file_owners.specs.Owners.{member_beats, takes_over_if_both_exist}
-use Rattle.file_owners.specs.Replaces.{does_replaces_entry_name_package, is_preferred_replacer, is_package_met_by_replaces_entry, does_first_list_second_in_replaces, takes_over, package_version_text}
+use Rattle.file_owners.specs.Replaces.{does_replaces_entry_name_package, is_preferred_by_priority_or_later_name, is_package_met_by_replaces_entry, does_first_list_second_in_replaces, takes_over, package_version_text}
 use Rattle.db_core.specs.adb_schema.Dependencies.{dependency_in}
 use Rattle.file_owners.proofs.AnyOfFront.{some_at}
 
@@ -177,7 +177,7 @@ module _ (members : List Member) (named : List (List ℕ)) (all : ArePlacesNamed
       let m = some_at members x l in
       let n = some_at members y k in
       let e : does_first_list_second_in_replaces m.0.pkg n.0.pkg ≡ false = sym (names_at x y m.0 n.0 places m.1 n.1 g) ∙ (sym is ∙ absent) in
-      sym (sym (beats_is m.0 n.0 m.1 n.1) ∙ ap (λ b. b && (not (does_first_list_second_in_replaces n.0.pkg m.0.pkg) || is_preferred_replacer m.0.pkg n.0.pkg)) e)
+      sym (sym (beats_is m.0 n.0 m.1 n.1) ∙ ap (λ b. b && (not (does_first_list_second_in_replaces n.0.pkg m.0.pkg) || is_preferred_by_priority_or_later_name m.0.pkg n.0.pkg)) e)
 
   pub not_back : (places others : List ℕ) (t u : Bool) → slice_get named x ≡ Some places → slice_get named y ≡ Some others → t ≡ list_any (λ p. p == y) places → t ≡ true
       → u ≡ list_any (λ p. p == x) others → u ≡ false → true ≡ member_beats members x y
@@ -187,16 +187,16 @@ module _ (members : List Member) (named : List (List ℕ)) (all : ArePlacesNamed
       let n = some_at members y k in
       let e : does_first_list_second_in_replaces m.0.pkg n.0.pkg ≡ true = sym (names_at x y m.0 n.0 places m.1 n.1 g) ∙ (sym is ∙ yes_named) in
       let f : does_first_list_second_in_replaces n.0.pkg m.0.pkg ≡ false = sym (names_at y x n.0 m.0 others n.1 m.1 h) ∙ (sym back ∙ no_back) in
-      sym (sym (beats_is m.0 n.0 m.1 n.1) ∙ (λ j. e j && (not (f j) || is_preferred_replacer m.0.pkg n.0.pkg)))
+      sym (sym (beats_is m.0 n.0 m.1 n.1) ∙ (λ j. e j && (not (f j) || is_preferred_by_priority_or_later_name m.0.pkg n.0.pkg)))
 
   pub by_preference : (places others : List ℕ) (t u p : Bool) (v w : Plain) → slice_get named x ≡ Some places → slice_get named y ≡ Some others → t ≡ list_any (λ p. p == y) places → t ≡ true
       → u ≡ list_any (λ p. p == x) others → u ≡ true → ((m : Member) → slice_get members x ≡ Some m → v ≡ m.pkg) → ((m : Member) → slice_get members y ≡ Some m → w ≡ m.pkg)
-      → p ≡ is_preferred_replacer v w → p ≡ member_beats members x y
+      → p ≡ is_preferred_by_priority_or_later_name v w → p ≡ member_beats members x y
   unfolding takes_over
   by_preference places others t u p v w g h is yes_named back yes_back first second preferred =
       let m = some_at members x l in
       let n = some_at members y k in
       let e : does_first_list_second_in_replaces m.0.pkg n.0.pkg ≡ true = sym (names_at x y m.0 n.0 places m.1 n.1 g) ∙ (sym is ∙ yes_named) in
       let f : does_first_list_second_in_replaces n.0.pkg m.0.pkg ≡ true = sym (names_at y x n.0 m.0 others n.1 m.1 h) ∙ (sym back ∙ yes_back) in
-      preferred ∙ ((λ j. is_preferred_replacer (first m.0 m.1 j) (second n.0 n.1 j))
-      ∙ (sym (λ j. e j && (not (f j) || is_preferred_replacer m.0.pkg n.0.pkg)) ∙ beats_is m.0 n.0 m.1 n.1))
+      preferred ∙ ((λ j. is_preferred_by_priority_or_later_name (first m.0 m.1 j) (second n.0 n.1 j))
+      ∙ (sym (λ j. e j && (not (f j) || is_preferred_by_priority_or_later_name m.0.pkg n.0.pkg)) ∙ beats_is m.0 n.0 m.1 n.1))

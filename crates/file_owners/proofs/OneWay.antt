@@ -9,7 +9,7 @@ use Rattle.base_core.proofs.Orderings.{precedes_one_way}
 use Rattle.db_core.specs.Members.{Member}
 use Rattle.path_claims.specs.Contest.{IsAsymmetric}
 use Rattle.file_owners.specs.Owners.{member_beats, takes_over_if_both_exist}
-use Rattle.file_owners.specs.Replaces.{is_preferred_replacer, does_first_list_second_in_replaces, replacing_priority, takes_over}
+use Rattle.file_owners.specs.Replaces.{is_preferred_by_priority_or_later_name, does_first_list_second_in_replaces, replacing_priority, takes_over}
 
 by_number : (m n : ℕ) (s t : Bool) → (s ≡ true → t ≡ false) → (nat_lt n m || ((m == n) && s)) ≡ true → (nat_lt m n || ((n == m) && t)) ≡ false
 by_number m n true t f h = let e : t ≡ false = f refl in grind (arith, e)
@@ -21,9 +21,9 @@ by_names true false p q f h = refl
 by_names false b p q f h = absurd (true≢false (sym h))
 
 pub takes_over_one_way : (x y : Plain) → takes_over x y ≡ true → takes_over y x ≡ false
-unfolding takes_over is_preferred_replacer
+unfolding takes_over is_preferred_by_priority_or_later_name
 takes_over_one_way x y h =
-    by_names (does_first_list_second_in_replaces x y) (does_first_list_second_in_replaces y x) (is_preferred_replacer x y) (is_preferred_replacer y x)
+    by_names (does_first_list_second_in_replaces x y) (does_first_list_second_in_replaces y x) (is_preferred_by_priority_or_later_name x y) (is_preferred_by_priority_or_later_name y x)
     (by_number (replacing_priority x) (replacing_priority y) (precedes (package_name y) (package_name x)) (precedes (package_name x) (package_name y)) (precedes_one_way (package_name y) (package_name x))) h
 
 pub members_one_way : (members : List Member) → IsAsymmetric (member_beats members)

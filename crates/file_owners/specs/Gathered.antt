@@ -4,10 +4,10 @@
 use Rattle.std.specs.Prelude.{List, [], ◌∷◌, ◌++◌, length}
 use Rattle.db_core.specs.Members.{Listing}
 use Rattle.path_claims.specs.Claims.{PathClaim}
-use Rattle.file_owners.specs.Owners.{numbered_claim_of_listing}
+use Rattle.file_owners.specs.Owners.{indexed_claim_of_listing}
 
 -- the claims, followed by the claims of the listings; the number of each added claim is how many claims are before it
 abbrev pub claims_with_listings : List PathClaim → List Listing → List PathClaim
 claims_with_listings claims [] = claims
 claims_with_listings claims (l ∷ listings) =
-    claims_with_listings (claims ++ (numbered_claim_of_listing (length claims) l ∷ [])) listings
+    claims_with_listings (claims ++ (indexed_claim_of_listing (length claims) l ∷ [])) listings

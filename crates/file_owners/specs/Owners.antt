@@ -22,8 +22,8 @@ member_beats members x y = takes_over_if_both_exist (slice_get members x) (slice
 -- ---- what members claim
 
 -- the claim of a listed file; the number says how many claims are before it in the list of all claims
-abbrev pub numbered_claim_of_listing : ℕ → Listing → PathClaim
-numbered_claim_of_listing number l = record {
+abbrev pub indexed_claim_of_listing : ℕ → Listing → PathClaim
+indexed_claim_of_listing number l = record {
   path = l.path;
   member = l.place;
   folder = l.folder;
@@ -33,14 +33,14 @@ numbered_claim_of_listing number l = record {
 
 -- the claims of the listings, in order; the first claim has the number `number`, and each further one a number that is
 -- one more
-abbrev pub claims_of_listings_numbered_from : ℕ → List Listing → List PathClaim
-claims_of_listings_numbered_from number [] = []
-claims_of_listings_numbered_from number (l ∷ listings) =
-    numbered_claim_of_listing number l ∷ claims_of_listings_numbered_from (number + 1) listings
+abbrev pub claims_of_listings_indexed_from : ℕ → List Listing → List PathClaim
+claims_of_listings_indexed_from number [] = []
+claims_of_listings_indexed_from number (l ∷ listings) =
+    indexed_claim_of_listing number l ∷ claims_of_listings_indexed_from (number + 1) listings
 
 -- the claims of all members, in the order of members, folders and files, numbered from 0
 unfoldable pub claims_in : List Member → List PathClaim
-claims_in members = claims_of_listings_numbered_from 0 (listings_of_members members)
+claims_in members = claims_of_listings_indexed_from 0 (listings_of_members members)
 
 -- ---- who owns a path
 
@@ -55,5 +55,6 @@ owned_flags_of members =
 
 -- the first path in byte order that members list and no member owns, with its rivals: the first member that lists the
 -- path, and the first other one that this member does not beat. None if each path has an owner
-unfoldable pub first_contested_path_of_members : List Member → Option ContestedPath
-first_contested_path_of_members members = first_contested_path (member_beats members) (claims_in members)
+unfoldable pub first_contested_member_path_in_byte_order : List Member → Option ContestedPath
+first_contested_member_path_in_byte_order members =
+    first_contested_path (member_beats members) (claims_in members)

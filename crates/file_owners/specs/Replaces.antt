@@ -41,8 +41,8 @@ replacing_priority pkg = int_in (entry_in pkg PACKAGE_REPLACES_PRIORITY)
 
 -- whether x, of two packages that name each other, is preferred: x has the greater priority, or both have the same
 -- priority and the name of x is later in byte order
-unfoldable pub is_preferred_replacer : Plain → Plain → Bool
-is_preferred_replacer x y =
+unfoldable pub is_preferred_by_priority_or_later_name : Plain → Plain → Bool
+is_preferred_by_priority_or_later_name x y =
     nat_lt (replacing_priority y) (replacing_priority x)
     || ((replacing_priority x == replacing_priority y)
     && precedes (package_name y) (package_name x))
@@ -52,4 +52,4 @@ is_preferred_replacer x y =
 unfoldable pub takes_over : Plain → Plain → Bool
 takes_over x y =
     does_first_list_second_in_replaces x y
-    && (not (does_first_list_second_in_replaces y x) || is_preferred_replacer x y)
+    && (not (does_first_list_second_in_replaces y x) || is_preferred_by_priority_or_later_name x y)

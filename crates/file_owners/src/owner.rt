@@ -10,10 +10,10 @@ ghost use Rattle.base_core.specs.Sorted.{sorted_by};
 ghost use Rattle.path_claims.specs.Claims.{claim_cmp};
 ghost use Rattle.path_claims.specs.ContestedSeen.{contested_seen};
 ghost use Rattle.path_claims.specs.Seen.{claim_seen};
-ghost use Rattle.file_owners.specs.Owners.{claims_in, first_contested_path_of_members, member_beats, owned_flags_of, owner_of_path};
+ghost use Rattle.file_owners.specs.Owners.{claims_in, first_contested_member_path_in_byte_order, member_beats, owned_flags_of, owner_of_path};
 ghost use Rattle.file_owners.specs.NamedPlaces.{ArePlacesNamedByEachMember};
 ghost use Rattle.db_core.specs.adb_schema.Views.{dependency_value, package_value};
-ghost use Rattle.file_owners.specs.Replaces.{does_replaces_entry_name_package, is_preferred_replacer, is_package_met_by_replaces_entry, takes_over, package_version_text};
+ghost use Rattle.file_owners.specs.Replaces.{does_replaces_entry_name_package, is_preferred_by_priority_or_later_name, is_package_met_by_replaces_entry, takes_over, package_version_text};
 ghost use Rattle.db_core.specs.adb_schema.Dependencies.{dependency_in};
 ghost use Rattle.db_core.specs.adb_schema.SoundValues.{IsSoundDependency};
 ghost use Rattle.version_core.specs.Order.{is_version};
@@ -101,7 +101,7 @@ pub fn owners_of_files<'a>(alloc: Global, members: &Members<'a>) -> Result<Owner
         ≡ owned_flags_of (members_of members.now)) }
     // On Ok, `contested` is the first path in byte order that no member owns, with its rivals.
     ensures contested { IfOk result (λ found. option_map contested_seen found.contested
-        ≡ first_contested_path_of_members (members_of members.now)) }
+        ≡ first_contested_member_path_in_byte_order (members_of members.now)) }
 {
     let claims = claims_in(alloc, members)?;
     let named = places_of_each(alloc, members)?;
@@ -141,9 +141,10 @@ pub(crate) fn does_replaces_entry_name_package(entry: &DepView<'_>, pkg: &Packag
 
 /// Whether `one`, of two packages that name each other, is preferred: its field `replaces-priority`
 /// is greater, or it is equal and the name of `one` is later in byte order.
-#[tactic(auto, unfolding(crate::specs::Replaces::is_preferred_replacer))]
+#[tactic(auto, unfolding(crate::specs::Replaces::is_preferred_by_priority_or_later_name))]
 pub(crate) fn is_preferred<'a, 'b>(one: &PackageView<'a>, other: &PackageView<'b>) -> bool
-    ensures { result ≡ is_preferred_replacer (package_value one.now) (package_value other.now) }
+    ensures { result ≡ is_preferred_by_priority_or_later_name (package_value one.now)
+        (package_value other.now) }
 {
     if one.replaces_priority() != other.replaces_priority() {
         return one.replaces_priority() > other.replaces_priority();

@@ -12,7 +12,7 @@ use Rattle.adb_values.specs.Written.{IsWrittenAs}
 use Rattle.adb_dump.specs.Dump.{Line}
 use Rattle.adb_dump.specs.ReadBack.{ResultOrBadLine, value_of_lines_after_first}
 use Rattle.gen_core.specs.Cursors.{CursorState, cursor_after_line, cursor_from_parts}
-use Rattle.gen_core.specs.Generated.{DumpedRoot, IsGenFault, dumped_root, file_of_root, file_unless_too_large, generated_file, root_of_lines, root_of_lines_after_first, dumped_root_of_value_read, table_of_line, whole_lines_and_rest, unless_unfinished_line, schema_word_or_zero}
+use Rattle.gen_core.specs.Generated.{DumpedRoot, IsGenFault, dumped_root, file_of_root, file_of_schema_and_payload_unless_too_large, generated_file, root_of_lines, root_of_lines_after_first, dumped_root_of_value_read, table_of_line, whole_lines_and_rest, unless_unfinished_line, schema_word_or_zero}
 use Rattle.gen_core.specs.Reads.{DraftOrBadLine, IsTextFault, block_taken, fault_of_writer, has_rest, table_and_draft_of_root, table_read}
 use Rattle.gen_core.specs.declared.generate.GenFault.{GenFault}
 use Rattle.gen_core.specs.declared.generate.GenFault.TheVariants.{Bad, TooLarge, Memory}
@@ -141,7 +141,7 @@ gen_fault t d Memory e = tt
 pub record RootOf (t : List ℕ) (which : Which) (new : DraftState) : Type 0 where
   pub value : Plain
   pub draft : new ≡ draft_with value empty_draft
-  pub file : generated_file t ≡ file_unless_too_large (schema_word_or_zero which) (payload_or_overflow value)
+  pub file : generated_file t ≡ file_of_schema_and_payload_unless_too_large (schema_word_or_zero which) (payload_or_overflow value)
 
 pub root_of_text : (t : List ℕ) (which : Which) (new : DraftState) → table_and_draft_of_root (dumped_root t) empty_draft ≡ Ok (which, new) → RootOf t which new
 unfolding generated_file
@@ -157,10 +157,10 @@ root_of_text t which new e = go (dumped_root t) refl e
         record {
           value = root.value;
           draft = sym (ap (λ (p : Which × DraftState). p.1) both);
-          file = ap file_of_root is ∙ ap (λ (w : Which). file_unless_too_large (schema_word_or_zero w) (payload_or_overflow root.value)) (ap (λ (p : Which × DraftState). p.0) both);
+          file = ap file_of_root is ∙ ap (λ (w : Which). file_of_schema_and_payload_unless_too_large (schema_word_or_zero w) (payload_or_overflow root.value)) (ap (λ (p : Which × DraftState). p.0) both);
         }
 
 -- a payload that is not written
 pub writer_fault : (t : List ℕ) (which : Which) (new : DraftState) (fault : WriteFault) → RootOf t which new → ((v : Plain) → new ≡ draft_with v empty_draft → IsWrittenAs {A = List ℕ} (λ file. file) (Err fault) (payload_or_overflow v)) → IsGenFault (fault_of_writer fault) (generated_file t)
-writer_fault t which new (WriteFaults.TooLarge bytes values) r h = r.file ∙ ap (file_unless_too_large (schema_word_or_zero which)) (h r.value r.draft)
+writer_fault t which new (WriteFaults.TooLarge bytes values) r h = r.file ∙ ap (file_of_schema_and_payload_unless_too_large (schema_word_or_zero which)) (h r.value r.draft)
 writer_fault t which new WriteFaults.Memory r h = tt

@@ -92,15 +92,16 @@ abbrev pub schema_word_or_zero : Which → ℕ
 schema_word_or_zero which = unwrap_or (schema_word which) 0
 
 -- the container with the schema `word` and this payload, or the counts of a payload that is too large
-abbrev pub file_unless_too_large :
+abbrev pub file_of_schema_and_payload_unless_too_large :
     ℕ → Result (List ℕ) ByteAndValueCounts → Result (List ℕ) GenFault
-file_unless_too_large word (Ok payload) = Ok (file_of word payload)
-file_unless_too_large word (Err counts) = Err (TooLarge counts.0 counts.1)
+file_of_schema_and_payload_unless_too_large word (Ok payload) = Ok (file_of word payload)
+file_of_schema_and_payload_unless_too_large word (Err counts) = Err (TooLarge counts.0 counts.1)
 
 -- the container of a root, in its canonical layout; or the bad line
 abbrev pub file_of_root : Result DumpedRoot ℕ → Result (List ℕ) GenFault
 file_of_root (Ok root) =
-    file_unless_too_large (schema_word_or_zero root.which) (payload_or_overflow root.value)
+    file_of_schema_and_payload_unless_too_large (schema_word_or_zero root.which)
+    (payload_or_overflow root.value)
 file_of_root (Err line) = Err (Bad line)
 
 -- the container that is generated from a dump text; or what is reported: the first bad line, else the

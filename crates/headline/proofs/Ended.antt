@@ -15,7 +15,7 @@ use Rattle.refusal_laws.specs.outcome.Recovers.{must_recover}
 use Rattle.refusal_laws.specs.outcome.Words.{IsOutcome}
 use Rattle.refusal_laws.specs.outcome.Work.{fault_of_intent}
 use Rattle.refusal_laws.specs.RunFaults.{IsFaultOfRun}
-use Rattle.refusal_laws.specs.RunMade.{HasFaultlessFirstPreferredSelection}
+use Rattle.refusal_laws.specs.RunMade.{HasFirstSelectionFaultlessExceptLimits}
 use Rattle.report_core.specs.declared.refusal.Refusal.{Refusal}
 use Rattle.report_core.specs.declared.refusal.Refusal.TheVariants.{IntentBad, Unsatisfied}
 use Rattle.refusal_laws.specs.words_core.Grammar.{command_of}
@@ -39,7 +39,7 @@ module _ (recovers : (applet : Applet) → does_recover (effect_of applet) ≡ m
     → fault_of_intent (files intent_name) ≡ Some cause → IsOutcome (command_of words) files o → o ≡ just_refusal files (IntentBad cause))
     (works : (words : List (List ℕ)) (command : CommandLine) (files : Files) (o : Outcome) → command_of words ≡ Ok command → IsTrue (must_recover command.applet)
     → fault_of_intent (files intent_name) ≡ None → IsOutcome (command_of words) files o → IsOutcomeOverRecoveredFiles command (unstaged_files files) o)
-    (selected : (command : CommandLine) (files : Files) (o : Outcome) → effect_of command.applet ≡ Changes → IsOutcomeOverRecoveredFiles command files o → o.refusal ≡ None → command.flags.simulate ≡ false → HasFaultlessFirstPreferredSelection command files)
+    (selected : (command : CommandLine) (files : Files) (o : Outcome) → effect_of command.applet ≡ Changes → IsOutcomeOverRecoveredFiles command files o → o.refusal ≡ None → command.flags.simulate ≡ false → HasFirstSelectionFaultlessExceptLimits command files)
     (ends : (words : List (List ℕ)) (command : CommandLine) (files : Files) (o : Outcome) → command_of words ≡ Ok command → effect_of command.applet ≡ Changes → IsOutcome (command_of words) files o → IsChangeEndOrIntentRefusal command files o)
     (faults : (words : List (List ℕ)) (command : CommandLine) (files : Files) (o : Outcome) (refusal : Refusal) → command_of words ≡ Ok command → effect_of command.applet ≡ Changes
     → IsOutcome (command_of words) files o → o.refusal ≡ Some refusal → IsFaultOfRun command files refusal) where
@@ -47,10 +47,10 @@ module _ (recovers : (applet : Applet) → does_recover (effect_of applet) ≡ m
   must applet changes = sym (recovers applet) ∙ ap does_recover changes
 
   packages : (words : List (List ℕ)) (command : CommandLine) (files : Files) (o : Outcome) → command_of words ≡ Ok command → effect_of command.applet ≡ Changes → IsOutcome (command_of words) files o → o.refusal ≡ None
-      → command.flags.simulate ≡ false → HasFaultlessFirstPreferredSelection command (unstaged_files files)
+      → command.flags.simulate ≡ false → HasFirstSelectionFaultlessExceptLimits command (unstaged_files files)
   packages words command files o named changes one none made = by (fault_of_intent (files intent_name)) refl
     where
-      by : (fault : Option Cause) → fault_of_intent (files intent_name) ≡ fault → HasFaultlessFirstPreferredSelection command (unstaged_files files)
+      by : (fault : Option Cause) → fault_of_intent (files intent_name) ≡ fault → HasFirstSelectionFaultlessExceptLimits command (unstaged_files files)
       by None is = selected command (unstaged_files files) o changes (works words command files o named (must command.applet changes) is one) none made
       by (Some cause) is = absurd (refuses_none files (IntentBad cause) o none (bad words command files o cause named (must command.applet changes) is one))
 

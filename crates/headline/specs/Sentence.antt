@@ -16,9 +16,9 @@ use Rattle.refusal_laws.specs.outcome.ChangeEnd.{IsChangeEndOrIntentRefusal, Tak
 use Rattle.refusal_laws.specs.outcome.Effect.{Changes, does_recover, effect_of_arguments, effect_of}
 use Rattle.refusal_laws.specs.outcome.Outcome.{Outcome}
 use Rattle.refusal_laws.specs.RunFaults.{IsFaultOfRun}
-use Rattle.refusal_laws.specs.RunMade.{HasFaultlessFirstPreferredSelection}
+use Rattle.refusal_laws.specs.RunMade.{HasFirstSelectionFaultlessExceptLimits}
 use Rattle.report_core.specs.declared.refusal.Refusal.{Refusal}
-use Rattle.run_lists.specs.Events.{RootEvent, HasNoUnfinishedRunSinceCrash, ReachesWithoutCommit, ReachesOneCrashState, IsRunWithoutCommit, IsOutcomeFrom, IsRunFrom, IsPossibleStop, Run, ignored_after, ignored_during_run, ignored_with_all_touched}
+use Rattle.run_lists.specs.Events.{RootEvent, HasNoUnfinishedRunSinceCrash, ReachesWithoutCommitOrEdit, ReachesOneCrashState, IsRunWithoutCommit, IsOutcomeFrom, IsRunFrom, IsPossibleStop, Run, ignored_after, ignored_during_run, ignored_with_all_touched}
 use Rattle.run_lists.specs.Recovered.{ReachesWithNoBadIntentPutByOthers, HasStateOfSomeCrashBefore, HasStateOfCrashBeforeOrOutcome, HasSameState, IsRecoveredBy, EachCrashLeavesNoBadIntent}
 use Rattle.run_lists.specs.Safety.{HasStateAsReadOrOutcome}
 use Rattle.refusal_laws.specs.words_core.Grammar.{command_of}
@@ -44,7 +44,7 @@ pub record RootRecoversTo (HasState : (List ℕ → Bool) → Files → Type 0) 
   -- each crash leaves files of this state
   pub crash : (image : Files) → IsCrashImage m image → HasState ignored image
   -- the next run that recovers works on files of this state
-  pub next : (later : List RootEvent) (w : TreeState) (next : Run) → ReachesWithoutCommit m later w
+  pub next : (later : List RootEvent) (w : TreeState) (next : Run) → ReachesWithoutCommitOrEdit m later w
       → IsRunFrom w next → does_recover (effect_of_arguments (command_of next.words)) ≡ true
       → IsRecoveredBy (HasState (ignored_with_all_touched later ignored)) w next
 
@@ -61,7 +61,7 @@ pub record EndsInTrueRefusalOrFirstSelection (command : CommandLine) (files : Fi
   pub first : o.refusal ≡ None → TakesFirstPreferredSelection command (unstaged_files files) o
   -- without a refusal, and without `--simulate`, the packages after the change are the selected ones
   pub packages : o.refusal ≡ None → command.flags.simulate ≡ false
-      → HasFaultlessFirstPreferredSelection command (unstaged_files files)
+      → HasFirstSelectionFaultlessExceptLimits command (unstaged_files files)
 
 -- what is promised of a run that begins in the state v, apart from the ignored names
 pub record IsAsPromised (ignored : List ℕ → Bool) (v : TreeState) (run : Run) : Type 0 where

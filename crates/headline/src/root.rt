@@ -1,15 +1,15 @@
 //! The function that the program calls: `apk`, with the theorem of the README as its contract, and
 //! with those clauses of `apk` that are about every tree, or about one run alone.
 ghost use Rattle.std.specs.Prelude.{◌≡◌, IsTrue};
-ghost use Rattle.run_lists.specs.apk_front.Answers.{is_applet_help_or_version_named, IsAnswerExplainedByCounts, IsAnswerOfSomeOutcomeOrFailure, AnswersOutcomeUnlessMemory, IsFaultless, IsAnsweredInFullUnlessMemory, HasNoPlannedFailureAndCanCountMisuse, LeavesAnyFiles, LeavesFiles};
-ghost use Rattle.run_lists.specs.apk_front.Moments.{EachRecoveryChangesOnlyAcceptedNames, AreRunPathsFree};
+ghost use Rattle.run_lists.specs.apk_front.Answers.{is_applet_help_or_version_named, AnswerTellsWhetherTreeOrSinkFailed, IsAnswerOfSomeOutcomeOrFailure, AnswersOutcomeUnlessMemory, IsFaultless, IsAnsweredInFullUnlessMemory, HasNoPlannedFailureAndCanCountMisuse, LeavesAnyFiles, LeavesFiles};
+ghost use Rattle.run_lists.specs.apk_front.Moments.{EachRecoveryChangesOnlyAcceptedNames, AreRunPathsOfCommandLineFree};
 ghost use Rattle.base_core.specs.Calls.{IfObservable};
 ghost use Rattle.base_core.specs.Faults.{CountsOnlyRise, IsFaultCountedWithCause};
 ghost use Rattle.base_core.specs.Files.{no_names};
 ghost use Rattle.base_core.specs.Sink.{sink_before_and_after, IsUseWithoutMisuse};
 ghost use Rattle.base_core.specs.Tree.{files_of};
 ghost use Rattle.headline.specs.Sentence.{IsAsPromisedAfterAnyEvents};
-ghost use Rattle.refusal_laws.specs.outcome.Effect.{Changes, effect_of_arguments, reads_only, depends_only_on_arguments};
+ghost use Rattle.refusal_laws.specs.outcome.Effect.{Changes, effect_of_arguments, do_arguments_neither_recover_nor_write, depends_only_on_arguments};
 ghost use Rattle.refusal_laws.specs.outcome.Words.{IsPossibleOutcome, IsOutcome};
 ghost use Rattle.run_lists.specs.Events.{IsRunFrom, Run};
 ghost use Rattle.refusal_laws.specs.words_core.Grammar.{command_of};
@@ -67,7 +67,8 @@ pub fn apk_as_promised<T: Tree, O: Sink, E: Sink>(
         → EachRecoveryChangesOnlyAcceptedNames T.accepts (T.history tree.old) (T.history tree.new) }
     // The counts of the tree and of the sinks explain the answer: which call failed, if any, and
     // why.
-    ensures causes { IsAnswerExplainedByCounts result (T.counts tree.old) (T.counts tree.new)
+    ensures causes { AnswerTellsWhetherTreeOrSinkFailed result (T.counts tree.old)
+        (T.counts tree.new)
         (sink_before_and_after O.bytes O.counts out.old out.new)
         (sink_before_and_after E.bytes E.counts err.old err.new) }
     // No count falls, and no sink is misused.
@@ -80,12 +81,13 @@ pub fn apk_as_promised<T: Tree, O: Sink, E: Sink>(
     // version.
     ensures memory { result ≡ Answer.Memory → IsTrue (is_applet_help_or_version_named words.now) }
     // No call is a misuse of the tree, if the paths that recovery and the outcome write are free.
-    ensures proper { IfObservable (T.history tree.old) (λ v. AreRunPathsFree words.now (files_of v)
+    ensures proper { IfObservable (T.history tree.old)
+        (λ v. AreRunPathsOfCommandLineFree words.now (files_of v)
         → (T.counts tree.new).misuses ≡ (T.counts tree.old).misuses) }
     // If these paths are free and no failure is planned, the run ends as its outcome says, unless
     // memory runs out.
     ensures unless_memory { IfObservable (T.history tree.old) (λ v.
-        AreRunPathsFree words.now (files_of v)
+        AreRunPathsOfCommandLineFree words.now (files_of v)
         → HasNoPlannedFailureAndCanCountMisuse (T.counts tree.old)
         → HasNoPlannedFailureAndCanCountMisuse (O.counts out.old)
         → HasNoPlannedFailureAndCanCountMisuse (E.counts err.old)
@@ -98,7 +100,7 @@ pub fn apk_as_promised<T: Tree, O: Sink, E: Sink>(
     ensures untouched { IsTrue (depends_only_on_arguments (command_of words.now)) → tree.new
         ≡ tree.old }
     // A command that only reads makes no new state of the tree.
-    ensures same { IsTrue (reads_only (command_of words.now))
+    ensures same { IsTrue (do_arguments_neither_recover_nor_write (command_of words.now))
         → T.history tree.new ≡ T.history tree.old }
 {
     // Laws that the proof needs; they have no effect at run time.

@@ -14,7 +14,7 @@ use Rattle.journal_core.proofs.Contents.{untouched_others}
 use Rattle.journal_core.proofs.History.{History, none_since, since_weaker}
 use Rattle.journal_core.proofs.Acts.{among_index}
 use Rattle.journal_core.proofs.journal_intent.StageNames.{stage_name_staged}
-use Rattle.journal_core.specs.journal_intent.FreeNames.{AreFreeNames, HasFreeDistinctNames, IsNoneOf}
+use Rattle.journal_core.specs.journal_intent.FreeNames.{AreFreeNames, HasFreeNamesAndUnrepeatedWrites, IsNoneOf}
 use Rattle.journal_commit.specs.Asked.{IsAcceptedFromSomeSource, TargetsAreAccepted, RecoveryChangesOnlyAcceptedNames}
 use Rattle.journal_commit.specs.StageRun.{HasSameFilesExceptStaged, IsStateDuringChangeToNewFromOld, IsRunOfStagedChange, IsStagingRun}
 use Rattle.journal_commit.proofs.Waits.{shown_off}
@@ -52,7 +52,7 @@ module _ (accepts : Option (List ℕ) → List ℕ → Type 0) (v : TreeState) (
   pub staging_promises : (old now : History) → IsStagingRun v old now → Since (RecoveryChangesOnlyAcceptedNames accepts (files_of v)) old now
   staging_promises old now run = since_weaker (HasSameFilesExceptStaged (files_of v)) (RecoveryChangesOnlyAcceptedNames accepts (files_of v)) old now waiting_promises run.reads
 
-  module _ (intent : Intent) (contents : List (List ℕ)) (free : HasFreeDistinctNames intent) (accepted : AreAccepted accepts intent) where
+  module _ (intent : Intent) (contents : List (List ℕ)) (free : HasFreeNamesAndUnrepeatedWrites intent) (accepted : AreAccepted accepts intent) where
     abbrev New : Files
     New = files_after_actions intent (files_with_staged 1 contents (files_of v))
 

@@ -8,7 +8,7 @@ use Rattle.journal_core.specs.Recovery.{Intent, files_after_actions, files_after
 use Rattle.journal_core.specs.Staged.{HasNoStagedNames, files_with_staged}
 use Rattle.journal_core.proofs.Replayed.{move_if_present-off}
 use Rattle.journal_core.proofs.journal_intent.AtName.{drop_name-at, put_name-off}
-use Rattle.journal_core.specs.journal_intent.FreeNames.{AreFreeNames, HasFreeDistinctNames}
+use Rattle.journal_core.specs.journal_intent.FreeNames.{AreFreeNames, HasFreeNamesAndUnrepeatedWrites}
 use Rattle.journal_commit.proofs.Waits.{shown_off}
 
 -- nothing is there under the name, or it is that of a file that waits, among so many from a number on
@@ -65,7 +65,7 @@ without_at : (q : List ℕ) (names : List (List ℕ)) (F : Files) (from until : 
 without_at q names F from until (inl none) = inl (none_or (list_any (bytes_eq q) names) (F q) none)
 without_at q names F from until (inr at) = inr at
 
-pub change_empties : (intent : Intent) (contents : List (List ℕ)) (files : Files) → HasFreeDistinctNames intent → length contents ≡ length intent.writes → HasNoStagedNames files → HasNoStagedNames (files_after_actions intent (files_with_staged 1 contents files))
+pub change_empties : (intent : Intent) (contents : List (List ℕ)) (files : Files) → HasFreeNamesAndUnrepeatedWrites intent → length contents ≡ length intent.writes → HasNoStagedNames files → HasNoStagedNames (files_after_actions intent (files_with_staged 1 contents files))
 change_empties intent contents files free same empty q waits =
     moves_empty q waits intent.writes 1 (files_without_names intent.removals (files_with_staged 1 contents files)) free.writes
     (without_at q intent.removals (files_with_staged 1 contents files) 1 (1 + length intent.writes) (as_many (staged_at q contents 1 files (omega arith) (inl (empty q waits)))))

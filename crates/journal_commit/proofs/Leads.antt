@@ -6,23 +6,23 @@ use Rattle.base_core.specs.Undone.{IsDurable}
 use Rattle.base_core.specs.Files.{Files}
 use Rattle.base_core.specs.Restart.{EachMoment, SinceGivenEarlier}
 use Rattle.base_core.specs.Tree.{TreeState, File, bytes_of_file_number, files_of}
-use Rattle.journal_core.specs.Kept.{HasOldOrNewBytesOutsideJournal, IsRestoredByNoCrash, KeepsFilesExcept, KeepsCrashMapsExcept, KeepsOldOrNewBytes, RecoversTo, NamesOutsideJournalAreDurable}
+use Rattle.journal_core.specs.Kept.{ReadsOldOrNewBytesOutsideJournal, IsAbsentAfterEachCrash, KeepsFilesExcept, KeepsCrashMapsExcept, KeepsOldOrNewBytes, RecoversTo, NamesOutsideJournalAreDurable}
 use Rattle.journal_core.specs.Quiet.{StateIsUnchanged}
 use Rattle.journal_core.specs.Recovery.{Intent, EachCrashLeavesStateOf, StateDependsOn, files_after_actions, intent_in_file, intent_name, stage_name}
-use Rattle.journal_core.specs.Staged.{HasMomentOfIntentPublishedSinceForFiles, IsCarryingOutActions, HasNoStagedNames, IsOldUntilCommit, HasStagedContents, IsHistoryThatCommitsFiles, Staging}
+use Rattle.journal_core.specs.Staged.{HasMomentOfIntentFileNumberedAtLeastForFiles, IsCarryingOutActions, HasNoStagedNames, IsOldUntilCommit, HasStagedContents, IsHistoryThatPublishesIntentForFiles, Staging}
 use Rattle.journal_core.proofs.Between.{no_intent_read}
 use Rattle.journal_core.proofs.Chain.{by_now, now_both}
 use Rattle.journal_core.proofs.History.{History, now_map, now_since, observable_at, observable_map, on_observable, since_on, since_weaker}
 use Rattle.journal_core.proofs.Lasting.{some_none}
 use Rattle.journal_core.proofs.OnTheWay.{way_after}
-use Rattle.journal_core.specs.journal_intent.FreeNames.{HasFreeDistinctNames}
+use Rattle.journal_core.specs.journal_intent.FreeNames.{HasFreeNamesAndUnrepeatedWrites}
 use Rattle.journal_commit.specs.StageRun.{IsStateDuringChangeToNewFromOld, IsRunOfStagedChange, IsStagedChangeComplete, IsRunThatStagedContents, NamesOutsideJournalAreDurableIfNoIntent}
 use Rattle.journal_commit.proofs.Empty.{change_empties}
 use Rattle.journal_commit.proofs.Joins.{now_of, since_and}
 use Rattle.journal_commit.proofs.Waits.{none_entering, shown_last}
 use Rattle.journal_commit.proofs.Ways.{G, Lasts, Reads, Waits, Way, entered_bytes, append_file_to, read_entering, run_led, same_files, still_now}
 
-way_now : (ignored : List ℕ → Bool) (files : Files) (u : TreeState) (added old : History) → HasMomentOfIntentPublishedSinceForFiles ignored files u.made added → EachMoment (IsOldUntilCommit ignored files u) added → HoldsNow (added ++ old) (λ x. IsDurable (StateDependsOn ignored) x × (u.made ≤ x.made))
+way_now : (ignored : List ℕ → Bool) (files : Files) (u : TreeState) (added old : History) → HasMomentOfIntentFileNumberedAtLeastForFiles ignored files u.made added → EachMoment (IsOldUntilCommit ignored files u) added → HoldsNow (added ++ old) (λ x. IsDurable (StateDependsOn ignored) x × (u.made ≤ x.made))
 way_now ignored files u [] old published each = absurd published
 way_now ignored files u (w ∷ added) old published each = (each.0.is_durable, each.0.made)
 
@@ -30,7 +30,7 @@ names_some : (files : ℕ → File) (o : Option ℕ) (intent : Intent) → inten
 names_some files None intent is = absurd (cc (is))
 names_some files (Some n) intent is = refl
 
-module _ (stage : Staging) (contents : List (List ℕ)) (v : TreeState) (first mid : History) (s : IsRunThatStagedContents stage contents None v first mid) (all : stage.staged ≡ length stage.intent.writes) (free : HasFreeDistinctNames stage.intent) where
+module _ (stage : Staging) (contents : List (List ℕ)) (v : TreeState) (first mid : History) (s : IsRunThatStagedContents stage contents None v first mid) (all : stage.staged ≡ length stage.intent.writes) (free : HasFreeNamesAndUnrepeatedWrites stage.intent) where
   abbrev pub H : Files
   H = G stage contents v first mid s
 
@@ -84,7 +84,7 @@ module _ (stage : Staging) (contents : List (List ℕ)) (v : TreeState) (first m
     -- ---- and all actions behind it
 
     module _ (next : Staging)
-        (published : IfObservable mid (λ u. (ignored : List ℕ → Bool) (cs : List (List ℕ)) (base : Files) → IsDurable (StateDependsOn ignored) u → HasStagedContents stage cs None base u → IsHistoryThatCommitsFiles ignored (files_after_actions stage.intent (files_of u)) u mid now))
+        (published : IfObservable mid (λ u. (ignored : List ℕ → Bool) (cs : List (List ℕ)) (base : Files) → IsDurable (StateDependsOn ignored) u → HasStagedContents stage cs None base u → IsHistoryThatPublishesIntentForFiles ignored (files_after_actions stage.intent (files_of u)) u mid now))
         (settled : IfObservable mid (λ u. (ignored : List ℕ → Bool) (cs : List (List ℕ)) (base : Files) → IsDurable (StateDependsOn ignored) u → HasStagedContents stage cs None base u → HoldsNow now (EachCrashLeavesStateOf ignored (files_after_actions stage.intent (files_of u)))))
         (acting : IfObservable mid (λ u. (cs : List (List ℕ)) (base : Files) → HasStagedContents stage cs None base u → HoldsNow now (IsCarryingOutActions next (files_after_actions stage.intent (files_of u)))))
         (new : History) where
@@ -100,7 +100,7 @@ module _ (stage : Staging) (contents : List (List ℕ)) (v : TreeState) (first m
       EnactMoments = IfObservable now (λ x. (ignored : List ℕ → Bool) (files : Files) → IsDurable (StateDependsOn ignored) x → IsCarryingOutActions next files x → Since (StateIsUnchanged ignored x) now new)
 
       -- behind the publishing
-      module _ (ignored : List ℕ → Bool) (u : TreeState) (waits : W u) (by_publish : IsHistoryThatCommitsFiles ignored H u mid now) (here : HoldsNow now (EachCrashLeavesStateOf ignored H)) where
+      module _ (ignored : List ℕ → Bool) (u : TreeState) (waits : W u) (by_publish : IsHistoryThatPublishesIntentForFiles ignored H u mid now) (here : HoldsNow now (EachCrashLeavesStateOf ignored H)) where
         abbrev Here : TreeState → Type 0
         Here x = (IsDurable (StateDependsOn ignored) x × (u.made ≤ x.made)) × (EachCrashLeavesStateOf ignored H x × Acts x)
 
@@ -117,8 +117,8 @@ module _ (stage : Staging) (contents : List (List ℕ)) (v : TreeState) (first m
         durable_at : HoldsNow now (IsDurable (StateDependsOn ignored))
         durable_at = now_map now Here (IsDurable (StateDependsOn ignored)) all_here (λ x at. at.0.0)
 
-      published_at : (ignored : List ℕ → Bool) (u : TreeState) → W u → IsHistoryThatCommitsFiles ignored (files_after_actions stage.intent (files_of u)) u mid now → IsHistoryThatCommitsFiles ignored H u mid now
-      published_at ignored u waits by_publish = subst (λ (F : Files). IsHistoryThatCommitsFiles ignored F u mid now) (same u waits) by_publish
+      published_at : (ignored : List ℕ → Bool) (u : TreeState) → W u → IsHistoryThatPublishesIntentForFiles ignored (files_after_actions stage.intent (files_of u)) u mid now → IsHistoryThatPublishesIntentForFiles ignored H u mid now
+      published_at ignored u waits by_publish = subst (λ (F : Files). IsHistoryThatPublishesIntentForFiles ignored F u mid now) (same u waits) by_publish
 
       settled_at : (ignored : List ℕ → Bool) (u : TreeState) → W u → HoldsNow now (EachCrashLeavesStateOf ignored (files_after_actions stage.intent (files_of u))) → HoldsNow now (EachCrashLeavesStateOf ignored H)
       settled_at ignored u waits here = subst (λ (F : Files). HoldsNow now (EachCrashLeavesStateOf ignored F)) (same u waits) here
@@ -141,8 +141,8 @@ module _ (stage : Staging) (contents : List (List ℕ)) (v : TreeState) (first m
           (observable_at mid u rest is (λ x. W x → Since (IsStateDuringChangeToNewFromOld H (files_of x)) mid now) (publish_reads reads others) waits)
           (by_now now (λ x. Acts x × Keeps x) (Since (IsStateDuringChangeToNewFromOld H (files_of u)) now new) (now_both now Acts Keeps acts_now (now_since Keeps mid now u rest is (λ q off. refl) keeps))
           (both now _ _ (λ x. Acts x × Keeps x → Since (IsStateDuringChangeToNewFromOld H (files_of u)) now new) more bytes (λ x k b q.
-          since_weaker (λ w. RecoversTo H w × HasOldOrNewBytesOutsideJournal (files_of u) H w) (IsStateDuringChangeToNewFromOld H (files_of u)) now new (λ w r. append_file_to H (files_of u) (empty u waits) w r.0 r.1)
-          (since_and (RecoversTo H) (HasOldOrNewBytesOutsideJournal (files_of u) H) now new (k H q.0) (b H q.0 (files_of u) (entered_bytes H u x q.1)))))))
+          since_weaker (λ w. RecoversTo H w × ReadsOldOrNewBytesOutsideJournal (files_of u) H w) (IsStateDuringChangeToNewFromOld H (files_of u)) now new (λ w r. append_file_to H (files_of u) (empty u waits) w r.0 r.1)
+          (since_and (RecoversTo H) (ReadsOldOrNewBytesOutsideJournal (files_of u) H) now new (k H q.0) (b H q.0 (files_of u) (entered_bytes H u x q.1)))))))
 
       abbrev pub EnactLasts : Type 0
       EnactLasts = IfObservable now (λ x. IsSome (x.names intent_name) → Since NamesOutsideJournalAreDurableIfNoIntent now new)
@@ -195,15 +195,15 @@ module _ (stage : Staging) (contents : List (List ℕ)) (v : TreeState) (first m
                 (both mid _ _ (λ u. StateIsUnchanged ignored v u × W u → HoldsNow now (IsDurable (StateDependsOn ignored))) published settled (λ u p h q.
                 durable_at ignored u q.1 (published_at ignored u q.1 (p ignored contents (files_of v) q.0.is_durable q.1)) (settled_at ignored u q.1 (h ignored contents (files_of v) q.0.is_durable q.1))))
 
-        pub enact_done : (r : Result T E) → EnactLasts → EnactFiles r → EnactSettled r → OnOk r (IfObservable new (IsRestoredByNoCrash intent_name)) → OnOk r (IsStagedChangeComplete H v new)
+        pub enact_done : (r : Result T E) → EnactLasts → EnactFiles r → EnactSettled r → OnOk r (IfObservable new (IsAbsentAfterEachCrash intent_name)) → OnOk r (IsStagedChangeComplete H v new)
         enact_done r lasts files ends gone = by r (end_files r files) (end_settled r ends) gone
           where
             by : (x : Result T E) → OnOk x (HoldsNow new (λ w. (files_of w ≡ H) × (w.names intent_name ≡ None))) → ((ignored : List ℕ → Bool) → IsDurable (StateDependsOn ignored) v → OnOk x (HoldsNow new (EachCrashLeavesStateOf ignored H)))
-                → OnOk x (IfObservable new (IsRestoredByNoCrash intent_name)) → OnOk x (IsStagedChangeComplete H v new)
+                → OnOk x (IfObservable new (IsAbsentAfterEachCrash intent_name)) → OnOk x (IsStagedChangeComplete H v new)
             by (Ok x) reads settles none = record {
               reads = reads;
               settled = settles;
               last = end_lasts lasts reads;
-              gone = now_of new (λ w. (files_of w ≡ H) × (w.names intent_name ≡ None)) (IsRestoredByNoCrash intent_name) reads none;
+              gone = now_of new (λ w. (files_of w ≡ H) × (w.names intent_name ≡ None)) (IsAbsentAfterEachCrash intent_name) reads none;
             }
             by (Err e) reads settles none = tt

@@ -8,7 +8,7 @@ use Rattle.base_core.specs.Files.{Files}
 use Rattle.base_core.specs.Restart.{EachMoment, SinceGivenEarlier}
 use Rattle.base_core.specs.Tree.{TreeState, bytes_of_file_number, files_of}
 use Rattle.base_core.proofs.AtName.{name_cases, off_name}
-use Rattle.journal_core.specs.Kept.{HasOldOrNewBytesOutsideJournal, IsJournalName, KeepsFilesExcept, RecoversTo, NamesOutsideJournalAreDurable}
+use Rattle.journal_core.specs.Kept.{ReadsOldOrNewBytesOutsideJournal, IsJournalName, KeepsFilesExcept, RecoversTo, NamesOutsideJournalAreDurable}
 use Rattle.journal_core.specs.Quiet.{StateIsUnchanged}
 use Rattle.journal_core.specs.Recovery.{StateDependsOn, files_after_actions, intent_name, is_staged, recovered_files, stage_name}
 use Rattle.journal_core.specs.Staged.{HasNoStagedNames, IsOldUntilCommit, HasStagedContents, Staging, unstaged_files, files_with_staged}
@@ -58,7 +58,7 @@ emptied_at G empty w recovers i q = by (is_staged q) refl i
     by false is = ap (λ b. cond b None (recovered_files (files_of w) q)) is ∙ ap (λ (F : Files). F q) recovers
 
 -- the intent is read and leads to the files, or they are read
-pub append_file_to : (G old : Files) → HasNoStagedNames G → (w : TreeState) → RecoversTo G w → HasOldOrNewBytesOutsideJournal old G w → IsStateDuringChangeToNewFromOld G old w
+pub append_file_to : (G old : Files) → HasNoStagedNames G → (w : TreeState) → RecoversTo G w → ReadsOldOrNewBytesOutsideJournal old G w → IsStateDuringChangeToNewFromOld G old w
 append_file_to G old empty w recovers bytes = by (w.names intent_name) refl
   where
     by : (o : Option ℕ) → w.names intent_name ≡ o → IsStateDuringChangeToNewFromOld G old w
@@ -68,7 +68,7 @@ append_file_to G old empty w recovers bytes = by (w.names intent_name) refl
 Committing : List ℕ → Type 0
 Committing q = (q ≡ intent_name) ⊎ (q ≡ stage_name 0)
 
-pub entered_bytes : (G : Files) (u w : TreeState) → KeepsFilesExcept (λ q. (q ≡ intent_name) ⊎ (q ≡ stage_name 0)) u w → HasOldOrNewBytesOutsideJournal (files_of u) G w
+pub entered_bytes : (G : Files) (u w : TreeState) → KeepsFilesExcept (λ q. (q ≡ intent_name) ⊎ (q ≡ stage_name 0)) u w → ReadsOldOrNewBytesOutsideJournal (files_of u) G w
 entered_bytes G u w keeps q shown = inl (keeps q (λ either. shown (⊎_elim (λ intent. inl intent) (λ place. inr (ap is_staged place ∙ stage_name_staged 0)) either)))
 
 -- at a moment at which the intent moves to its name
@@ -92,7 +92,7 @@ read_from G old u w before (inr (inl leads)) = inr (inl (record { intent = leads
     unstaged q shown true is = absurd (shown (inr is))
     unstaged q shown false is = is
 
-    bytes : HasOldOrNewBytesOutsideJournal old G w
+    bytes : ReadsOldOrNewBytesOutsideJournal old G w
     bytes q shown = ⊎_elim (λ was. inl (was ∙ before q (unstaged q shown (is_staged q) refl))) (λ new. inr new) (leads.bytes q shown)
 read_from G old u w before (inr (inr reads)) = inr (inr reads)
 

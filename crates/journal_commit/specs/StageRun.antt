@@ -8,7 +8,7 @@ use Rattle.base_core.specs.Undone.{IsDurable}
 use Rattle.base_core.specs.Files.{Files}
 use Rattle.base_core.specs.Restart.{SinceGivenEarlier}
 use Rattle.base_core.specs.Tree.{TreeState, files_of}
-use Rattle.journal_core.specs.Kept.{HasOldOrNewBytesOutsideJournal, IsRestoredByNoCrash, NamesOutsideJournalAreDurable}
+use Rattle.journal_core.specs.Kept.{ReadsOldOrNewBytesOutsideJournal, IsAbsentAfterEachCrash, NamesOutsideJournalAreDurable}
 use Rattle.journal_core.specs.Quiet.{StateIsUnchanged}
 use Rattle.journal_core.specs.Recovery.{EachCrashLeavesStateOf, StateDependsOn, intent_name, is_staged}
 use Rattle.journal_core.specs.Staged.{HasNoStagedNames, IsOldUntilCommit, HasStagedContents, Staging, unstaged_files}
@@ -27,7 +27,7 @@ pub record RecoversToNewByIntentFromOld (new old : Files) (w : TreeState) : Type
   -- recovery of the files as read leaves the new files
   pub leads : unstaged_files (files_of w) ≡ new
   -- each name outside the staging area has its old bytes or its new ones
-  pub bytes : HasOldOrNewBytesOutsideJournal old new w
+  pub bytes : ReadsOldOrNewBytesOutsideJournal old new w
 
 -- the files as read are the old ones, except for staged files; or an intent is read, and recovery leaves the new
 -- files; or the files as read are the new ones
@@ -67,7 +67,7 @@ pub record IsStagedChangeComplete (files : Files) (v : TreeState) (now : List Tr
   -- no crash undoes a change of a name outside the journal
   pub last : HoldsNow now NamesOutsideJournalAreDurable
   -- no crash restores the intent
-  pub gone : HoldsNow now (IsRestoredByNoCrash intent_name)
+  pub gone : HoldsNow now (IsAbsentAfterEachCrash intent_name)
 
 -- ---- the staging of files, the first part of a change
 

@@ -10,7 +10,7 @@ ghost use Rattle.base_core.specs.Files.{Files};
 ghost use Rattle.base_core.specs.Tree.{TreeState, files_of};
 ghost use Rattle.journal_core.specs.Acting.{CarriesOutActions};
 ghost use Rattle.journal_core.specs.CallCounts.{IsResultExplainedByCounts};
-ghost use Rattle.journal_core.specs.Kept.{IsRestoredByNoCrash};
+ghost use Rattle.journal_core.specs.Kept.{IsAbsentAfterEachCrash};
 ghost use Rattle.journal_core.specs.Recovery.{EachCrashLeavesStateOf, StateDependsOn, files_after_actions, intent_name};
 ghost use Rattle.journal_core.specs.Staged.{AreIntentAndStagedPathsFree, IsCarryingOutActions, action_count, files_with_staged};
 ghost use Rattle.journal_commit.specs.StageRun.{IsRunOfStagedChange, IsStagedChangeComplete, IsRunThatStagedContents, NamesOutsideJournalAreDurableIfNoIntent};
@@ -88,7 +88,7 @@ fn enact<T: Tree>(stage: &mut Stage, tree: &mut T) -> Result<(), Disk>
         (λ w. (files_of w ≡ files) × (w.names intent_name ≡ None)))) }
     // Once Ok is returned, no crash restores the intent.
     ensures gone { OnOk result (IfObservable (T.history tree.new)
-        (IsRestoredByNoCrash intent_name)) }
+        (IsAbsentAfterEachCrash intent_name)) }
     // How the tree's counts explain the result.
     ensures counts { IsResultExplainedByCounts (T.counts tree.old) (T.counts tree.new) result }
     // No call is a misuse, if the paths of the intent and of the staged files are free among

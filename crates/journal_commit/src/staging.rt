@@ -11,7 +11,7 @@ ghost use Rattle.journal_commit.specs.StageRun.{IsRunThatStagedContents, IsStagi
 ghost use Rattle.base_core.specs.Calls.{IfObservable};
 ghost use Rattle.base_core.specs.Files.{Files};
 ghost use Rattle.journal_core.specs.Recovery.{Intent, files_after_actions, intent_name};
-ghost use Rattle.journal_core.specs.journal_intent.FreeNames.{HasFreeDistinctNames};
+ghost use Rattle.journal_core.specs.journal_intent.FreeNames.{HasFreeNamesAndUnrepeatedWrites};
 
 use base_core::{Disk, Tree};
 use journal_core::Stage;
@@ -154,7 +154,7 @@ pub fn a_staging_run_is_a_stage_run()
 /// of its writes was staged.
 pub fn a_change_leaves_nothing_staged()
     ensures { (intent : Intent) (contents : List (List ℕ)) (files : Files)
-        → HasFreeDistinctNames intent → length contents ≡ length intent.writes
+        → HasFreeNamesAndUnrepeatedWrites intent → length contents ≡ length intent.writes
         → HasNoStagedNames files
         → HasNoStagedNames (files_after_actions intent (files_with_staged 1 contents files)) }
 {}

@@ -6,7 +6,7 @@ use Rattle.base_core.specs.Calls.{IfObservable, HoldsNow, ChangesHistory}
 use Rattle.base_core.specs.Crash.{Since}
 use Rattle.base_core.specs.Undone.{IsDurable}
 use Rattle.journal_core.specs.Recovery.{Intent, StateDependsOn, stage_name}
-use Rattle.journal_intent.specs.FreeNames.{HasFreeDistinctNames}
+use Rattle.journal_intent.specs.FreeNames.{HasFreeNamesAndUnrepeatedWrites}
 use Rattle.journal_core.specs.Kept.{RecoversTo}
 use Rattle.journal_core.specs.Quiet.{StateIsUnchanged}
 use Rattle.journal_core.specs.Staged.{Staging, IsCarryingOutActions, AreIntentAndStagedPathsFree}
@@ -18,7 +18,7 @@ use Rattle.journal_core.proofs.Replayed.{IsProper, proper_of}
 use Rattle.journal_core.proofs.Room.{can_move}
 use Rattle.journal_core.proofs.Images.{CrashLaws}
 
-module _ (laws : CrashLaws) (intent : Intent) (free : HasFreeDistinctNames intent) (few : length intent.removals + length intent.writes < 2 ^ 63) where
+module _ (laws : CrashLaws) (intent : Intent) (free : HasFreeNamesAndUnrepeatedWrites intent) (few : length intent.removals + length intent.writes < 2 ^ 63) where
   proper : IsProper intent
   proper = proper_of intent free (omega (arith, few))
 

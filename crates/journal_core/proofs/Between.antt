@@ -7,7 +7,7 @@ use Rattle.base_core.specs.Tree.{TreeState, File, IsWellFormed, bytes_of_file_nu
 use Rattle.base_core.specs.Undone.{IsDurable}
 use Rattle.journal_core.specs.Recovery.{StateDependsOn, intent_name, stage_name}
 use Rattle.journal_core.specs.Quiet.{StateIsUnchanged}
-use Rattle.journal_core.specs.Kept.{IsRestoredByNoCrash}
+use Rattle.journal_core.specs.Kept.{IsAbsentAfterEachCrash}
 use Rattle.journal_core.specs.Staged.{Staging, HasNoOtherIntent, HasStagedContents, files_with_staged}
 use Rattle.base_core.proofs.Undone.{read_may_be_left}
 use Rattle.base_core.proofs.AtName.{name_cases, off_name}
@@ -37,11 +37,11 @@ pub no_intent_read : (stage : Staging) (contents : List (List ℕ)) (base : File
 no_intent_read stage contents base v staged = ap (λ (F : Files). F intent_name) staged.reads ∙ staged_off contents 1 base intent_name (λ j le e. stage_name_no_intent j (sym e)) ∙ staged.absent
 
 -- once a file is staged, no crash restores an intent
-pub gone_once : (stage : Staging) (contents : List (List ℕ)) (base : Files) (v : TreeState) (k : ℕ) → HasStagedContents stage contents None base v → stage.staged ≡ suc k → IsRestoredByNoCrash intent_name v
+pub gone_once : (stage : Staging) (contents : List (List ℕ)) (base : Files) (v : TreeState) (k : ℕ) → HasStagedContents stage contents None base v → stage.staged ≡ suc k → IsAbsentAfterEachCrash intent_name v
 gone_once stage [] base v k staged some = absurd (let none = staged.count in omega (arith, none, some))
 gone_once stage (bytes ∷ contents) base v k staged some = staged.gone
 
-other_more : (contents : List (List ℕ)) (bytes : List ℕ) (v : TreeState) → IsRestoredByNoCrash intent_name v → HasNoOtherIntent (contents ++ bytes ∷ []) None v
+other_more : (contents : List (List ℕ)) (bytes : List ℕ) (v : TreeState) → IsAbsentAfterEachCrash intent_name v → HasNoOtherIntent (contents ++ bytes ∷ []) None v
 other_more [] bytes v gone = gone
 other_more (c ∷ contents) bytes v gone = gone
 
@@ -50,7 +50,7 @@ unread files None is = refl
 unread files (Some n) is = absurd (cc)
 
 -- the names are synced
-pub gone_once_synced : (stage : Staging) (contents : List (List ℕ)) (base : Files) (v : TreeState) → HasStagedContents stage contents None base v → IsRestoredByNoCrash intent_name (after_sync_names v)
+pub gone_once_synced : (stage : Staging) (contents : List (List ℕ)) (base : Files) (v : TreeState) → HasStagedContents stage contents None base v → IsAbsentAfterEachCrash intent_name (after_sync_names v)
 gone_once_synced stage contents base v staged = gone_synced intent_name v (unread v.files (v.names intent_name) (no_intent_read stage contents base v staged))
 
 pub staged_synced : (stage : Staging) (contents : List (List ℕ)) (base : Files) (v : TreeState) → HasStagedContents stage contents None base v → HasStagedContents stage contents None base (after_sync_names v)
@@ -63,13 +63,13 @@ staged_synced stage contents base v staged = record {
   gone = by contents (gone_once_synced stage contents base v staged);
 }
   where
-    by : (cs : List (List ℕ)) → IsRestoredByNoCrash intent_name (after_sync_names v) → HasNoOtherIntent cs None (after_sync_names v)
+    by : (cs : List (List ℕ)) → IsAbsentAfterEachCrash intent_name (after_sync_names v) → HasNoOtherIntent cs None (after_sync_names v)
     by [] away = tt
     by (c ∷ cs) away = away
 
 -- ---- a file is begun
 
-module _ (laws : CrashLaws) (stage : Staging) (contents : List (List ℕ)) (base : Files) (v : TreeState) (few : 1 + length contents < 2 ^ 64) (staged : HasStagedContents stage contents None base v) (gone : IsRestoredByNoCrash intent_name v) (whole : IsWellFormed v) where
+module _ (laws : CrashLaws) (stage : Staging) (contents : List (List ℕ)) (base : Files) (v : TreeState) (few : 1 + length contents < 2 ^ 64) (staged : HasStagedContents stage contents None base v) (gone : IsAbsentAfterEachCrash intent_name v) (whole : IsWellFormed v) where
   abbrev next : List ℕ
   next = stage_name (1 + length contents)
 
@@ -158,8 +158,8 @@ module _ (laws : CrashLaws) (stage : Staging) (contents : List (List ℕ)) (so_f
       same_names : w.names ≡ v.names
       same_names = ap (λ (u : TreeState). u.names) w_at
 
-      still_gone : IsRestoredByNoCrash intent_name w
-      still_gone = subst (IsRestoredByNoCrash intent_name) (sym w_at) staged.gone
+      still_gone : IsAbsentAfterEachCrash intent_name w
+      still_gone = subst (IsAbsentAfterEachCrash intent_name) (sym w_at) staged.gone
 
       synced_before : (k n : ℕ) → 1 ≤ k → k < 1 + length contents → w.names (stage_name k) ≡ Some n → (w.files n).synced ≡ true
       synced_before k n from below there =

@@ -9,7 +9,7 @@ use Rattle.journal_core.specs.Recovering.{IsIntentReplayed}
 use Rattle.journal_core.specs.Recovery.{EachCrashLeavesStateOf, StateDependsOn, intent_name, intent_in_file, read_intent, recovered_files}
 use Rattle.journal_core.specs.Kept.{RecoversTo}
 use Rattle.journal_core.specs.Quiet.{StateIsUnchanged}
-use Rattle.journal_core.specs.Staged.{Staging, AreIntentAndStagedPathsFree, AreJournalPathsFreeIfIntentIsReplayed, IsCarryingOutActions, action_count}
+use Rattle.journal_core.specs.Staged.{Staging, AreIntentAndStagedPathsFree, AreJournalPathsFreeAfterReplayIfAny, IsCarryingOutActions, action_count}
 use Rattle.journal_core.specs.Acting.{IsDuringActions}
 use Rattle.journal_core.proofs.Acts.{read_acting}
 use Rattle.journal_core.proofs.Chain.{by_now}
@@ -46,7 +46,7 @@ module _ (first next : Staging) (file : List ℕ) (spells : read_intent file ≡
   act_reads reads = observable_map old _ _ reads (λ v t there one. t (recovered_files (files_of v)) (acting_found first file v there one spells none))
 
   pub act_proper : (a b : ℕ) → IfObservable old (λ v. (files : Files) → IsCarryingOutActions first files v → AreIntentAndStagedPathsFree files → b ≡ a)
-      → IfObservable old (λ v. files_of v intent_name ≡ Some file → v.older ≡ [] → AreJournalPathsFreeIfIntentIsReplayed (files_of v) → b ≡ a)
+      → IfObservable old (λ v. files_of v intent_name ≡ Some file → v.older ≡ [] → AreJournalPathsFreeAfterReplayIfAny (files_of v) → b ≡ a)
   act_proper a b proper = observable_map old _ _ proper (λ v p there one room. let at = acting_found first file v there one spells none in p (recovered_files (files_of v)) at (room (subst IsSome (sym at.located) refl)))
 
   module _ (new : History) where
@@ -75,7 +75,7 @@ module _ (first next : Staging) (file : List ℕ) (spells : read_intent file ≡
         (λ w q. record { reads = q.0; absent = q.1 }))
 
     pub end_proper : (a b c : ℕ) → Acting → IfObservable old (λ v. (files : Files) → IsCarryingOutActions first files v → AreIntentAndStagedPathsFree files → b ≡ a) → IfObservable mid (λ u. c ≡ b)
-        → IfObservable old (λ v. files_of v intent_name ≡ Some file → v.older ≡ [] → AreJournalPathsFreeIfIntentIsReplayed (files_of v) → c ≡ a)
+        → IfObservable old (λ v. files_of v intent_name ≡ Some file → v.older ≡ [] → AreJournalPathsFreeAfterReplayIfAny (files_of v) → c ≡ a)
     end_proper a b c acting proper last = on_observable old _ (λ v rest is there one room.
         let at = acting_found first file v there one spells none in
         by_now mid (IsCarryingOutActions next (recovered_files (files_of v))) (c ≡ b) (observable_at old v rest is (λ u. (F : Files) → IsCarryingOutActions first F u → HoldsNow mid (IsCarryingOutActions next F)) acting (recovered_files (files_of v)) at)

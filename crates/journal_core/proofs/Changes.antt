@@ -6,7 +6,7 @@ use Rattle.base_core.specs.Tree.{TreeState, after_create, after_sync_names, with
 use Rattle.base_core.specs.Undone.{IsCrashMap, with_change_replayed}
 use Rattle.base_core.proofs.Undone.{change_here, change_off, change_on, change_whole, left_only, read_may_be_left}
 use Rattle.base_core.proofs.AtName.{name_cases, off_name}
-use Rattle.journal_core.specs.Kept.{IsRestoredByNoCrash}
+use Rattle.journal_core.specs.Kept.{IsAbsentAfterEachCrash}
 use Rattle.journal_intent.proofs.AtName.{put_name-at, put_name-off, drop_name-at, drop_name-off}
 
 -- a name that the change leaves alone leads as before it
@@ -63,14 +63,14 @@ one_change v names none m (inr left) = inr (left_only v none m left)
 
 -- ---- a name that is in no map
 
-pub gone_synced : (name : List ℕ) (v : TreeState) → v.names name ≡ None → IsRestoredByNoCrash name (after_sync_names v)
+pub gone_synced : (name : List ℕ) (v : TreeState) → v.names name ≡ None → IsAbsentAfterEachCrash name (after_sync_names v)
 gone_synced name v none m is = ap (λ (f : NameMap). f name) is ∙ none
 
-pub gone_created : (gone name : List ℕ) (v : TreeState) → gone ≢ name → IsRestoredByNoCrash gone v → IsRestoredByNoCrash gone (after_create name v)
+pub gone_created : (gone name : List ℕ) (v : TreeState) → gone ≢ name → IsAbsentAfterEachCrash gone v → IsAbsentAfterEachCrash gone (after_create name v)
 gone_created gone name v apart away m (inl (kept, left, is)) = left_off v.names (put_name v.names name v.made) kept m is gone (put_name-off v.names name v.made gone apart) ∙ away kept left
 gone_created gone name v apart away m (inr left) = away m left
 
-pub gone_removed : (gone name : List ℕ) (v : TreeState) (o : Option ℕ) → IsRestoredByNoCrash gone v → IsRestoredByNoCrash gone (with_name_removed name v o)
+pub gone_removed : (gone name : List ℕ) (v : TreeState) (o : Option ℕ) → IsAbsentAfterEachCrash gone v → IsAbsentAfterEachCrash gone (with_name_removed name v o)
 gone_removed gone name v None away m left = away m left
 gone_removed gone name v (Some n) away m (inr left) = away m left
 gone_removed gone name v (Some n) away m (inl (kept, left, is)) = left_here v.names (drop_name v.names name) kept m is gone (away kept left ∙ sym (away v.names (read_may_be_left v))) ∙ by (name_cases gone name)

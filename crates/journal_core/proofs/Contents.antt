@@ -10,7 +10,7 @@ use Rattle.journal_core.specs.Staged.{files_with_staged}
 use Rattle.journal_core.proofs.Replayed.{move_if_present-off, place_not_among}
 use Rattle.journal_intent.proofs.AtName.{put_name-at, put_name-off}
 use Rattle.journal_intent.proofs.StageNames.{stage_names_apart, stage_name_staged}
-use Rattle.journal_intent.specs.FreeNames.{AreFreeNames, HaveNoRepeats, HasFreeDistinctNames, IsFreeName, IsNoneOf, IsOneOf}
+use Rattle.journal_intent.specs.FreeNames.{AreFreeNames, HaveNoRepeats, HasFreeNamesAndUnrepeatedWrites, IsFreeName, IsNoneOf, IsOneOf}
 use Rattle.journal_intent.specs.IntentValue.{intent_of_lists}
 
 true_false : true ≡ false → ⊥
@@ -46,11 +46,11 @@ free_among (name ∷ names) q free among = ⊎_elim
     (λ off. free_among names q free.1 (sym (ap (λ b. b || list_any (bytes_eq q) names) off) ∙ among))
     (name_cases q name)
 
-unwritten : (b : Bool) (intent : Intent) (q : List ℕ) → HasFreeDistinctNames intent → IsOneOf q intent.removals → list_any (bytes_eq q) intent.writes ≡ b → IsNoneOf q intent.writes
+unwritten : (b : Bool) (intent : Intent) (q : List ℕ) → HasFreeNamesAndUnrepeatedWrites intent → IsOneOf q intent.removals → list_any (bytes_eq q) intent.writes ≡ b → IsNoneOf q intent.writes
 unwritten true intent q free among is = absurd (true_false (sym among ∙ free.apart q is))
 unwritten false intent q free among is = is
 
-pub removed_absent : (intent : Intent) (files : Files) (q : List ℕ) → HasFreeDistinctNames intent → IsOneOf q intent.removals → files_after_actions intent files q ≡ None
+pub removed_absent : (intent : Intent) (files : Files) (q : List ℕ) → HasFreeNamesAndUnrepeatedWrites intent → IsOneOf q intent.removals → files_after_actions intent files q ≡ None
 removed_absent intent files q free among =
     moves_off intent.writes 1 (files_without_names intent.removals files) q (free_among intent.removals q free.removals among).no_place (unwritten (list_any (bytes_eq q) intent.writes) intent q free among refl)
     ∙ ap (λ b. cond b None (files q)) among
@@ -95,7 +95,7 @@ moved_at (n ∷ ns) k (suc i) F name bytes free once few at waits =
     slice_below (n ∷ ns) zero name at = omega arith
     slice_below (n ∷ ns) (suc i) name at = let rest = slice_below ns i name at in omega (arith, rest)
 
-pub own_bytes : (removals writes contents : List (List ℕ)) (base : Files) (i : ℕ) (name bytes : List ℕ) → HasFreeDistinctNames (intent_of_lists removals writes) → length contents ≡ length writes → length writes < 2 ^ 63
+pub own_bytes : (removals writes contents : List (List ℕ)) (base : Files) (i : ℕ) (name bytes : List ℕ) → HasFreeNamesAndUnrepeatedWrites (intent_of_lists removals writes) → length contents ≡ length writes → length writes < 2 ^ 63
     → slice_get writes i ≡ Some name → slice_get contents i ≡ Some bytes → files_after_actions (intent_of_lists removals writes) (files_with_staged 1 contents base) name ≡ Some bytes
 own_bytes removals writes contents base i name bytes free count few at staged =
     moved_at writes 1 i (files_without_names removals (files_with_staged 1 contents base)) name bytes free.writes free.once (omega (arith, few)) at

@@ -12,7 +12,7 @@ use Rattle.base_core.specs.Crash.{Since}
 use Rattle.base_core.specs.Undone.{IsDurable}
 use Rattle.base_core.proofs.Undone.{read_may_be_left}
 use Rattle.base_core.proofs.AtName.{name_cases, off_name}
-use Rattle.journal_core.specs.Kept.{IsRestoredByNoCrash, KeepsFilesExcept}
+use Rattle.journal_core.specs.Kept.{IsAbsentAfterEachCrash, KeepsFilesExcept}
 use Rattle.journal_core.specs.Recovering.{AreStagedNames, HasRemovedNames}
 use Rattle.journal_core.specs.Recovery.{StateDependsOn, intent_name, is_staged}
 use Rattle.journal_core.specs.Quiet.{StateIsUnchanged}
@@ -48,7 +48,7 @@ removed_made : (name : List ℕ) (v : TreeState) (o : Option ℕ) → v.made ≤
 removed_made name v None = omega arith
 removed_made name v (Some n) = omega arith
 
-pub cleared_still : CrashLaws → (ignored : List ℕ → Bool) (name : List ℕ) (v : TreeState) → is_staged name ≡ true → IsRestoredByNoCrash intent_name v → IsDurable (StateDependsOn ignored) v → StateIsUnchanged ignored v (after_remove name v)
+pub cleared_still : CrashLaws → (ignored : List ℕ → Bool) (name : List ℕ) (v : TreeState) → is_staged name ≡ true → IsAbsentAfterEachCrash intent_name v → IsDurable (StateDependsOn ignored) v → StateIsUnchanged ignored v (after_remove name v)
 cleared_still laws ignored name v waiting gone is_durable =
     let off = off_gone v name waiting (staged_no_intent name waiting) gone in
     still_by laws ignored v (after_remove name v) is_durable (removed_simulates ignored name v (v.names name) off) (off_state ignored (files_of v) (files_of (after_remove name v)) name (off v.names (read_may_be_left v)) (removed_others name v (v.names name))) (removed_made name v (v.names name))
@@ -102,10 +102,10 @@ staged_at (n ∷ ns) (suc i) name all at = staged_at ns i name (All-tail (λ x. 
 -- so far nothing has happened to the state, and these names are gone
 pub record Clears (ignored : List ℕ → Bool) (start v : TreeState) : Type 0 where
   pub is_unchanged : StateIsUnchanged ignored start v
-  pub absent : IsRestoredByNoCrash intent_name v
+  pub absent : IsAbsentAfterEachCrash intent_name v
 
 abbrev pub Cleared : List (List ℕ) → History → History → Type 0
-Cleared all old h = IfObservable old (λ v. (ignored : List ℕ → Bool) → IsDurable (StateDependsOn ignored) v → IsRestoredByNoCrash intent_name v → AreStagedNames all → Runs (StateIsUnchanged ignored v) (Clears ignored v) old h)
+Cleared all old h = IfObservable old (λ v. (ignored : List ℕ → Bool) → IsDurable (StateDependsOn ignored) v → IsAbsentAfterEachCrash intent_name v → AreStagedNames all → Runs (StateIsUnchanged ignored v) (Clears ignored v) old h)
 
 abbrev pub Gone : List (List ℕ) → History → History → Type 0
 Gone names old h = IfObservable old (λ v. HoldsNow h (HasRemovedNames names v))
@@ -126,7 +126,7 @@ module _ (laws : CrashLaws) (all : List (List ℕ)) (old h new : History) (i : �
       }
 
   pub cleared_failed : {T E : Type 0} (e : E) → Cleared all old h → ChangesHistory {T = T} IsAlwaysAllowed (after_remove name) (after_remove name) h new (Err e)
-      → IfObservable old (λ v. (ignored : List ℕ → Bool) → IsDurable (StateDependsOn ignored) v → IsRestoredByNoCrash intent_name v → AreStagedNames all → Since (StateIsUnchanged ignored v) old new)
+      → IfObservable old (λ v. (ignored : List ℕ → Bool) → IsDurable (StateDependsOn ignored) v → IsAbsentAfterEachCrash intent_name v → AreStagedNames all → Since (StateIsUnchanged ignored v) old new)
   cleared_failed e cleared moves = observable_map old _ _ cleared (λ v runs ignored is_durable none staged. run_failed (StateIsUnchanged ignored v) (Clears ignored v) old h new e (runs ignored is_durable none staged) moves (λ w may q. (step ignored v w staged q).is_unchanged))
 
   pub cleared_done : {T E : Type 0} (x : T) → Cleared all old h → ChangesHistory {E = E} IsAlwaysAllowed (after_remove name) (after_remove name) h new (Ok x) → Cleared all old new
@@ -135,7 +135,7 @@ module _ (laws : CrashLaws) (all : List (List ℕ)) (old h new : History) (i : �
   pub gone_done : {T E : Type 0} (x : T) (names more : List (List ℕ)) → more ≡ names ++ name ∷ [] → Gone names old h → ChangesHistory {E = E} IsAlwaysAllowed (after_remove name) (after_remove name) h new (Ok x) → Gone more old new
   gone_done x names more is gone moves = observable_map old _ _ gone (λ v now. step_now (HasRemovedNames names v) (HasRemovedNames more v) new x h now moves (λ w q. without_more names more name v w is q))
 
-pub cleared_ends : (all : List (List ℕ)) (old h : History) → Cleared all old h → IfObservable old (λ v. (ignored : List ℕ → Bool) → IsDurable (StateDependsOn ignored) v → IsRestoredByNoCrash intent_name v → AreStagedNames all → Since (StateIsUnchanged ignored v) old h)
+pub cleared_ends : (all : List (List ℕ)) (old h : History) → Cleared all old h → IfObservable old (λ v. (ignored : List ℕ → Bool) → IsDurable (StateDependsOn ignored) v → IsAbsentAfterEachCrash intent_name v → AreStagedNames all → Since (StateIsUnchanged ignored v) old h)
 cleared_ends all old h cleared = observable_map old _ _ cleared (λ v runs ignored is_durable none staged. (runs ignored is_durable none staged).since)
 
 -- ---- what is read under the other names

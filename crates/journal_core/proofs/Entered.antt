@@ -12,7 +12,7 @@ use Rattle.journal_core.specs.Acting.{stage_with_actions_done}
 use Rattle.journal_core.specs.Recovery.{Intent, IsStagedNameOf, StateDependsOn, files_after_actions, intent_name, intent_in_file, intent_of, is_staged, read_intent, recovered_files, files_after_intent, stage_name, state_of, files_after_staged_moves_from, files_without_names}
 use Rattle.journal_core.specs.Kept.{RecoversTo}
 use Rattle.journal_core.specs.Quiet.{StateIsUnchanged}
-use Rattle.journal_core.specs.Staged.{IsCarryingOutActions, HasIntentPublishedSinceForFiles}
+use Rattle.journal_core.specs.Staged.{IsCarryingOutActions, HasIntentFileNumberedAtLeastForFiles}
 use Rattle.journal_core.proofs.Agree.{agree-without, agree-unstaged}
 use Rattle.journal_intent.proofs.AtName.{put_name-at, put_name-off, drop_name-at, drop_name-off}
 use Rattle.base_core.proofs.Undone.{read_may_be_left}
@@ -189,14 +189,14 @@ module _ (laws : CrashLaws) (ignored : List ℕ → Bool) (intent : Intent) (bas
     is_durable : IsDurable (StateDependsOn ignored) w
     moment : P w
     state : state_of ignored (files_of w) ≡ state_of ignored G
-    publishes : HasIntentPublishedSinceForFiles ignored G made w
+    publishes : HasIntentFileNumberedAtLeastForFiles ignored G made w
 
   behind_at : (v : TreeState) (b : Before v) → v.older ≡ [] → Behind (with_newer_name_map v (entered_map intent base made v b.ready))
   behind_at v b one =
       let is_durable = durable_at intent base made v b.ready ignored one b.is_unchanged.is_durable in
       let new_state = state_new intent base made v b.ready ignored one b.is_unchanged.is_durable in
       let (n, at, later) = entered_at intent base made v b.ready in
-      let publishes : HasIntentPublishedSinceForFiles ignored G made (with_newer_name_map v (entered_map intent base made v b.ready)) = (n, at, later, new_state) in
+      let publishes : HasIntentFileNumberedAtLeastForFiles ignored G made (with_newer_name_map v (entered_map intent base made v b.ready)) = (n, at, later, new_state) in
       record {
         is_durable = is_durable;
         moment = record {

@@ -7,7 +7,7 @@ use Rattle.base_core.specs.Calls.{IfObservable, HoldsNow, ChangesHistory, IsCoun
 use Rattle.base_core.specs.Faults.{Counts}
 use Rattle.base_core.specs.Crash.{Since}
 use Rattle.base_core.specs.Undone.{IsDurable}
-use Rattle.journal_core.specs.Kept.{IsRestoredByNoCrash, KeepsFilesExcept}
+use Rattle.journal_core.specs.Kept.{IsAbsentAfterEachCrash, KeepsFilesExcept}
 use Rattle.journal_core.specs.Recovery.{Intent, StateDependsOn, intent_name, stage_name}
 use Rattle.journal_core.specs.Quiet.{StateIsUnchanged}
 use Rattle.journal_core.specs.Staged.{Staging, HasStagedContents, HasEmptyStageAndFreeJournalPaths}
@@ -38,7 +38,7 @@ module _ (name : List ℕ) (stage : Staging) (next : IsNextStagedName name stage
 
 -- a file may be begun: no crash restores an intent
 abbrev pub IsToBegin : Staging → List (List ℕ) → Files → TreeState → Type 0
-IsToBegin stage contents base v = HasStagedContents stage contents None base v × IsRestoredByNoCrash intent_name v
+IsToBegin stage contents base v = HasStagedContents stage contents None base v × IsAbsentAfterEachCrash intent_name v
 
 module _ (laws : CrashLaws) {T E : Type 0} (old new : History) (name : List ℕ) (stage : Staging) (next : IsNextStagedName name stage) (r : Result T E) where
   module _ (moves : ChangesHistory (CanCreate name) (after_create name) (after_create name) old new r) (whole : All IsWellFormed old) where
@@ -130,7 +130,7 @@ later_reads old = on_observable old _ (λ v rest is. none_since (λ w. files_of 
 pub later_staged : (stage : Staging) (old : History) → (stage.staged ≡ 0 → ⊥) → IsBegunLater stage old old
 later_staged stage old some = on_observable old _ (λ v rest is contents base staged. now_is old v rest (IsToBegin stage contents base) is (staged, at stage.staged refl contents base v staged))
   where
-    at : (n : ℕ) → stage.staged ≡ n → (contents : List (List ℕ)) (base : Files) (v : TreeState) → HasStagedContents stage contents None base v → IsRestoredByNoCrash intent_name v
+    at : (n : ℕ) → stage.staged ≡ n → (contents : List (List ℕ)) (base : Files) (v : TreeState) → HasStagedContents stage contents None base v → IsAbsentAfterEachCrash intent_name v
     at zero none contents base v staged = absurd (some none)
     at (suc k) more contents base v staged = gone_once stage contents base v k staged more
 

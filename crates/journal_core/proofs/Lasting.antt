@@ -6,7 +6,7 @@ use Rattle.base_core.specs.Calls.{IfObservable, HoldsNow, ChangesHistory}
 use Rattle.base_core.specs.Crash.{Since}
 use Rattle.base_core.specs.Files.{NameMap, drop_name, move_name}
 use Rattle.base_core.specs.Tree.{TreeState, File, bytes_of_file_number, after_append, after_create, after_failed_append, after_remove, after_rename, after_sync, after_sync_names, with_file_changed, files_of, with_file_moved, with_name_removed, unchanged_after_failed_call, IsAlwaysAllowed, CanCreate, CanRename, HasName}
-use Rattle.journal_core.specs.Kept.{IsRestoredByNoCrash, NamesAreDurableExcept}
+use Rattle.journal_core.specs.Kept.{IsAbsentAfterEachCrash, NamesAreDurableExcept}
 use Rattle.journal_core.specs.Recovering.{IsIntentReplayed}
 use Rattle.journal_core.specs.Recovery.{intent_name, stage_name}
 use Rattle.base_core.proofs.Undone.{left_only}
@@ -112,10 +112,10 @@ module _ (name : List ℕ) (name_is : name ≡ intent_name) (start : TreeState) 
     finish_last r runs moves = run_called P (NamesAreDurableExcept (intent_name ∷ [])) old h new r runs moves (λ v q none. last_synced (intent_name ∷ []) v) (λ v may q none. q)
 
 module _ {A B : Type 0} (name : List ℕ) (name_is : name ≡ intent_name) (h k new : History) (x : A) (first : ChangesHistory {E = B} IsAlwaysAllowed (after_remove name) (after_remove name) h k (Ok x)) where
-  pub finish_gone : {T E : Type 0} (r : Result T E) → ChangesHistory IsAlwaysAllowed after_sync_names unchanged_after_failed_call k new r → OnOk r (IfObservable new (IsRestoredByNoCrash intent_name))
+  pub finish_gone : {T E : Type 0} (r : Result T E) → ChangesHistory IsAlwaysAllowed after_sync_names unchanged_after_failed_call k new r → OnOk r (IfObservable new (IsAbsentAfterEachCrash intent_name))
   finish_gone (Err e) last = tt
   finish_gone (Ok y) last =
-      done_now (λ w. w.names intent_name ≡ None) (IsRestoredByNoCrash intent_name) after_sync_names unchanged_after_failed_call k new y
+      done_now (λ w. w.names intent_name ≡ None) (IsAbsentAfterEachCrash intent_name) after_sync_names unchanged_after_failed_call k new y
       (done_now IsAny (λ w. w.names intent_name ≡ None) (after_remove name) (after_remove name) h k x (any_told h) first
       (λ v q. ap (after_remove name v).names (sym name_is) ∙ removed_absent name v (v.names name) refl))
       last (gone_synced intent_name)
@@ -225,33 +225,33 @@ ok_absent (Ok x) old name told = observable_map old (CanCreate name) (λ v. v.na
 -- ---- a recovery
 
 abbrev pub Stays : History → History → Type 0
-Stays old h = IfObservable old (λ v. IsRestoredByNoCrash intent_name v → HoldsNow h (IsRestoredByNoCrash intent_name))
+Stays old h = IfObservable old (λ v. IsAbsentAfterEachCrash intent_name v → HoldsNow h (IsAbsentAfterEachCrash intent_name))
 
 pub stays_start : (old : History) → Stays old old
-stays_start old = on_observable old _ (λ v rest is away. now_is old v rest (IsRestoredByNoCrash intent_name) is away)
+stays_start old = on_observable old _ (λ v rest is away. now_is old v rest (IsAbsentAfterEachCrash intent_name) is away)
 
 pub stays_done : {T E : Type 0} (old h new : History) (name : List ℕ) (x : T) → Stays old h → ChangesHistory {E = E} IsAlwaysAllowed (after_remove name) (after_remove name) h new (Ok x) → Stays old new
 stays_done old h new name x stays moves = observable_map old _ _ stays (λ v s away.
-    keep_called (IsRestoredByNoCrash intent_name) (IsRestoredByNoCrash intent_name) new h (Ok x) (s away) moves (λ u q. gone_removed intent_name name u (u.names name) q) (λ u q. q) (λ u q. gone_removed intent_name name u (u.names name) q))
+    keep_called (IsAbsentAfterEachCrash intent_name) (IsAbsentAfterEachCrash intent_name) new h (Ok x) (s away) moves (λ u q. gone_removed intent_name name u (u.names name) q) (λ u q. q) (λ u q. gone_removed intent_name name u (u.names name) q))
 
 pub stays_back : (old mid new : History) → mid ≡ old → Stays mid new → Stays old new
 stays_back old mid new same stays = subst (λ (l : History). Stays l new) same stays
 
-pub found_gone : {T E : Type 0} (r : Result T E) (old new : History) → OnOk r (IfObservable new (IsRestoredByNoCrash intent_name)) → IfObservable old (λ v. IsSome (v.names intent_name) → OnOk r (IfObservable new (IsRestoredByNoCrash intent_name)))
+pub found_gone : {T E : Type 0} (r : Result T E) (old new : History) → OnOk r (IfObservable new (IsAbsentAfterEachCrash intent_name)) → IfObservable old (λ v. IsSome (v.names intent_name) → OnOk r (IfObservable new (IsAbsentAfterEachCrash intent_name)))
 found_gone r old new gone = on_observable old _ (λ v rest is some. gone)
 
 unread_name : (files : ℕ → File) (o : Option ℕ) → None ≡ bytes_of_file_number files o → o ≡ None
 unread_name files None is = refl
 unread_name files (Some n) is = absurd (cc)
 
-pub none_gone : (old new : History) (name : List ℕ) → name ≡ intent_name → IfObservable old (λ v. None ≡ files_of v name) → IfObservable old (λ v. IsSome (v.names intent_name) → IfObservable new (IsRestoredByNoCrash intent_name))
+pub none_gone : (old new : History) (name : List ℕ) → name ≡ intent_name → IfObservable old (λ v. None ≡ files_of v name) → IfObservable old (λ v. IsSome (v.names intent_name) → IfObservable new (IsAbsentAfterEachCrash intent_name))
 none_gone old new name name_is found = observable_map old _ _ found (λ v is some. absurd (some_none (v.names intent_name) (unread_name v.files (v.names intent_name) (is ∙ ap (files_of v) name_is)) some))
 
-pub all_gone : (old mid new : History) → IfObservable old (λ v. HoldsNow mid (IsIntentReplayed v)) → IfObservable old (λ v. IsSome (v.names intent_name) → IfObservable mid (IsRestoredByNoCrash intent_name)) → Stays mid new
-    → IfObservable old (λ v. IsSome (v.names intent_name) → HoldsNow new (IsRestoredByNoCrash intent_name))
+pub all_gone : (old mid new : History) → IfObservable old (λ v. HoldsNow mid (IsIntentReplayed v)) → IfObservable old (λ v. IsSome (v.names intent_name) → IfObservable mid (IsAbsentAfterEachCrash intent_name)) → Stays mid new
+    → IfObservable old (λ v. IsSome (v.names intent_name) → HoldsNow new (IsAbsentAfterEachCrash intent_name))
 all_gone old mid new replayed gone stays = on_observable old _ (λ v rest is some.
-    both (IsIntentReplayed v) mid (observable_at old v rest is (λ u. HoldsNow mid (IsIntentReplayed u)) replayed) (observable_at old v rest is (λ u. IsSome (u.names intent_name) → IfObservable mid (IsRestoredByNoCrash intent_name)) gone some) stays)
+    both (IsIntentReplayed v) mid (observable_at old v rest is (λ u. HoldsNow mid (IsIntentReplayed u)) replayed) (observable_at old v rest is (λ u. IsSome (u.names intent_name) → IfObservable mid (IsAbsentAfterEachCrash intent_name)) gone some) stays)
   where
-    both : (R : TreeState → Type 0) (h : History) → HoldsNow h R → IfObservable h (IsRestoredByNoCrash intent_name) → IfObservable h (λ u. IsRestoredByNoCrash intent_name u → HoldsNow new (IsRestoredByNoCrash intent_name)) → HoldsNow new (IsRestoredByNoCrash intent_name)
+    both : (R : TreeState → Type 0) (h : History) → HoldsNow h R → IfObservable h (IsAbsentAfterEachCrash intent_name) → IfObservable h (λ u. IsAbsentAfterEachCrash intent_name u → HoldsNow new (IsAbsentAfterEachCrash intent_name)) → HoldsNow new (IsAbsentAfterEachCrash intent_name)
     both R [] now away s = absurd now
     both R (u ∷ h) now away s = s away

@@ -25,7 +25,7 @@ use Rattle.journal_core.proofs.Replayed.{IsProper, proper_of}
 use Rattle.journal_core.proofs.Steps.{remove_others}
 use Rattle.journal_intent.proofs.AtName.{put_name-off, drop_name-off}
 use Rattle.journal_intent.proofs.StageNames.{stage_name_no_intent}
-use Rattle.journal_intent.specs.FreeNames.{HasFreeDistinctNames, IsFreeName}
+use Rattle.journal_intent.specs.FreeNames.{HasFreeNamesAndUnrepeatedWrites, IsFreeName}
 
 -- ---- a relation of the start and each moment since
 
@@ -101,7 +101,7 @@ keeps_moved_free k from to from_is free v = record {
 
 -- ---- an action
 
-module _ (intent : Intent) (free : HasFreeDistinctNames intent) (few : length intent.removals + length intent.writes < 2 ^ 63) (old new : History) where
+module _ (intent : Intent) (free : HasFreeNamesAndUnrepeatedWrites intent) (few : length intent.removals + length intent.writes < 2 ^ 63) (old new : History) where
   proper : IsProper intent
   proper = proper_of intent free (omega (arith, few))
 

@@ -8,7 +8,7 @@ use Rattle.base_core.specs.Crash.{Since}
 use Rattle.base_core.specs.Restart.{EachMoment, SinceGivenEarlier}
 use Rattle.journal_core.specs.Quiet.{StateIsUnchanged}
 use Rattle.journal_core.specs.Recovery.{EachCrashLeavesStateOf, intent_name}
-use Rattle.journal_core.specs.Staged.{HasMomentOfIntentPublishedSinceForFiles, IsOldUntilCommit, HasStagedContents, IsHistoryThatCommitsFiles, new_stage_of_removals_and_writes}
+use Rattle.journal_core.specs.Staged.{HasMomentOfIntentFileNumberedAtLeastForFiles, IsOldUntilCommit, HasStagedContents, IsHistoryThatPublishesIntentForFiles, new_stage_of_removals_and_writes}
 use Rattle.journal_core.proofs.Compose.{quiet_then, settled_quiet}
 use Rattle.journal_core.proofs.Images.{quiet_on}
 
@@ -16,7 +16,7 @@ pub nothing_staged : (removals writes : List (List ℕ)) (v : TreeState) → fil
 nothing_staged removals writes v none = record { count = refl; absent = none; reads = refl; synced = λ k n from until at. absurd (omega (arith, from, until)); alone = tt; gone = tt }
 
 -- a file that was made later, at one of these moments
-published_among : (ignored : List ℕ → Bool) (files : Files) (a b : ℕ) (moments first : List TreeState) → a ≤ b → HasMomentOfIntentPublishedSinceForFiles ignored files b moments → HasMomentOfIntentPublishedSinceForFiles ignored files a (moments ++ first)
+published_among : (ignored : List ℕ → Bool) (files : Files) (a b : ℕ) (moments first : List TreeState) → a ≤ b → HasMomentOfIntentFileNumberedAtLeastForFiles ignored files b moments → HasMomentOfIntentFileNumberedAtLeastForFiles ignored files a (moments ++ first)
 published_among ignored files a b [] first less published = absurd published
 published_among ignored files a b (v ∷ moments) first less (inl (n, there, made, same)) = inl (n, there, omega (arith, less, made), same)
 published_among ignored files a b (v ∷ moments) first less (inr published) = inr (published_among ignored files a b moments first less published)
@@ -31,12 +31,12 @@ way_before ignored files start v w earlier first is_unchanged way = record {
 
 -- ---- behind a publishing
 
-published_more : (ignored : List ℕ → Bool) (files : Files) (made : ℕ) (more first : List TreeState) → HasMomentOfIntentPublishedSinceForFiles ignored files made first → HasMomentOfIntentPublishedSinceForFiles ignored files made (more ++ first)
+published_more : (ignored : List ℕ → Bool) (files : Files) (made : ℕ) (more first : List TreeState) → HasMomentOfIntentFileNumberedAtLeastForFiles ignored files made first → HasMomentOfIntentFileNumberedAtLeastForFiles ignored files made (more ++ first)
 published_more ignored files made [] first published = published
 published_more ignored files made (w ∷ more) first published = inr (published_more ignored files made more first published)
 
 module _ (ignored : List ℕ → Bool) (files : Files) (start v : TreeState) (settled : EachCrashLeavesStateOf ignored files v) (later : start.made ≤ v.made) where
-  behind : (earlier : List TreeState) (w : TreeState) → HasMomentOfIntentPublishedSinceForFiles ignored files start.made earlier → StateIsUnchanged ignored v w → IsOldUntilCommit ignored files start earlier w
+  behind : (earlier : List TreeState) (w : TreeState) → HasMomentOfIntentFileNumberedAtLeastForFiles ignored files start.made earlier → StateIsUnchanged ignored v w → IsOldUntilCommit ignored files start earlier w
   behind earlier w led is_unchanged = record {
     is_durable = is_unchanged.is_durable;
     old_or_new = λ image is. inr (settled_quiet ignored files v w settled is_unchanged.quiet image is);
@@ -44,11 +44,11 @@ module _ (ignored : List ℕ → Bool) (files : Files) (start v : TreeState) (se
     made = (let more = is_unchanged.made in omega (arith, later, more));
   }
 
-  each_behind : (added first : List TreeState) → HasMomentOfIntentPublishedSinceForFiles ignored files start.made first → All (StateIsUnchanged ignored v) added → EachMoment (IsOldUntilCommit ignored files start) first → EachMoment (IsOldUntilCommit ignored files start) (added ++ first)
+  each_behind : (added first : List TreeState) → HasMomentOfIntentFileNumberedAtLeastForFiles ignored files start.made first → All (StateIsUnchanged ignored v) added → EachMoment (IsOldUntilCommit ignored files start) first → EachMoment (IsOldUntilCommit ignored files start) (added ++ first)
   each_behind [] first led all so_far = so_far
   each_behind (w ∷ added) first led all so_far = (behind (added ++ first) w (published_more ignored files start.made added first led) (All-head (StateIsUnchanged ignored v) w added all), each_behind added first led (All-tail (StateIsUnchanged ignored v) w added all) so_far)
 
-  pub way_after : (old mid new : List TreeState) → IsHistoryThatCommitsFiles ignored files start old mid → Since (StateIsUnchanged ignored v) mid new → SinceGivenEarlier (IsOldUntilCommit ignored files start) old new
+  pub way_after : (old mid new : List TreeState) → IsHistoryThatPublishesIntentForFiles ignored files start old mid → Since (StateIsUnchanged ignored v) mid new → SinceGivenEarlier (IsOldUntilCommit ignored files start) old new
   way_after old mid new published is_unchanged = record {
     added = is_unchanged.added ++ published.added;
     is = is_unchanged.is ∙ ap (λ (l : List TreeState). is_unchanged.added ++ l) published.is ∙ sym (append_assoc is_unchanged.added published.added old);

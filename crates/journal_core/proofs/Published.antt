@@ -16,8 +16,8 @@ use Rattle.journal_core.specs.Acting.{stage_with_actions_done}
 use Rattle.journal_core.specs.Recovery.{Intent, EachCrashLeavesStateOf, StateDependsOn, files_after_actions, intent_name, read_intent, stage_name}
 use Rattle.journal_core.specs.Kept.{RecoversTo}
 use Rattle.journal_core.specs.Quiet.{StateIsUnchanged}
-use Rattle.journal_intent.specs.FreeNames.{HasFreeDistinctNames}
-use Rattle.journal_core.specs.Staged.{Staging, HasMomentOfIntentPublishedSinceForFiles, HasEmptyStageAndFreeJournalPaths, IsCarryingOutActions, IsPresentOrOfJournal, IsOldUntilCommit, HasStagedContents, IsHistoryThatCommitsFiles, HasIntentPublishedSinceForFiles}
+use Rattle.journal_intent.specs.FreeNames.{HasFreeNamesAndUnrepeatedWrites}
+use Rattle.journal_core.specs.Staged.{Staging, HasMomentOfIntentFileNumberedAtLeastForFiles, HasEmptyStageAndFreeJournalPaths, IsCarryingOutActions, IsPresentOrOfJournal, IsOldUntilCommit, HasStagedContents, IsHistoryThatPublishesIntentForFiles, HasIntentFileNumberedAtLeastForFiles}
 use Rattle.journal_core.proofs.Again.{acting_as}
 use Rattle.journal_intent.proofs.AtName.{put_name-off, drop_name-off}
 use Rattle.journal_core.proofs.Beside.{can_make, held_like, read_held}
@@ -64,7 +64,7 @@ same_read a b (Some m) (Some n) e same =
     let equal : m ≡ n = cc in
     ap (λ (f : File). Some f.bytes) (same m refl) ∙ ap (λ (k : ℕ). Some (b k).bytes) equal
 
-module _ (stage : Staging) (contents : List (List ℕ)) (base : Files) (v : TreeState) (staged : HasStagedContents stage contents None base v) (all : stage.staged ≡ length stage.intent.writes) (few : length stage.intent.writes < 2 ^ 63) (free : HasFreeDistinctNames stage.intent)
+module _ (stage : Staging) (contents : List (List ℕ)) (base : Files) (v : TreeState) (staged : HasStagedContents stage contents None base v) (all : stage.staged ≡ length stage.intent.writes) (few : length stage.intent.writes < 2 ^ 63) (free : HasFreeNamesAndUnrepeatedWrites stage.intent)
     (file : List ℕ) (spells : read_intent file ≡ Some stage.intent) (place : List ℕ) (place_is : place ≡ stage_name 0) where
   none_read : files_of v intent_name ≡ None
   none_read = no_intent_read stage contents base v staged
@@ -146,17 +146,17 @@ module _ (stage : Staging) (contents : List (List ℕ)) (base : Files) (v : Tree
           by (Ok x) now = now_map new (HasCommittedIntent ignored G v.made) (EachCrashLeavesStateOf ignored G) now (λ w e. e.settled)
           by (Err e) now = tt
 
-      unled : HasIntentPublishedSinceForFiles ignored G v.made v → ⊥
+      unled : HasIntentFileNumberedAtLeastForFiles ignored G v.made v → ⊥
       unled (n, at, from, same) = let none = absent_read v.files (v.names intent_name) none_read in absurd (cc (none, at))
 
-      led : (added : History) → HoldsNow (added ++ v ∷ rest) (HasCommittedIntent ignored G v.made) → HasMomentOfIntentPublishedSinceForFiles ignored G v.made added
+      led : (added : History) → HoldsNow (added ++ v ∷ rest) (HasCommittedIntent ignored G v.made) → HasMomentOfIntentFileNumberedAtLeastForFiles ignored G v.made added
       led [] now = absurd (unled now.publishes)
       led (w ∷ added) now = inl now.publishes
 
-      pub enter_published : {T E : Type 0} (r : Result T E) → Written → Enters → Entered r → OnOk r (IsHistoryThatCommitsFiles ignored G v old new)
+      pub enter_published : {T E : Type 0} (r : Result T E) → Written → Enters → Entered r → OnOk r (IsHistoryThatPublishesIntentForFiles ignored G v old new)
       enter_published {T = T} {E = E} r written enters entered = by r (entered_now r written entered)
         where
-          by : (s : Result T E) → OnOk s (HoldsNow new (HasCommittedIntent ignored G v.made)) → OnOk s (IsHistoryThatCommitsFiles ignored G v old new)
+          by : (s : Result T E) → OnOk s (HoldsNow new (HasCommittedIntent ignored G v.made)) → OnOk s (IsHistoryThatPublishesIntentForFiles ignored G v old new)
           by (Ok x) now =
               let since = enter_moments written enters in
               let here : HoldsNow (since.added ++ v ∷ rest) (HasCommittedIntent ignored G v.made) = subst (λ (l : History). HoldsNow l (HasCommittedIntent ignored G v.made)) (since.is ∙ ap (λ (l : History). since.added ++ l) is) now in

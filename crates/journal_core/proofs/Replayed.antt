@@ -5,7 +5,7 @@ use Rattle.std.specs.Str.{bytes_eq}
 use Rattle.base_core.specs.Files.{Files, drop_name, move_name}
 use Rattle.base_core.proofs.AtName.{other_name, name_cases}
 use Rattle.journal_core.specs.Recovery.{Intent, intent_name, intent_in_file, intent_of, stage_name, files_without_names, move_if_present, files_after_staged_moves_from, files_after_intent, recovered_files}
-use Rattle.journal_intent.specs.FreeNames.{AreFreeNames, HaveNoRepeats, HasFreeDistinctNames, IsFreeName, IsNoneOf, IsOneOf}
+use Rattle.journal_intent.specs.FreeNames.{AreFreeNames, HaveNoRepeats, HasFreeNamesAndUnrepeatedWrites, IsFreeName, IsNoneOf, IsOneOf}
 use Rattle.journal_intent.proofs.AtName.{put_name-off, drop_name-off, drop_name-at}
 use Rattle.journal_intent.proofs.StageNames.{stage_names_apart, stage_name_no_intent}
 
@@ -17,7 +17,7 @@ pub record IsProper (intent : Intent) : Type 0 where
   pub apart : (name : List ℕ) → IsOneOf name intent.writes → IsNoneOf name intent.removals
   pub few : length intent.writes < 2 ^ 63
 
-pub proper_of : (intent : Intent) → HasFreeDistinctNames intent → length intent.writes < 2 ^ 63 → IsProper intent
+pub proper_of : (intent : Intent) → HasFreeNamesAndUnrepeatedWrites intent → length intent.writes < 2 ^ 63 → IsProper intent
 proper_of intent free few = record { removals = free.removals; writes = free.writes; once = free.once; apart = free.apart; few = few }
 
 same_intent : (F G : Files) → F intent_name ≡ G intent_name → intent_of F ≡ intent_of G

@@ -6,15 +6,15 @@ use Rattle.base_core.specs.Tree.{TreeState, files_of}
 use Rattle.base_core.proofs.AtName.{name_cases, off_name}
 use Rattle.journal_core.specs.Recovery.{intent_name, state_of}
 use Rattle.journal_core.specs.Replacing.{CanAddOutputNames, scratch_name_of}
-use Rattle.journal_core.specs.Staged.{HasMomentOfIntentPublishedSinceForFiles, HasEmptyStageAndFreeJournalPaths, IsPresentOrOfJournal}
+use Rattle.journal_core.specs.Staged.{HasMomentOfIntentFileNumberedAtLeastForFiles, HasEmptyStageAndFreeJournalPaths, IsPresentOrOfJournal}
 use Rattle.journal_intent.proofs.AtName.{put_name-off}
 use Rattle.journal_intent.specs.FreeNames.{IsIntentNameOrNumberedStageName}
 
 pub now_published : (ignored : List ℕ → Bool) (files : Files) (made n : ℕ) (v : TreeState) (earlier : List TreeState) → v.names intent_name ≡ Some n → made ≤ n → state_of ignored (files_of v) ≡ state_of ignored files
-    → HasMomentOfIntentPublishedSinceForFiles ignored files made (v ∷ earlier)
+    → HasMomentOfIntentFileNumberedAtLeastForFiles ignored files made (v ∷ earlier)
 now_published ignored files made n v earlier there late same = inl (n, there, late, same)
 
-pub none_published : (ignored : List ℕ → Bool) (files : Files) (made : ℕ) (v : TreeState) → v.names intent_name ≡ None → HasMomentOfIntentPublishedSinceForFiles ignored files made (v ∷ []) → ⊥
+pub none_published : (ignored : List ℕ → Bool) (files : Files) (made : ℕ) (v : TreeState) → v.names intent_name ≡ None → HasMomentOfIntentFileNumberedAtLeastForFiles ignored files made (v ∷ []) → ⊥
 none_published ignored files made v none (inl published) = let there = published.1 in cc (none, there)
 none_published ignored files made v none (inr published) = published
 

@@ -5,7 +5,7 @@ use Rattle.base_core.specs.Tree.{TreeState, File, IsWellFormed, bytes_of_file_nu
 use Rattle.base_core.specs.Undone.{IsDurable, IsCrashMap, with_change_replayed}
 use Rattle.journal_core.specs.Recovery.{IsStagedNameOf, StateDependsOn, intent_name, intent_in_file, intent_of, is_staged, state_of}
 use Rattle.journal_core.specs.Quiet.{StateIsUnchanged}
-use Rattle.journal_core.specs.Kept.{IsRestoredByNoCrash}
+use Rattle.journal_core.specs.Kept.{IsAbsentAfterEachCrash}
 use Rattle.journal_core.specs.Staged.{IsOnlyNameOfFile}
 use Rattle.base_core.proofs.Undone.{read_may_be_left}
 use Rattle.journal_core.proofs.Agree.{state_agree}
@@ -57,7 +57,7 @@ pub off_none : (F : Files) (name : List ℕ) → is_staged name ≡ true → nam
 off_none F name waiting no_intent none = record { waiting = waiting; no_intent = no_intent; no_place = λ place. subst (λ o. IsStagedNameOf o name) (ap intent_in_file none) place }
 
 -- and so it is where no crash restores one
-pub off_gone : (v : TreeState) (name : List ℕ) → is_staged name ≡ true → name ≢ intent_name → IsRestoredByNoCrash intent_name v → IsOffIn v name
+pub off_gone : (v : TreeState) (name : List ℕ) → is_staged name ≡ true → name ≢ intent_name → IsAbsentAfterEachCrash intent_name v → IsOffIn v name
 off_gone v name waiting no_intent gone m left = off_none (files_under_map v m) name waiting no_intent (ap (bytes_of_file_number v.files) (gone m left))
 
 -- ---- it is made

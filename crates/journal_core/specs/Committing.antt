@@ -11,9 +11,9 @@ use Rattle.base_core.specs.Undone.{IsDurable}
 use Rattle.journal_core.specs.Filling.{synced_file}
 use Rattle.journal_core.specs.Kept.{KeepsCrashMapsExcept, KeepsFilesExcept, NamesAreDurableExcept, RecoversTo}
 use Rattle.journal_core.specs.Recovery.{Intent, EachCrashLeavesOldOrNew, EachCrashLeavesStateOf, StateDependsOn, files_after_actions, intent_name, read_intent, stage_name}
-use Rattle.journal_intent.specs.FreeNames.{HasFreeDistinctNames}
+use Rattle.journal_intent.specs.FreeNames.{HasFreeNamesAndUnrepeatedWrites}
 use Rattle.journal_core.specs.Quiet.{EachCrashLeavesOld}
-use Rattle.journal_core.specs.Staged.{Staging, IsHistoryThatCommitsFiles, HasIntentPublishedSinceForFiles, IsOldUntilCommit, HasStagedContents}
+use Rattle.journal_core.specs.Staged.{Staging, IsHistoryThatPublishesIntentForFiles, HasIntentFileNumberedAtLeastForFiles, IsOldUntilCommit, HasStagedContents}
 
 -- the tree `v` differs from `start` only by a file under the name `place`, which was absent in `start`; the file was
 -- made since
@@ -61,7 +61,7 @@ pub record IsReadyToPublish (intent : Intent) (base : Files) (made : ℕ) (v : T
   -- the intent has so few writes that their numbers fit into 64 bits
   pub few : length intent.writes < 2 ^ 63
   -- the names of the intent are outside the journal, no name is written twice, and none is both written and removed
-  pub free : HasFreeDistinctNames intent
+  pub free : HasFreeNamesAndUnrepeatedWrites intent
 
 -- A moment `v` of the commit. Each crash leaves a state that a crash at `start` might have left, or that of `files`.
 -- It leaves the former unless an intent made after the first `number` files, which leads to `files`, is published.
@@ -73,7 +73,7 @@ pub record IsCommitting (ignored : List ℕ → Bool) (files : Files) (number : 
   pub old_or_new : EachCrashLeavesOldOrNew ignored start files v
   -- if no intent made since is under its name and leads to `files`, each crash leaves a state that a crash at the
   -- start might have left
-  pub unpublished : (HasIntentPublishedSinceForFiles ignored files number v → ⊥)
+  pub unpublished : (HasIntentFileNumberedAtLeastForFiles ignored files number v → ⊥)
       → EachCrashLeavesOld ignored start v
   -- no fewer files have been made than at the start
   pub made : start.made ≤ v.made
@@ -85,7 +85,7 @@ pub record HasCommittedIntent (ignored : List ℕ → Bool) (files : Files) (mad
   -- each crash leaves the state of these files
   pub settled : EachCrashLeavesStateOf ignored files v
   -- the intent is under its name, in a file made after the first `made` files
-  pub publishes : HasIntentPublishedSinceForFiles ignored files made v
+  pub publishes : HasIntentFileNumberedAtLeastForFiles ignored files made v
 
 -- in a run from the history `old` to `now`, only the intent's name, and that of the staged file 0, have changed
 pub record ChangesOnlyIntentNames (old now : List TreeState) : Type 0 where
@@ -114,7 +114,7 @@ pub record PublishesIntent {T E : Type 0} (stage : Staging) (old now : List Tree
   -- once Ok is returned, the change is committed by an intent of this call
   pub published : IfObservable old (λ v. (ignored : List ℕ → Bool) (contents : List (List ℕ)) (base : Files)
       → IsDurable (StateDependsOn ignored) v → HasStagedContents stage contents None base v
-      → OnOk result (IsHistoryThatCommitsFiles ignored
+      → OnOk result (IsHistoryThatPublishesIntentForFiles ignored
       (files_after_actions stage.intent (files_of v)) v old now))
   -- once Ok is returned, each crash leaves the state of the files with all actions done
   pub settled : IfObservable old (λ v. (ignored : List ℕ → Bool) (contents : List (List ℕ)) (base : Files)

@@ -37,16 +37,16 @@ JournalOnlyShrinks start v = (q : List ℕ) → IsJournalName q
     → (files_of v q ≡ None) ⊎ (files_of v q ≡ files_of start q)
 
 -- each name outside the journal has, as read, the bytes that it has in the files `old`, or those in the files `new`
-abbrev pub HasOldOrNewBytesOutsideJournal : Files → Files → TreeState → Type 0
-HasOldOrNewBytesOutsideJournal old new v =
+abbrev pub ReadsOldOrNewBytesOutsideJournal : Files → Files → TreeState → Type 0
+ReadsOldOrNewBytesOutsideJournal old new v =
     (q : List ℕ) → (IsJournalName q → ⊥) → (files_of v q ≡ old q) ⊎ (files_of v q ≡ new q)
 
 -- At each moment added to the history `old`, each name outside the journal has the bytes of `base` or those of
 -- `files`. Here `base` are any files for which this held at the start `v`.
 abbrev pub KeepsOldOrNewBytes : Files → TreeState → List TreeState → List TreeState → Type 0
 KeepsOldOrNewBytes files v old new =
-    (base : Files) → HasOldOrNewBytesOutsideJournal base files v
-    → Since (HasOldOrNewBytesOutsideJournal base files) old new
+    (base : Files) → ReadsOldOrNewBytesOutsideJournal base files v
+    → Since (ReadsOldOrNewBytesOutsideJournal base files) old new
 
 -- the intent's name leads to the same file as in `start`, and each staged file is unchanged or gone
 pub record KeepsIntentWhileStageShrinks (start v : TreeState) : Type 0 where
@@ -77,8 +77,8 @@ NamesOutsideJournalAreDurableExcept these v = (map : NameMap) → IsCrashMap v m
     → q ≢ intent_name → is_staged q ≡ false → map q ≡ v.names q
 
 -- in no map of names that a crash may leave the name leads to a file
-abbrev pub IsRestoredByNoCrash : List ℕ → TreeState → Type 0
-IsRestoredByNoCrash name v = (map : NameMap) → IsCrashMap v map → map name ≡ None
+abbrev pub IsAbsentAfterEachCrash : List ℕ → TreeState → Type 0
+IsAbsentAfterEachCrash name v = (map : NameMap) → IsCrashMap v map → map name ≡ None
 
 -- each map of names that a crash of `v` may leave agrees, except for the names `these`, with one that a crash of
 -- `start` might have left

@@ -11,7 +11,7 @@ use Rattle.base_core.specs.declared.cause.Cause.{Cause}
 use Rattle.journal_intent.specs.adb_schema.Soundness.{container_fault_except_contents}
 use Rattle.adb_view.specs.declared.tables.Which.TheVariants.{Intent as IntentTable}
 use Rattle.journal_core.specs.Recovery.{Intent, EachCrashLeavesOldOrNew, IsStagedNameOf, StateDependsOn, intent_name, intent_of, is_staged, recovered_files, stage_name, state_of}
-use Rattle.journal_core.specs.Kept.{IsRestoredByNoCrash}
+use Rattle.journal_core.specs.Kept.{IsAbsentAfterEachCrash}
 use Rattle.journal_core.specs.Quiet.{EachCrashLeavesOld}
 
 -- the contents of a `Stage` of the program, as contracts see them: the actions of a change, and how far the
@@ -83,8 +83,8 @@ IsStagedFileBegun k (Some bytes) v = IsOnlyNameOfFile (stage_name k) v
 -- If a file is staged or begun, no crash restores an intent of another change, which would count this file as one
 -- of its own. `contents` are the bytes of the files that are ended; the option has those of the begun file.
 abbrev pub HasNoOtherIntent : List (List ℕ) → Option (List ℕ) → TreeState → Type 0
-HasNoOtherIntent contents (Some bytes) v = IsRestoredByNoCrash intent_name v
-HasNoOtherIntent (bytes ∷ contents) None v = IsRestoredByNoCrash intent_name v
+HasNoOtherIntent contents (Some bytes) v = IsAbsentAfterEachCrash intent_name v
+HasNoOtherIntent (bytes ∷ contents) None v = IsAbsentAfterEachCrash intent_name v
 HasNoOtherIntent [] None v = Unit {0}
 
 -- The files as read are `base`, which has no intent, and the staged files of a stage: for each element of `contents`
@@ -156,8 +156,8 @@ HasNoStagedNames files = (q : List ℕ) → is_staged q ≡ true → files q ≡
 
 -- The intent's name has a file whose number is `made` or larger, so it was made after the first `made` files of the
 -- tree. Recovery of the files as read yields the state of `files`.
-abbrev pub HasIntentPublishedSinceForFiles : (List ℕ → Bool) → Files → ℕ → TreeState → Type 0
-HasIntentPublishedSinceForFiles ignored files made v =
+abbrev pub HasIntentFileNumberedAtLeastForFiles : (List ℕ → Bool) → Files → ℕ → TreeState → Type 0
+HasIntentFileNumberedAtLeastForFiles ignored files made v =
     (n : ℕ)
     × (v.names intent_name ≡ Some n)
     × (made ≤ n)
@@ -165,11 +165,12 @@ HasIntentPublishedSinceForFiles ignored files made v =
 
 -- at one of these moments, the intent's name had a file made after the first `made` files of the tree, and recovery
 -- of the files as read would have yielded the state of `files`
-abbrev pub HasMomentOfIntentPublishedSinceForFiles : (List ℕ → Bool) → Files → ℕ → List TreeState → Type 0
-HasMomentOfIntentPublishedSinceForFiles ignored files made [] = ⊥
-HasMomentOfIntentPublishedSinceForFiles ignored files made (v ∷ earlier) =
-    HasIntentPublishedSinceForFiles ignored files made v
-    ⊎ HasMomentOfIntentPublishedSinceForFiles ignored files made earlier
+abbrev pub HasMomentOfIntentFileNumberedAtLeastForFiles : (List ℕ → Bool) → Files → ℕ → List TreeState
+    → Type 0
+HasMomentOfIntentFileNumberedAtLeastForFiles ignored files made [] = ⊥
+HasMomentOfIntentFileNumberedAtLeastForFiles ignored files made (v ∷ earlier) =
+    HasIntentFileNumberedAtLeastForFiles ignored files made v
+    ⊎ HasMomentOfIntentFileNumberedAtLeastForFiles ignored files made earlier
 
 -- A moment `v` of a run that leads to `files`; `earlier` are the moments of the run before it. A crash at `v` leaves
 -- a state that a crash at `start` might have left, or the state of `files`. Until an intent of this run has been
@@ -182,14 +183,16 @@ pub record IsOldUntilCommit (ignored : List ℕ → Bool) (files : Files) (start
   pub old_or_new : EachCrashLeavesOldOrNew ignored start files v
   -- if no intent of this run that leads to `files` has been under its name, each crash leaves a state that a crash at
   -- the start might have left
-  pub unpublished : (HasMomentOfIntentPublishedSinceForFiles ignored files start.made (v ∷ earlier) → ⊥)
+  pub unpublished : (HasMomentOfIntentFileNumberedAtLeastForFiles ignored files start.made (v ∷ earlier)
+      → ⊥)
       → EachCrashLeavesOld ignored start v
   -- no fewer files have been made than at the start
   pub made : start.made ≤ v.made
 
 -- A run has added moments to the history `old`, and leads to `files`. At one of these moments an intent of this run
 -- was under its name, and recovery would have yielded the state of `files`.
-pub record IsHistoryThatCommitsFiles (ignored : List ℕ → Bool) (files : Files) (start : TreeState)
+pub record IsHistoryThatPublishesIntentForFiles (ignored : List ℕ → Bool) (files : Files)
+    (start : TreeState)
     (old new : List TreeState) : Type 0 where
   -- the states that were added, the newest first
   pub added : List TreeState
@@ -198,7 +201,7 @@ pub record IsHistoryThatCommitsFiles (ignored : List ℕ → Bool) (files : File
   -- at each of them a crash leaves an old state or that of `files`, and before the commit an old one
   pub each : EachMoment (IsOldUntilCommit ignored files start) added
   -- at one of them an intent made since the start led to `files`
-  pub published : HasMomentOfIntentPublishedSinceForFiles ignored files start.made added
+  pub published : HasMomentOfIntentFileNumberedAtLeastForFiles ignored files start.made added
 
 -- ---- free paths
 
@@ -222,6 +225,6 @@ pub record HasEmptyStageAndFreeJournalPaths (files : Files) : Type 0 where
 
 -- if these files have an intent, no name becomes a folder of another if an intent and staged files are added to the
 -- files that recovery yields
-abbrev pub AreJournalPathsFreeIfIntentIsReplayed : Files → Type 0
-AreJournalPathsFreeIfIntentIsReplayed files =
+abbrev pub AreJournalPathsFreeAfterReplayIfAny : Files → Type 0
+AreJournalPathsFreeAfterReplayIfAny files =
     IsSome (intent_of files) → AreIntentAndStagedPathsFree (recovered_files files)

@@ -14,11 +14,11 @@ ghost use Rattle.base_core.specs.declared.cause.Cause.{Cause};
 ghost use Rattle.journal_core.specs.Acting.{CarriesOutActions, IsNextStagedName};
 ghost use Rattle.journal_core.specs.CallCounts.{IsResultExplainedByCounts};
 ghost use Rattle.journal_core.specs.Committing.{PublishesIntent};
-ghost use Rattle.journal_core.specs.Kept.{IsRestoredByNoCrash, JournalOnlyShrinks, IsNameOfNextAction, KeepsFilesExcept, KeepsIntentWhileStageShrinks, KeepsCrashMapsExcept, NamesAreDurableExcept, RecoversTo};
+ghost use Rattle.journal_core.specs.Kept.{IsAbsentAfterEachCrash, JournalOnlyShrinks, IsNameOfNextAction, KeepsFilesExcept, KeepsIntentWhileStageShrinks, KeepsCrashMapsExcept, NamesAreDurableExcept, RecoversTo};
 ghost use Rattle.journal_core.specs.Quiet.{StateIsUnchanged};
 ghost use Rattle.journal_core.specs.Recovery.{EachCrashLeavesStateOf, StateDependsOn, files_after_actions, intent_name, read_intent, stage_name};
 ghost use Rattle.journal_core.specs.Staged.{Staging, AreIntentAndStagedPathsFree, HasEmptyStageAndFreeJournalPaths, IsCarryingOutActions, IsOnlyNameOfFile, HasStagedContents, action_count, new_stage_of_removals_and_writes};
-ghost use Rattle.journal_intent.specs.FreeNames.{HasFreeDistinctNames};
+ghost use Rattle.journal_intent.specs.FreeNames.{HasFreeNamesAndUnrepeatedWrites};
 ghost use Rattle.journal_intent.specs.Intent.{AreDistinctNamesAllowedInIntent};
 ghost use Rattle.journal_intent.specs.IntentValue.{intent_of_lists, value_of_intent};
 
@@ -167,7 +167,7 @@ impl Stage {
     /// than 2^63 actions.
     pub fn names_are_free(&self)
         // No name belongs to the journal, no write is repeated, and no written name is removed.
-        ensures free { HasFreeDistinctNames self.now.intent }
+        ensures free { HasFreeNamesAndUnrepeatedWrites self.now.intent }
         // The actions can be counted in 64 bits.
         ensures few { action_count self.now.intent < 2 ^ 63 }
     {
@@ -209,7 +209,7 @@ impl Stage {
             (base : Files) → HasStagedContents self.now contents None base v
             → OnOk result (HoldsNow (T.history tree.new)
             (λ w. HasStagedContents self.now contents None base w
-            × IsRestoredByNoCrash intent_name w))) }
+            × IsAbsentAfterEachCrash intent_name w))) }
         // At each moment the files as read are unchanged.
         ensures reads { IfObservable (T.history tree.old) (λ v.
             Since (λ w. files_of w ≡ files_of v) (T.history tree.old) (T.history tree.new)) }
@@ -490,7 +490,7 @@ impl Stage {
             (T.history tree.old) (T.history tree.new)) }
         // Once Ok is returned, no crash restores the intent.
         ensures gone { OnOk result (IfObservable (T.history tree.new)
-            (IsRestoredByNoCrash intent_name)) }
+            (IsAbsentAfterEachCrash intent_name)) }
 
         // At each moment the intent and each staged file are unchanged or gone.
         ensures waiting { IfObservable (T.history tree.old) (λ v.

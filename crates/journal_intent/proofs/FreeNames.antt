@@ -20,7 +20,7 @@ use Rattle.adb_view.specs.declared.tables.Which.{Which}
 use Rattle.adb_view.specs.declared.tables.Which.TheVariants as Tables
 use Rattle.adb_view.specs.Plain.{Plain, Plains, none, more}
 use Rattle.adb_view.specs.Shaped.{Each}
-use Rattle.journal_intent.specs.FreeNames.{AllAreNames, AreFreeNames, HaveNoRepeats, HasFreeDistinctNames, IsFreeName, IsNoneOf, IsOneOf}
+use Rattle.journal_intent.specs.FreeNames.{AllAreNames, AreFreeNames, HaveNoRepeats, HasFreeNamesAndUnrepeatedWrites, IsFreeName, IsNoneOf, IsOneOf}
 use Rattle.journal_intent.specs.Intent.{AreDistinctNamesAllowedInIntent, Intent, intent_of_value, intent_name, intent_unless_fault, is_staged, read_intent, stage_folder, stage_name}
 use Rattle.journal_intent.specs.IntentValue.{intent_of_lists}
 use Rattle.journal_intent.proofs.ReadIntent.{spelled}
@@ -98,7 +98,7 @@ frees_right : (xs ys : List (List ℕ)) → AreFreeNames (xs ++ ys) → AreFreeN
 frees_right [] ys free = free
 frees_right (x ∷ xs) ys free = frees_right xs ys free.1
 
-pub change_names_free : (removals writes : List (List ℕ)) → AreDistinctNamesAllowedInIntent (removals ++ writes) → HasFreeDistinctNames (intent_of_lists removals writes)
+pub change_names_free : (removals writes : List (List ℕ)) → AreDistinctNamesAllowedInIntent (removals ++ writes) → HasFreeNamesAndUnrepeatedWrites (intent_of_lists removals writes)
 change_names_free removals writes names =
     let free = frees_all (removals ++ writes) names.each in
     let once = distinct (removals ++ writes) names.once in
@@ -111,7 +111,7 @@ change_names_free removals writes names =
 
 -- ---- those of a sound container
 
-free_value : (v : Plain) → IsSoundValue Tables.Intent v → HasFreeDistinctNames (intent_of_value v)
+free_value : (v : Plain) → IsSoundValue Tables.Intent v → HasFreeNamesAndUnrepeatedWrites (intent_of_value v)
 free_value v sound =
     let removals : List (List ℕ) = map text_in (entries_at 0 v) in
     let writes : List (List ℕ) = map text_in (entries_at 1 v) in
@@ -125,11 +125,11 @@ free_value v sound =
 abbrev pub SoundValues : Type 0
 SoundValues = (which : Which) (file : List ℕ) → IsSoundContainer which file → IsSoundValue which (root_value_of_payload which (payload_in file))
 
-free_by : (fault : Option Cause) (v : Plain) (intent : Intent) → (fault ≡ None → IsSoundValue Tables.Intent v) → intent_unless_fault fault v ≡ Some intent → HasFreeDistinctNames intent
-free_by None v intent sound is = let same : intent_of_value v ≡ intent = cc in subst HasFreeDistinctNames same (free_value v (sound refl))
+free_by : (fault : Option Cause) (v : Plain) (intent : Intent) → (fault ≡ None → IsSoundValue Tables.Intent v) → intent_unless_fault fault v ≡ Some intent → HasFreeNamesAndUnrepeatedWrites intent
+free_by None v intent sound is = let same : intent_of_value v ≡ intent = cc in subst HasFreeNamesAndUnrepeatedWrites same (free_value v (sound refl))
 free_by (Some c) v intent sound is = absurd (cc)
 
-pub free_intent : SoundValues → (file : List ℕ) (intent : Intent) → read_intent file ≡ Some intent → HasFreeDistinctNames intent
+pub free_intent : SoundValues → (file : List ℕ) (intent : Intent) → read_intent file ≡ Some intent → HasFreeNamesAndUnrepeatedWrites intent
 unfolding read_intent
 free_intent values file intent is = free_by (container_fault_except_contents Tables.Intent file) (root_value_of_payload Tables.Intent (payload_in file)) intent (values Tables.Intent file) is
 

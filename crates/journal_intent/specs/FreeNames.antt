@@ -42,7 +42,7 @@ HaveNoRepeats (name ∷ names) = IsNoneOf name names × HaveNoRepeats names
 
 -- the names of an intent are free, no written name is repeated, and no name is both written and removed; a removed
 -- name may be repeated
-pub record HasFreeDistinctNames (intent : Intent) : Type 0 where
+pub record HasFreeNamesAndUnrepeatedWrites (intent : Intent) : Type 0 where
   -- no removed name is used by the journal
   pub removals : AreFreeNames intent.removals
   -- no written name is used by the journal

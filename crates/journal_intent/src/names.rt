@@ -4,7 +4,7 @@
 //! law of free names in `docs/formats.md`, "The texts" and "Names that stand twice".
 
 ghost use Rattle.std.specs.Prelude.{◌≡◌, IfOk, ◌≢◌, ◌<◌, ◌^◌, ◌++◌, ℕ, true, List, Some, None};
-ghost use Rattle.journal_intent.specs.FreeNames.{stage_names_from, HasFreeDistinctNames, IsIntentNameOrNumberedStageName};
+ghost use Rattle.journal_intent.specs.FreeNames.{stage_names_from, HasFreeNamesAndUnrepeatedWrites, IsIntentNameOrNumberedStageName};
 ghost use Rattle.journal_intent.specs.Intent.{intent_name, stage_folder, stage_name, AreDistinctNamesAllowedInIntent, Intent, intent_of_value, is_staged, read_intent};
 ghost use Rattle.adb_sound.specs.adb_schema.Soundness.{container_fault_except_contents, payload_in, root_value_of_payload};
 ghost use Rattle.adb_view.specs.declared.tables.Which.TheVariants.{Intent as IntentTable};
@@ -90,7 +90,7 @@ pub fn no_name_of_the_journal_is_a_folder_of_another()
 /// the staging area, no write is repeated, and no written name is removed.
 pub fn a_read_intent_has_free_names()
     ensures { (file : List ℕ) (intent : Intent) → read_intent file ≡ Some intent
-        → HasFreeDistinctNames intent }
+        → HasFreeNamesAndUnrepeatedWrites intent }
 {
     // A law that the proof needs; it computes nothing.
     sound_containers_hold_sound_values();
@@ -101,5 +101,5 @@ pub fn a_read_intent_has_free_names()
 pub fn the_names_of_a_change_are_free()
     ensures { (removals writes : List (List ℕ)) → AreDistinctNamesAllowedInIntent (removals
         ++ writes)
-        → HasFreeDistinctNames (intent_of_lists removals writes) }
+        → HasFreeNamesAndUnrepeatedWrites (intent_of_lists removals writes) }
 {}

@@ -6,7 +6,7 @@ ghost use Rattle.adb_sound.specs.adb_schema.ReadFaults.{IsReadFault};
 ghost use Rattle.adb_sound.specs.adb_schema.Soundness.{container_fault_except_contents};
 ghost use Rattle.adb_view.specs.declared.tables.Which.TheVariants.{Intent as IntentTable};
 ghost use Rattle.adb_sound.specs.adb_write.Canonical.{overflow_of};
-ghost use Rattle.journal_intent.specs.FreeNames.{HasFreeDistinctNames, stage_names_from};
+ghost use Rattle.journal_intent.specs.FreeNames.{HasFreeNamesAndUnrepeatedWrites, stage_names_from};
 ghost use Rattle.journal_intent.specs.Intent.{AreDistinctNamesAllowedInIntent, intent_name, read_intent, stage_name};
 ghost use Rattle.journal_intent.specs.IntentValue.{intent_of_lists, value_of_intent};
 
@@ -190,7 +190,7 @@ impl PreparedIntent {
     /// names.
     pub fn names_are_free(&self)
         // No name belongs to the journal, no write is repeated, and no written name is removed.
-        ensures free { HasFreeDistinctNames self.now }
+        ensures free { HasFreeNamesAndUnrepeatedWrites self.now }
         // The names can be counted in 64 bits.
         ensures few { length self.now.removals + length self.now.writes < 2 ^ 63 }
     {

@@ -10,11 +10,11 @@ use Rattle.base_core.specs.Crash.{Since}
 use Rattle.base_core.specs.Undone.{IsDurable}
 use Rattle.journal_core.specs.adb_schema.Soundness.{container_fault_except_contents}
 use Rattle.adb_view.specs.declared.tables.Which.TheVariants.{Intent as IntentTable}
-use Rattle.journal_core.specs.Kept.{HasOldOrNewBytesOutsideJournal, RecoversTo}
+use Rattle.journal_core.specs.Kept.{ReadsOldOrNewBytesOutsideJournal, RecoversTo}
 use Rattle.journal_core.specs.Recovering.{IsIntentReplayed}
 use Rattle.journal_core.specs.Recovery.{EachCrashLeavesStateOf, StateDependsOn, intent_name, intent_in_file, intent_of, recovered_files, files_after_intent}
 use Rattle.journal_core.specs.Quiet.{StateIsUnchanged}
-use Rattle.journal_core.specs.Staged.{AreJournalPathsFreeIfIntentIsReplayed, IsIntentFault}
+use Rattle.journal_core.specs.Staged.{AreJournalPathsFreeAfterReplayIfAny, IsIntentFault}
 use Rattle.journal_core.proofs.History.{History, no_more, none_since, on_observable, observable_map}
 use Rattle.journal_core.proofs.OneCall.{now_is}
 
@@ -55,9 +55,9 @@ module _ (old mid new : History) (same : mid ≡ old) (name file : List ℕ) (na
   found_reads told =
       both_told old (λ v. There v → Since (RecoversTo (recovered_files (files_of v))) mid new) There _ (λ v t at. subst (λ (l : History). Since (RecoversTo (recovered_files (files_of v))) l new) same (t at)) (back _ told) there
 
-  pub found_bytes : IfObservable mid (λ v. There v → Since (HasOldOrNewBytesOutsideJournal (files_of v) (recovered_files (files_of v))) mid new) → IfObservable old (λ v. Since (HasOldOrNewBytesOutsideJournal (files_of v) (recovered_files (files_of v))) old new)
+  pub found_bytes : IfObservable mid (λ v. There v → Since (ReadsOldOrNewBytesOutsideJournal (files_of v) (recovered_files (files_of v))) mid new) → IfObservable old (λ v. Since (ReadsOldOrNewBytesOutsideJournal (files_of v) (recovered_files (files_of v))) old new)
   found_bytes told =
-      both_told old (λ v. There v → Since (HasOldOrNewBytesOutsideJournal (files_of v) (recovered_files (files_of v))) mid new) There _ (λ v t at. subst (λ (l : History). Since (HasOldOrNewBytesOutsideJournal (files_of v) (recovered_files (files_of v))) l new) same (t at)) (back _ told) there
+      both_told old (λ v. There v → Since (ReadsOldOrNewBytesOutsideJournal (files_of v) (recovered_files (files_of v))) mid new) There _ (λ v t at. subst (λ (l : History). Since (ReadsOldOrNewBytesOutsideJournal (files_of v) (recovered_files (files_of v))) l new) same (t at)) (back _ told) there
 
   pub found_replayed : {T E : Type 0} (r : Result T E) → IfObservable mid (λ v. There v → OnOk r (HoldsNow new (IsIntentReplayed v))) → IfObservable old (λ v. OnOk r (HoldsNow new (IsIntentReplayed v)))
   found_replayed r told = both_told old (λ v. There v → OnOk r (HoldsNow new (IsIntentReplayed v))) There _ (λ v t at. t at) (back _ told) there
@@ -66,9 +66,9 @@ module _ (old mid new : History) (same : mid ≡ old) (name file : List ℕ) (na
       → IfObservable old (λ v. (ignored : List ℕ → Bool) → IsDurable (StateDependsOn ignored) v → IsSome (intent_of (files_of v)) → OnOk r (HoldsNow new (EachCrashLeavesStateOf ignored (recovered_files (files_of v)))))
   found_settled r told = both_told old (λ v. (ignored : List ℕ → Bool) → IsDurable (StateDependsOn ignored) v → There v → OnOk r (HoldsNow new (EachCrashLeavesStateOf ignored (recovered_files (files_of v))))) There _ (λ v t at ignored is_durable some. t ignored is_durable at) (back _ told) there
 
-  pub found_proper : (a b c : ℕ) → IfObservable old (λ v. b ≡ a) → IfObservable mid (λ v. There v → AreJournalPathsFreeIfIntentIsReplayed (files_of v) → c ≡ b) → IfObservable old (λ v. AreJournalPathsFreeIfIntentIsReplayed (files_of v) → c ≡ a)
-  found_proper a b c first told = both_told old (λ v. (b ≡ a) × (There v → AreJournalPathsFreeIfIntentIsReplayed (files_of v) → c ≡ b)) There _ (λ v t at room. t.1 at room ∙ t.0)
-      (both_told old (λ v. b ≡ a) (λ v. There v → AreJournalPathsFreeIfIntentIsReplayed (files_of v) → c ≡ b) _ (λ v x y. (x, y)) first (back _ told)) there
+  pub found_proper : (a b c : ℕ) → IfObservable old (λ v. b ≡ a) → IfObservable mid (λ v. There v → AreJournalPathsFreeAfterReplayIfAny (files_of v) → c ≡ b) → IfObservable old (λ v. AreJournalPathsFreeAfterReplayIfAny (files_of v) → c ≡ a)
+  found_proper a b c first told = both_told old (λ v. (b ≡ a) × (There v → AreJournalPathsFreeAfterReplayIfAny (files_of v) → c ≡ b)) There _ (λ v t at room. t.1 at room ∙ t.0)
+      (both_told old (λ v. b ≡ a) (λ v. There v → AreJournalPathsFreeAfterReplayIfAny (files_of v) → c ≡ b) _ (λ v x y. (x, y)) first (back _ told)) there
 
   pub found_idle : (B : Type 0) → IfObservable old (λ v. v.names intent_name ≡ None → B)
   found_idle B = observable_map old There _ there (λ v at none. absurd (let here : files_of v intent_name ≡ None = ap (bytes_of_file_number v.files) none in cc (here, at)))

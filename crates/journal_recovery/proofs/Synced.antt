@@ -7,11 +7,11 @@ use Rattle.base_core.specs.Files.{NameMap}
 use Rattle.base_core.proofs.Undone.{read_may_be_left}
 use Rattle.base_core.specs.Tree.{TreeState, IsAlwaysAllowed, after_sync_names, files_of, unchanged_after_failed_call}
 use Rattle.base_core.specs.Undone.{IsDurable}
-use Rattle.journal_core.specs.Kept.{HasOldOrNewBytesOutsideJournal, IsRestoredByNoCrash, KeepsFilesExcept, RecoversTo, NamesOutsideJournalAreDurable}
+use Rattle.journal_core.specs.Kept.{ReadsOldOrNewBytesOutsideJournal, IsAbsentAfterEachCrash, KeepsFilesExcept, RecoversTo, NamesOutsideJournalAreDurable}
 use Rattle.journal_core.specs.Quiet.{StateIsUnchanged}
 use Rattle.journal_core.specs.Recovering.{AreStagedNames, IsIntentReplayed, HasRemovedNames}
 use Rattle.journal_core.specs.Recovery.{EachCrashLeavesStateOf, StateDependsOn, intent_name, is_staged, recovered_files}
-use Rattle.journal_core.specs.Staged.{AreJournalPathsFreeIfIntentIsReplayed}
+use Rattle.journal_core.specs.Staged.{AreJournalPathsFreeAfterReplayIfAny}
 use Rattle.journal_core.proofs.Acts.{still_on, sync_still}
 use Rattle.journal_core.proofs.Changes.{gone_synced}
 use Rattle.journal_core.proofs.History.{History, none_since, now_map, observable_at, observable_map, on_observable, one_more, since_on, since_weaker}
@@ -36,8 +36,8 @@ module _ {T E : Type 0} (old new : History) (r : Result T E) (moves : ChangesHis
   pub sync_reads : IfObservable old (λ v. Since (RecoversTo (recovered_files (files_of v))) old new)
   sync_reads = on_observable old _ (λ v rest is. one_called old new v rest is (RecoversTo (recovered_files (files_of v))) r moves refl (λ may. refl))
 
-  pub sync_bytes : IfObservable old (λ v. Since (HasOldOrNewBytesOutsideJournal (files_of v) (recovered_files (files_of v))) old new)
-  sync_bytes = on_observable old _ (λ v rest is. one_called old new v rest is (HasOldOrNewBytesOutsideJournal (files_of v) (recovered_files (files_of v))) r moves (λ q shown. inl refl) (λ may q shown. inl refl))
+  pub sync_bytes : IfObservable old (λ v. Since (ReadsOldOrNewBytesOutsideJournal (files_of v) (recovered_files (files_of v))) old new)
+  sync_bytes = on_observable old _ (λ v rest is. one_called old new v rest is (ReadsOldOrNewBytesOutsideJournal (files_of v) (recovered_files (files_of v))) r moves (λ q shown. inl refl) (λ may q shown. inl refl))
 
   pub sync_lasts : IfObservable old (λ v. IsSome (v.names intent_name) → Since (λ w. w.names intent_name ≡ None → NamesOutsideJournalAreDurable w) old new)
   sync_lasts = on_observable old _ (λ v rest is some.
@@ -92,32 +92,32 @@ module _ (file : List ℕ) where
     found_settled told = on_observable old _ (λ v rest is ignored is_durable there.
         at_mid old mid new x moves v rest is (λ u. (Y : List ℕ → Bool) → IsDurable (StateDependsOn Y) u → IsFound u → u.older ≡ [] → HoldsNow new (EachCrashLeavesStateOf Y (recovered_files (files_of u)))) told ignored (sync_still ignored v is_durable).is_durable there refl)
 
-    pub found_proper : (a b c : ℕ) → IfObservable old (λ v. b ≡ a) → IfObservable mid (λ u. IsFound u → u.older ≡ [] → AreJournalPathsFreeIfIntentIsReplayed (files_of u) → c ≡ b) → IfObservable old (λ v. IsFound v → AreJournalPathsFreeIfIntentIsReplayed (files_of v) → c ≡ a)
+    pub found_proper : (a b c : ℕ) → IfObservable old (λ v. b ≡ a) → IfObservable mid (λ u. IsFound u → u.older ≡ [] → AreJournalPathsFreeAfterReplayIfAny (files_of u) → c ≡ b) → IfObservable old (λ v. IsFound v → AreJournalPathsFreeAfterReplayIfAny (files_of v) → c ≡ a)
     found_proper a b c first told = on_observable old _ (λ v rest is there room.
-        at_mid old mid new x moves v rest is (λ u. IsFound u → u.older ≡ [] → AreJournalPathsFreeIfIntentIsReplayed (files_of u) → c ≡ b) told there refl room ∙ observable_at old v rest is (λ u. b ≡ a) first)
+        at_mid old mid new x moves v rest is (λ u. IsFound u → u.older ≡ [] → AreJournalPathsFreeAfterReplayIfAny (files_of u) → c ≡ b) told there refl room ∙ observable_at old v rest is (λ u. b ≡ a) first)
 
   -- only the call itself
   module _ (old mid : History) where
     pub alone_moments : IfObservable old (λ v. (ignored : List ℕ → Bool) → IsDurable (StateDependsOn ignored) v → Since (StateIsUnchanged ignored v) old mid) → IfObservable old (λ v. (ignored : List ℕ → Bool) → IsDurable (StateDependsOn ignored) v → IsFound v → Since (StateIsUnchanged ignored v) old mid)
     alone_moments told = observable_map old _ _ told (λ v t ignored is_durable there. t ignored is_durable)
 
-    pub alone_bytes : IfObservable old (λ v. Since (HasOldOrNewBytesOutsideJournal (files_of v) (recovered_files (files_of v))) old mid) → IfObservable old (λ v. IsFound v → Since (HasOldOrNewBytesOutsideJournal (files_of v) (recovered_files (files_of v))) old mid)
+    pub alone_bytes : IfObservable old (λ v. Since (ReadsOldOrNewBytesOutsideJournal (files_of v) (recovered_files (files_of v))) old mid) → IfObservable old (λ v. IsFound v → Since (ReadsOldOrNewBytesOutsideJournal (files_of v) (recovered_files (files_of v))) old mid)
     alone_bytes told = observable_map old _ _ told (λ v t there. t)
 
     pub alone_reads : IfObservable old (λ v. Since (RecoversTo (recovered_files (files_of v))) old mid) → IfObservable old (λ v. IsFound v → Since (RecoversTo (recovered_files (files_of v))) old mid)
     alone_reads told = observable_map old _ _ told (λ v t there. t)
 
-    pub alone_proper : (a b : ℕ) → IfObservable old (λ v. b ≡ a) → IfObservable old (λ v. IsFound v → AreJournalPathsFreeIfIntentIsReplayed (files_of v) → b ≡ a)
+    pub alone_proper : (a b : ℕ) → IfObservable old (λ v. b ≡ a) → IfObservable old (λ v. IsFound v → AreJournalPathsFreeAfterReplayIfAny (files_of v) → b ≡ a)
     alone_proper a b told = observable_map old _ _ told (λ v t there room. t)
 
 -- ---- names are removed
 
 module _ {T E : Type 0} (names : List (List ℕ)) (old mid new : History) (x : T) (moves : ChangesHistory {E = E} IsAlwaysAllowed after_sync_names unchanged_after_failed_call old mid (Ok x)) where
-  pub clear_moments : IfObservable mid (λ u. (ignored : List ℕ → Bool) → IsDurable (StateDependsOn ignored) u → IsRestoredByNoCrash intent_name u → AreStagedNames names → Since (StateIsUnchanged ignored u) mid new)
+  pub clear_moments : IfObservable mid (λ u. (ignored : List ℕ → Bool) → IsDurable (StateDependsOn ignored) u → IsAbsentAfterEachCrash intent_name u → AreStagedNames names → Since (StateIsUnchanged ignored u) mid new)
       → IfObservable old (λ v. (ignored : List ℕ → Bool) → IsDurable (StateDependsOn ignored) v → v.names intent_name ≡ None → AreStagedNames names → Since (StateIsUnchanged ignored v) old new)
   clear_moments told = on_observable old _ (λ v rest is ignored is_durable none staged.
       let still = sync_still ignored v is_durable in
-      let since = at_mid old mid new x moves v rest is (λ u. (Y : List ℕ → Bool) → IsDurable (StateDependsOn Y) u → IsRestoredByNoCrash intent_name u → AreStagedNames names → Since (StateIsUnchanged Y u) mid new) told ignored still.is_durable (gone_synced intent_name v none) staged in
+      let since = at_mid old mid new x moves v rest is (λ u. (Y : List ℕ → Bool) → IsDurable (StateDependsOn Y) u → IsAbsentAfterEachCrash intent_name u → AreStagedNames names → Since (StateIsUnchanged Y u) mid new) told ignored still.is_durable (gone_synced intent_name v none) staged in
       after old mid new x moves (StateIsUnchanged ignored v) v rest is still (since_weaker (StateIsUnchanged ignored (after_sync_names v)) (StateIsUnchanged ignored v) mid new (λ w. still_on ignored v (after_sync_names v) w still) since))
 
   pub clear_shown : IfObservable mid (λ u. AreStagedNames names → Since (KeepsFilesExcept (λ q. is_staged q ≡ true) u) mid new) → IfObservable old (λ v. AreStagedNames names → Since (KeepsFilesExcept (λ q. is_staged q ≡ true) v) old new)
@@ -138,10 +138,10 @@ module _ {T E : Type 0} (names : List (List ℕ)) (old mid new : History) (x : T
   clear_cleared (Ok y) told = on_observable old _ (λ v rest is.
       now_map new (HasRemovedNames names (after_sync_names v)) (HasRemovedNames names v) (at_mid old mid new x moves v rest is (λ u. HoldsNow new (HasRemovedNames names u)) told) (λ w r. record { map = r.map; files = r.files }))
 
-  pub clear_gone : {A B : Type 0} (r : Result A B) → IfObservable mid (λ u. OnOk r (IsRestoredByNoCrash intent_name u → HoldsNow new (IsRestoredByNoCrash intent_name))) → IfObservable old (λ v. OnOk r (IsRestoredByNoCrash intent_name v → HoldsNow new (IsRestoredByNoCrash intent_name)))
+  pub clear_gone : {A B : Type 0} (r : Result A B) → IfObservable mid (λ u. OnOk r (IsAbsentAfterEachCrash intent_name u → HoldsNow new (IsAbsentAfterEachCrash intent_name))) → IfObservable old (λ v. OnOk r (IsAbsentAfterEachCrash intent_name v → HoldsNow new (IsAbsentAfterEachCrash intent_name)))
   clear_gone (Err e) told = on_observable old _ (λ v rest is. tt)
   clear_gone (Ok y) told = on_observable old _ (λ v rest is away.
-      at_mid old mid new x moves v rest is (λ u. IsRestoredByNoCrash intent_name u → HoldsNow new (IsRestoredByNoCrash intent_name)) told (gone_synced intent_name v (away v.names (read_may_be_left v))))
+      at_mid old mid new x moves v rest is (λ u. IsAbsentAfterEachCrash intent_name u → HoldsNow new (IsAbsentAfterEachCrash intent_name)) told (gone_synced intent_name v (away v.names (read_may_be_left v))))
 
   pub clear_proper : (a b c : ℕ) → IfObservable old (λ v. b ≡ a) → IfObservable mid (λ u. c ≡ b) → IfObservable old (λ v. c ≡ a)
   clear_proper a b c first told = on_observable old _ (λ v rest is. at_mid old mid new x moves v rest is (λ u. c ≡ b) told ∙ observable_at old v rest is (λ u. b ≡ a) first)

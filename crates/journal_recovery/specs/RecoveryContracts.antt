@@ -9,7 +9,7 @@ use Rattle.base_core.specs.Faults.{Counts, CountsOnlyRise, IsFaultCountedWithCau
 use Rattle.base_core.specs.Tree.{TreeState, files_of}
 use Rattle.base_core.specs.declared.cause.Cause.{Cause}
 use Rattle.journal_core.specs.adb_schema.Soundness.{container_fault_except_contents}
-use Rattle.journal_core.specs.Kept.{IsRestoredByNoCrash, JournalOnlyShrinks, KeepsFilesExcept, NamesOutsideJournalAreDurable}
+use Rattle.journal_core.specs.Kept.{IsAbsentAfterEachCrash, JournalOnlyShrinks, KeepsFilesExcept, NamesOutsideJournalAreDurable}
 use Rattle.journal_core.specs.Recovering.{AreStagedNames, HasRemovedNames}
 use Rattle.journal_core.specs.Recovery.{intent_name, is_staged}
 use Rattle.journal_core.specs.Staged.{IsIntentFault}
@@ -69,7 +69,7 @@ pub record RemovesStagedNames {T E : Type 0} (names : List (List ℕ)) (old now 
   -- once Ok is returned, the names lead to no file, and nothing else has changed
   pub cleared : IfObservable old (λ v. OnOk result (HoldsNow now (HasRemovedNames names v)))
   -- once Ok is returned, no crash restores an intent, if none could at the start
-  pub gone : IfObservable old (λ v. OnOk result (IsRestoredByNoCrash intent_name v
-      → HoldsNow now (IsRestoredByNoCrash intent_name)))
+  pub gone : IfObservable old (λ v. OnOk result (IsAbsentAfterEachCrash intent_name v
+      → HoldsNow now (IsAbsentAfterEachCrash intent_name)))
   -- if there are no names to be removed, the history is unchanged
   pub none : names ≡ [] → now ≡ old

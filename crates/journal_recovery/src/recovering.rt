@@ -11,11 +11,11 @@ ghost use Rattle.base_core.specs.Faults.{CountsOnlyRise, IsFaultCountedWithCause
 ghost use Rattle.base_core.specs.Tree.{files_of};
 ghost use Rattle.base_core.specs.declared.cause.Cause.{Cause};
 ghost use Rattle.journal_core.specs.CallCounts.{IsResultExplainedByCounts};
-ghost use Rattle.journal_core.specs.Kept.{HasOldOrNewBytesOutsideJournal, IsRestoredByNoCrash, JournalOnlyShrinks, KeepsFilesExcept, RecoversTo, NamesOutsideJournalAreDurable};
+ghost use Rattle.journal_core.specs.Kept.{ReadsOldOrNewBytesOutsideJournal, IsAbsentAfterEachCrash, JournalOnlyShrinks, KeepsFilesExcept, RecoversTo, NamesOutsideJournalAreDurable};
 ghost use Rattle.journal_core.specs.Quiet.{StateIsUnchanged};
 ghost use Rattle.journal_core.specs.Recovering.{AreStagedNames, HasEmptiedStage, IsIntentReplayed};
 ghost use Rattle.journal_core.specs.Recovery.{EachCrashLeavesStateOf, StateDependsOn, intent_name, intent_of, is_staged, recovered_files};
-ghost use Rattle.journal_core.specs.Staged.{AreJournalPathsFreeIfIntentIsReplayed, HasNoStagedNames, unstaged_files};
+ghost use Rattle.journal_core.specs.Staged.{AreJournalPathsFreeAfterReplayIfAny, HasNoStagedNames, unstaged_files};
 ghost use Rattle.journal_recovery.specs.RecoveryContracts.{IsRecoveryExplainedByCounts, RefusesOnlyBadIntent, RemovesIntentLast, RemovesStagedNames};
 
 use base_core::{Disk, Names, Tree, TreeFault, read_all};
@@ -45,7 +45,7 @@ pub fn recover<T: Tree>(alloc: Global, tree: &mut T) -> Result<(), RecoverFault>
     // At each moment a name outside the journal has, as read, its old bytes or those that recovery
     // yields.
     ensures bytes { IfObservable (T.history tree.old) (λ v.
-        Since (HasOldOrNewBytesOutsideJournal (files_of v) (unstaged_files (files_of v)))
+        Since (ReadsOldOrNewBytesOutsideJournal (files_of v) (unstaged_files (files_of v)))
         (T.history tree.old) (T.history tree.new)) }
 
     // Once Ok is returned, the files as read are those that recovery yields: all actions of the
@@ -67,7 +67,7 @@ pub fn recover<T: Tree>(alloc: Global, tree: &mut T) -> Result<(), RecoverFault>
 
     // Once Ok is returned, no crash restores an intent that it found.
     ensures gone { IfObservable (T.history tree.old) (λ v. IsSome (v.names intent_name)
-        → OnOk result (HoldsNow (T.history tree.new) (IsRestoredByNoCrash intent_name))) }
+        → OnOk result (HoldsNow (T.history tree.new) (IsAbsentAfterEachCrash intent_name))) }
 
     // If there is no intent and no staged file, the tree's history is unchanged.
     ensures idle { IfObservable (T.history tree.old) (λ v. v.names intent_name ≡ None
@@ -83,7 +83,7 @@ pub fn recover<T: Tree>(alloc: Global, tree: &mut T) -> Result<(), RecoverFault>
     // No call is a misuse, if no intent is found; or if the paths of the intent and of the staged
     // files are free among the files that recovery yields.
     ensures proper { IfObservable (T.history tree.old)
-        (λ v. AreJournalPathsFreeIfIntentIsReplayed (files_of v)
+        (λ v. AreJournalPathsFreeAfterReplayIfAny (files_of v)
         → (T.counts tree.new).misuses ≡ (T.counts tree.old).misuses) }
 {
     replay(alloc, tree)?;
@@ -105,7 +105,7 @@ fn replay<T: Tree>(alloc: Global, tree: &mut T) -> Result<(), RecoverFault>
     // At each moment a name outside the journal has, as read, its old bytes or those that recovery
     // yields.
     ensures bytes { IfObservable (T.history tree.old) (λ v.
-        Since (HasOldOrNewBytesOutsideJournal (files_of v) (recovered_files (files_of v)))
+        Since (ReadsOldOrNewBytesOutsideJournal (files_of v) (recovered_files (files_of v)))
         (T.history tree.old) (T.history tree.new)) }
     // Once Ok is returned, all actions of the intent are done, and no intent is read.
     ensures replayed { IfObservable (T.history tree.old) (λ v.
@@ -120,7 +120,7 @@ fn replay<T: Tree>(alloc: Global, tree: &mut T) -> Result<(), RecoverFault>
     ensures journal { RemovesIntentLast (T.history tree.old) (T.history tree.new) }
     // If an intent was found: once Ok is returned, no crash restores it.
     ensures gone { IfObservable (T.history tree.old) (λ v. IsSome (v.names intent_name)
-        → OnOk result (IfObservable (T.history tree.new) (IsRestoredByNoCrash intent_name))) }
+        → OnOk result (IfObservable (T.history tree.new) (IsAbsentAfterEachCrash intent_name))) }
     // If there is no intent, the tree's history is unchanged.
     ensures idle { IfObservable (T.history tree.old) (λ v. v.names intent_name ≡ None
         → T.history tree.new ≡ T.history tree.old) }
@@ -132,7 +132,7 @@ fn replay<T: Tree>(alloc: Global, tree: &mut T) -> Result<(), RecoverFault>
     // No call is a misuse, if no intent is found; or if the paths of the intent and of the staged
     // files are free among the files that recovery yields.
     ensures proper { IfObservable (T.history tree.old)
-        (λ v. AreJournalPathsFreeIfIntentIsReplayed (files_of v)
+        (λ v. AreJournalPathsFreeAfterReplayIfAny (files_of v)
         → (T.counts tree.new).misuses ≡ (T.counts tree.old).misuses) }
 {
     let name = intent_name(alloc)?;
@@ -159,7 +159,7 @@ fn replay_file<T: Tree>(alloc: Global, tree: &mut T, file: Vec<u8>) -> Result<()
     // yields.
     ensures bytes { IfObservable (T.history tree.old) (λ v. files_of v intent_name
         ≡ Some file.items
-        → Since (HasOldOrNewBytesOutsideJournal (files_of v) (recovered_files (files_of v)))
+        → Since (ReadsOldOrNewBytesOutsideJournal (files_of v) (recovered_files (files_of v)))
         (T.history tree.old) (T.history tree.new)) }
     // Once Ok is returned, all actions of the intent are done, and no intent is read.
     ensures replayed { IfObservable (T.history tree.old) (λ v. files_of v intent_name
@@ -174,7 +174,7 @@ fn replay_file<T: Tree>(alloc: Global, tree: &mut T, file: Vec<u8>) -> Result<()
     ensures journal { RemovesIntentLast (T.history tree.old) (T.history tree.new) }
     // Once Ok is returned, no crash restores the intent.
     ensures gone { OnOk result (IfObservable (T.history tree.new)
-        (IsRestoredByNoCrash intent_name)) }
+        (IsAbsentAfterEachCrash intent_name)) }
     // If the file is refused, it is no intent container, and nothing has changed.
     ensures bad { (cause : Cause) → IsErrOf result (RecoverFault.IntentBad cause)
         → (T.history tree.new ≡ T.history tree.old)
@@ -191,7 +191,7 @@ fn replay_file<T: Tree>(alloc: Global, tree: &mut T, file: Vec<u8>) -> Result<()
     // No call is a misuse, if no intent is found; or if the paths of the intent and of the staged
     // files are free among the files that recovery yields.
     ensures proper { IfObservable (T.history tree.old) (λ v. files_of v intent_name
-        ≡ Some file.items → AreJournalPathsFreeIfIntentIsReplayed (files_of v)
+        ≡ Some file.items → AreJournalPathsFreeAfterReplayIfAny (files_of v)
         → (T.counts tree.new).misuses ≡ (T.counts tree.old).misuses) }
 {
     let mut stage = Stage::found(alloc, file)?;
@@ -222,8 +222,8 @@ fn empty_stage<T: Tree>(alloc: Global, tree: &mut T) -> Result<(), TreeFault>
         OnOk result (HoldsNow (T.history tree.new) (HasEmptiedStage v))) }
     // Once Ok is returned, no crash restores an intent, if none could at the start.
     ensures gone { IfObservable (T.history tree.old) (λ v. OnOk result
-        (IsRestoredByNoCrash intent_name v
-        → HoldsNow (T.history tree.new) (IsRestoredByNoCrash intent_name))) }
+        (IsAbsentAfterEachCrash intent_name v
+        → HoldsNow (T.history tree.new) (IsAbsentAfterEachCrash intent_name))) }
     // If no file is staged, the tree's history is unchanged.
     ensures idle { IfObservable (T.history tree.old) (λ v. HasNoStagedNames v.names
         → T.history tree.new ≡ T.history tree.old) }
@@ -283,7 +283,7 @@ fn remove_all<T: Tree>(tree: &mut T, names: &Names) -> Result<(), Disk>
     // If the names are all in the staging area of a durable tree, and no crash restores an intent,
     // each moment is durable, and the state is unchanged.
     ensures moments { IfObservable (T.history tree.old) (λ v. (ignored : List ℕ → Bool)
-        → IsDurable (StateDependsOn ignored) v → IsRestoredByNoCrash intent_name v
+        → IsDurable (StateDependsOn ignored) v → IsAbsentAfterEachCrash intent_name v
         → AreStagedNames names.now
         → Since (StateIsUnchanged ignored v) (T.history tree.old) (T.history tree.new)) }
     // The names are removed, if all are in the staging area, and nothing else changes.

@@ -18,8 +18,8 @@ use Rattle.make_index.specs.adb_fields.FirstPair.{IsIn}
 use Rattle.make_index.specs.adb_fields.Repeated.{repeated_file_in_folder_of_packages, files_in, repeated_folder_in_one_of_packages, folders_in, name_of, numbered_from, repeated_fault, least_pair_of_repeated_name_in_one_list}
 use Rattle.make_index.specs.adb_fields.FirstPair.{IsPairOfRepeatedNameInOneList}
 use Rattle.adb_view.specs.declared.tables.Which.TheVariants.{Package}
-use Rattle.make_package.specs.package_files.Folders.{with_folders_inserted, sorted_names_without_repeats, with_folder_inserted, with_folder_inserted_by_cmp_with_first}
-use Rattle.make_package.specs.package_files.Package.{Script, Source, SourceFolder, value_of_file, value_of_folder, value_of_package, kind_of_file}
+use Rattle.make_package.specs.package_files.Folders.{sorted_folders_with_names_inserted, sorted_names_without_repeats, with_folder_inserted, with_folder_inserted_by_cmp_with_first}
+use Rattle.make_package.specs.package_files.Package.{Script, SourceFile, SourceFolder, value_of_file, value_of_folder, value_of_package, kind_of_file}
 use Rattle.make_core.proofs.PackageFiles.{files_stand, folder_name_stands, folders_stand, name_stands}
 
 abbrev pub cmp : List ℕ → List ℕ → Ordering
@@ -82,7 +82,7 @@ placed_rises name (x ∷ xs) r = by_order (cmp name x) refl (placed_rises name x
     by_order Equal e further = r
     by_order Greater e further = (λ q here. below_placed x name xs (nat_list_cmp_total.antisymm x name ∙ ap ordering_reverse e) r.0 q (placed_in q name xs here), further)
 
-all_placed_rises : (so_far names : List (List ℕ)) → Rises so_far → Rises (with_folders_inserted so_far names)
+all_placed_rises : (so_far names : List (List ℕ)) → Rises so_far → Rises (sorted_folders_with_names_inserted so_far names)
 all_placed_rises so_far [] r = r
 all_placed_rises so_far (name ∷ names) r = all_placed_rises (with_folder_inserted name so_far) names (placed_rises name so_far r)
 
@@ -97,7 +97,7 @@ either_in q name so_far names (inl here) = shift (placed_in q name so_far here)
     shift (inl is) = inr (inl is)
     shift (inr more) = inl more
 
-all_placed_in : (q : List ℕ) (so_far names : List (List ℕ)) → IsIn q (with_folders_inserted so_far names) → IsIn q so_far ⊎ IsIn q names
+all_placed_in : (q : List ℕ) (so_far names : List (List ℕ)) → IsIn q (sorted_folders_with_names_inserted so_far names) → IsIn q so_far ⊎ IsIn q names
 all_placed_in q so_far [] h = inl h
 all_placed_in q so_far (name ∷ names) h = either_in q name so_far names (all_placed_in q (with_folder_inserted name so_far) names h)
 
@@ -142,8 +142,8 @@ none_twice tells lists apart = none_by lists (least_pair_of_repeated_name_in_one
 
 -- ---- in a package
 
-abbrev pub source_names : List Source → List (List ℕ)
-source_names files = map (λ (file : Source). file.name) files
+abbrev pub source_names : List SourceFile → List (List ℕ)
+source_names files = map (λ (file : SourceFile). file.name) files
 
 abbrev pub folder_names_of : List SourceFolder → List (List ℕ)
 folder_names_of folders = map (λ (folder : SourceFolder). folder.name) folders
@@ -152,7 +152,7 @@ abbrev pub AreApartFiles : List SourceFolder → Type 0
 AreApartFiles [] = Unit {0}
 AreApartFiles (folder ∷ folders) = IsApart (source_names folder.files) × AreApartFiles folders
 
-names_of_files : (files : List Source) → map name_of (map value_of_file files) ≡ source_names files
+names_of_files : (files : List SourceFile) → map name_of (map value_of_file files) ≡ source_names files
 names_of_files [] = refl
 names_of_files (file ∷ files) = λ k. (name_stands file.name (kind_of_file file.bytes)) k ∷ (names_of_files files) k
 

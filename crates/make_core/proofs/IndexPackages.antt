@@ -14,7 +14,7 @@ use Rattle.command_core.specs.declared.operands.Operand.{Operand}
 use Rattle.base_core.specs.Sorted.{sorted_by}
 use Rattle.make_index.specs.Entries.{index_entry_of_package_file}
 use Rattle.make_index.specs.EntryOrder.{index_entry_cmp}
-use Rattle.make_index.specs.Files.{OperandReadsFindOnlyValidFileBytes}
+use Rattle.make_index.specs.Files.{EachOperandReadFindsNoFileOrFileBytes}
 use Rattle.make_index.specs.Index.{entry_before_others_or_fault, first_description_or_empty, entry_unless_fault, found_entries, found_entry, made_index, value_of_index}
 use Rattle.make_index.specs.make_info.Reads.{Reads}
 use Rattle.make_index.specs.make_info.Values.{plains_of_list}
@@ -101,7 +101,7 @@ in_order same sorted read operands description index (Ok entries) is e =
       sorted = subst (IsSorted index_entry_cmp) stand (sorted entries);
     }
 
-pub made_in_order : Same → Sorted → Back → Exact → Values → (command : CommandLine) (read : Reads) (bytes : List ℕ) → OperandReadsFindOnlyValidFileBytes read 0 command.operands → made_index command read ≡ Ok bytes
+pub made_in_order : Same → Sorted → Back → Exact → Values → (command : CommandLine) (read : Reads) (bytes : List ℕ) → EachOperandReadFindsNoFileOrFileBytes read 0 command.operands → made_index command read ≡ Ok bytes
     → HasSortedEntriesOfOperands read command.operands (root_value_of_payload Index (payload_in bytes))
 made_in_order same sorted back exact values command read bytes files e =
     in_order same sorted read command.operands (first_description_or_empty command.values) (root_value_of_payload Index (payload_in bytes)) (found_entries read 0 command.operands) refl

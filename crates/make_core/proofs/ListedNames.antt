@@ -11,9 +11,9 @@ use Rattle.make_index.specs.adb_fields.FirstPair.{IsIn}
 use Rattle.make_index.proofs.adb_fields.Members.{from-flat_map, from-map}
 use Rattle.make_index.specs.adb_fields.Paths.{path_of}
 use Rattle.make_index.specs.adb_schema.Rules.{is_valid_file_name_in_folder, is_folder_name}
-use Rattle.make_package.specs.package_files.Folders.{FolderListing, prefixes_before_slashes, path_relative_to, tree_names_in_package_folder, all_folders_above, folder_of, folder_listings_of, folders_above, is_slash, folder_listing_of, last_part_of}
-use Rattle.make_package.specs.package_files.Package.{Source, SourceFolder, kind_of_file, installed_size, size_of_folder, size_of_kind}
-use Rattle.make_package.specs.package_files.Sources.{and_then, results_from_read, source_file_read_at, sources_at_place_from_read, source_folder_read_at, source_folders_at_place_from_read, found_bytes_or_missing}
+use Rattle.make_package.specs.package_files.Folders.{FolderListing, prefixes_before_slashes, path_relative_to, tree_names_in_package_folder, all_folders_above, folder_of, folder_listings_by_tree_names, folders_above, is_slash, folder_listing_by_tree_names, last_part_of}
+use Rattle.make_package.specs.package_files.Package.{SourceFile, SourceFolder, kind_of_file, installed_size, size_of_folder, size_of_kind}
+use Rattle.make_package.specs.package_files.Sources.{and_then, results_from_read, source_file_at_place_by_read, source_files_at_place_from_read, source_folder_at_place_by_read, source_folders_at_place_from_read, found_bytes_or_missing}
 use Rattle.make_index.specs.make_info.Reads.{Reads}
 use Rattle.make_index.specs.make_info.declared.fault.MakeFault.{MakeFault}
 use Rattle.make_core.proofs.Apart.{AreApartFiles, IsApart, Rises, folder_names_of, in_order_in, in_order_rises, rises_apart, source_names}
@@ -169,17 +169,17 @@ each_read R count of h n (x ∷ xs) ys e =
     let same : one.x ∷ two.x ≡ ys = cc (gives) in
     subst (AllOf R (x ∷ xs)) same (h n x one.x one.is, each_read R count of h (n + count x) xs two.x two.is)
 
-abbrev IsFileOf : List ℕ → Source → Type 0
+abbrev IsFileOf : List ℕ → SourceFile → Type 0
 IsFileOf name file = file.name ≡ last_part_of name
 
-file_read : (place : ℕ) (read : Reads) (n : ℕ) (name : List ℕ) (file : Source) → source_file_read_at place read n name ≡ Ok file → IsFileOf name file
+file_read : (place : ℕ) (read : Reads) (n : ℕ) (name : List ℕ) (file : SourceFile) → source_file_at_place_by_read place read n name ≡ Ok file → IsFileOf name file
 file_read place read n name file e =
     let one = after_ok (found_bytes_or_missing place (read n name)) (λ bytes. Ok (record { name = last_part_of name; bytes = bytes })) file e in
     let gives = one.gives in
     let same : record { name = last_part_of name; bytes = one.x } ≡ file = cc (gives) in
-    ap (λ (f : Source). f.name) (sym same)
+    ap (λ (f : SourceFile). f.name) (sym same)
 
-names_read : (names : List (List ℕ)) (files : List Source) → AllOf IsFileOf names files → source_names files ≡ map last_part_of names
+names_read : (names : List (List ℕ)) (files : List SourceFile) → AllOf IsFileOf names files → source_names files ≡ map last_part_of names
 names_read [] [] h = refl
 names_read [] (file ∷ files) h = absurd h
 names_read (name ∷ names) [] h = absurd h
@@ -189,12 +189,12 @@ names_read (name ∷ names) (file ∷ files) h = λ k. h.0 k ∷ (names_read nam
 abbrev IsFolderOf : FolderListing → SourceFolder → Type 0
 IsFolderOf l s = (s.name ≡ l.name) × (source_names s.files ≡ map last_part_of l.files)
 
-folder_read : (place : ℕ) (read : Reads) (n : ℕ) (folder : FolderListing) (source : SourceFolder) → source_folder_read_at place read n folder ≡ Ok source → IsFolderOf folder source
+folder_read : (place : ℕ) (read : Reads) (n : ℕ) (folder : FolderListing) (source : SourceFolder) → source_folder_at_place_by_read place read n folder ≡ Ok source → IsFolderOf folder source
 folder_read place read n folder source e =
-    let one = after_ok (sources_at_place_from_read place read n folder.files) (λ files. Ok (record { name = folder.name; files = files })) source e in
+    let one = after_ok (source_files_at_place_from_read place read n folder.files) (λ files. Ok (record { name = folder.name; files = files })) source e in
     let gives = one.gives in
     let same : record { name = folder.name; files = one.x } ≡ source = cc (gives) in
-    let names = names_read folder.files one.x (each_read IsFileOf (λ name. 1) (source_file_read_at place read) (file_read place read) n folder.files one.x one.is) in
+    let names = names_read folder.files one.x (each_read IsFileOf (λ name. 1) (source_file_at_place_by_read place read) (file_read place read) n folder.files one.x one.is) in
     subst (IsFolderOf folder) same (refl, names)
 
 abbrev AreOf : List FolderListing → List SourceFolder → Type 0
@@ -202,7 +202,7 @@ AreOf folders sources = AllOf IsFolderOf folders sources
 
 folders_read : (place : ℕ) (read : Reads) (n : ℕ) (folders : List FolderListing) (sources : List SourceFolder) → source_folders_at_place_from_read place read n folders ≡ Ok sources → AreOf folders sources
 folders_read place read n folders sources e =
-    each_read IsFolderOf (λ (folder : FolderListing). length folder.files) (source_folder_read_at place read) (folder_read place read) n folders sources e
+    each_read IsFolderOf (λ (folder : FolderListing). length folder.files) (source_folder_at_place_by_read place read) (folder_read place read) n folders sources e
 
 -- ---- so they may stand in a package
 
@@ -216,7 +216,7 @@ pub record AreSources (sources : List SourceFolder) : Type 0 where
   pub files_apart : AreApartFiles sources
 
 module _ (dir : List ℕ) (names : List (List ℕ)) where
-  all_named : (fs : List (List ℕ)) (sources : List SourceFolder) → AreListed dir names → ((f : List ℕ) → IsIn f fs → is_folder_name f ≡ true) → AreOf (map (folder_listing_of dir names) fs) sources → AreNamedFolders sources
+  all_named : (fs : List (List ℕ)) (sources : List SourceFolder) → AreListed dir names → ((f : List ℕ) → IsIn f fs → is_folder_name f ≡ true) → AreOf (map (folder_listing_by_tree_names dir names) fs) sources → AreNamedFolders sources
   all_named [] [] all named are = tt
   all_named [] (s ∷ ss) all named are = absurd are
   all_named (f ∷ fs) [] all named are = absurd are
@@ -226,23 +226,23 @@ module _ (dir : List ℕ) (names : List (List ℕ)) where
     all_named fs ss all (λ g here. named g (inr here)) are.1,
   )
 
-  all_apart : (fs : List (List ℕ)) (sources : List SourceFolder) → AreListed dir names → IsApart names → AreOf (map (folder_listing_of dir names) fs) sources → AreApartFiles sources
+  all_apart : (fs : List (List ℕ)) (sources : List SourceFolder) → AreListed dir names → IsApart names → AreOf (map (folder_listing_by_tree_names dir names) fs) sources → AreApartFiles sources
   all_apart [] [] all apart are = tt
   all_apart [] (s ∷ ss) all apart are = absurd are
   all_apart (f ∷ fs) [] all apart are = absurd are
   all_apart (f ∷ fs) (s ∷ ss) all apart are = (subst IsApart (sym are.0.1) (files_apart dir f names all apart), all_apart fs ss all apart are.1)
 
-  names_are : (fs : List (List ℕ)) (sources : List SourceFolder) → AreOf (map (folder_listing_of dir names) fs) sources → folder_names_of sources ≡ fs
+  names_are : (fs : List (List ℕ)) (sources : List SourceFolder) → AreOf (map (folder_listing_by_tree_names dir names) fs) sources → folder_names_of sources ≡ fs
   names_are [] [] are = refl
   names_are [] (s ∷ ss) are = absurd are
   names_are (f ∷ fs) [] are = absurd are
   names_are (f ∷ fs) (s ∷ ss) are = λ k. are.0.0 k ∷ (names_are fs ss are.1) k
 
-  pub sources_good : (place : ℕ) (read : Reads) (n : ℕ) (sources : List SourceFolder) → AreListed dir names → Rises names → source_folders_at_place_from_read place read n (folder_listings_of dir names) ≡ Ok sources → AreSources sources
-  unfolding folder_listings_of
+  pub sources_good : (place : ℕ) (read : Reads) (n : ℕ) (sources : List SourceFolder) → AreListed dir names → Rises names → source_folders_at_place_from_read place read n (folder_listings_by_tree_names dir names) ≡ Ok sources → AreSources sources
+  unfolding folder_listings_by_tree_names
   sources_good place read n sources all rises e =
       let fs : List (List ℕ) = all_folders_above (map (path_relative_to dir) names) in
-      let are = folders_read place read n (map (folder_listing_of dir names) fs) sources e in
+      let are = folders_read place read n (map (folder_listing_by_tree_names dir names) fs) sources e in
       record {
         named = all_named fs sources all (λ f here. folder_named dir names f all here) are;
         apart = subst IsApart (sym (names_are fs sources are)) (rises_apart fs (in_order_rises (flat_map folders_above (map (path_relative_to dir) names))));
@@ -251,10 +251,10 @@ module _ (dir : List ℕ) (names : List (List ℕ)) where
 
 -- ---- where their sizes are small
 
-abbrev file_size : Source → ℕ
+abbrev file_size : SourceFile → ℕ
 file_size file = size_of_kind (kind_of_file file.bytes)
 
-files_sized : (f : List ℕ) (files : List Source) → AreFileNames f (source_names files) → sum_by file_size files < 2 ^ 64 → AreGoodFiles f files
+files_sized : (f : List ℕ) (files : List SourceFile) → AreFileNames f (source_names files) → sum_by file_size files < 2 ^ 64 → AreGoodFiles f files
 files_sized f [] named small = tt
 files_sized f (file ∷ files) named small =
     let sum = sum_by-cons file_size file files in

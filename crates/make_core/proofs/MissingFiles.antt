@@ -13,10 +13,10 @@ use Rattle.make_index.specs.make_info.Information.{FieldWithValue, information}
 use Rattle.make_index.specs.make_info.Reads.{Reads}
 use Rattle.make_index.specs.make_info.declared.fault.MakeFault.{MakeFault}
 use Rattle.make_index.specs.make_info.declared.fault.MakeFault.TheVariants.{FileMissing}
-use Rattle.make_package.specs.package_files.Folders.{FolderListing, all_folders_above, folder_listings_of, last_part_of, folder_listing_of, tree_names_in_package_folder, path_relative_to}
+use Rattle.make_package.specs.package_files.Folders.{FolderListing, all_folders_above, folder_listings_by_tree_names, last_part_of, folder_listing_by_tree_names, tree_names_in_package_folder, path_relative_to}
 use Rattle.make_package.specs.Making.{container_unless_too_large, made_package, or_info_bad, package_container, package_of_parts}
-use Rattle.make_package.specs.package_files.Package.{Script, Source, SourceFolder}
-use Rattle.make_package.specs.package_files.Sources.{results_from_read, source_file_read_at, source_folder_read_at, source_folders_of_first_option, found_bytes_or_missing, and_then, script_at, scripts_from_read, source_folders_at_place_from_read, sources_at_place_from_read, values_of_letter}
+use Rattle.make_package.specs.package_files.Package.{Script, SourceFile, SourceFolder}
+use Rattle.make_package.specs.package_files.Sources.{results_from_read, source_file_at_place_by_read, source_folder_at_place_by_read, source_folders_of_first_option_only, found_bytes_or_missing, and_then, script_at, scripts_from_read, source_folders_at_place_from_read, source_files_at_place_from_read, values_of_letter}
 use Rattle.make_index.specs.pkg_core.Contents.{Contents}
 use Rattle.make_core.specs.Missing.{IsAbsent, IsPlaceOfFolderWithMissingFile, IsPlaceOfScriptOptionWithoutFile}
 use Rattle.make_core.proofs.ListedNames.{filter_in, stands_in}
@@ -76,9 +76,9 @@ script_fails : (read : Reads) (n : ℕ) (v : OptionValue) (fault : MakeFault) �
 script_fails read n v fault e =
     missing_by read v.place n (script_name v) (read n (script_name v)) (λ bytes. let script : Script = record { field = script_type v.text; bytes = bytes } in Ok script) fault refl (λ bytes f. cc (f)) e
 
-file_fails : (place : ℕ) (read : Reads) (n : ℕ) (name : List ℕ) (fault : MakeFault) → source_file_read_at place read n name ≡ Err fault → IsMissingAt read place name fault
+file_fails : (place : ℕ) (read : Reads) (n : ℕ) (name : List ℕ) (fault : MakeFault) → source_file_at_place_by_read place read n name ≡ Err fault → IsMissingAt read place name fault
 file_fails place read n name fault e =
-    missing_by read place n name (read n name) (λ bytes. let file : Source = record { name = last_part_of name; bytes = bytes } in Ok file) fault refl (λ bytes f. cc (f)) e
+    missing_by read place n name (read n name) (λ bytes. let file : SourceFile = record { name = last_part_of name; bytes = bytes } in Ok file) fault refl (λ bytes f. cc (f)) e
 
 -- ---- the files below a folder
 
@@ -86,13 +86,13 @@ abbrev IsMissingIn : Reads → ℕ → FolderListing → MakeFault → Type 0
 IsMissingIn read place folder fault = IsFaultOfOne (IsMissingAt read place) folder.files fault
 
 files_fail : (place : ℕ) (read : Reads) (n : ℕ) (folder : FolderListing) (fault : MakeFault)
-    → Fails (sources_at_place_from_read place read n folder.files) (λ files. let source : SourceFolder = record { name = folder.name; files = files } in Ok source) fault → IsMissingIn read place folder fault
-files_fail place read n folder fault (at_first e) = each_fails (IsMissingAt read place) (λ name. 1) (source_file_read_at place read) (file_fails place read) n folder.files fault e
+    → Fails (source_files_at_place_from_read place read n folder.files) (λ files. let source : SourceFolder = record { name = folder.name; files = files } in Ok source) fault → IsMissingIn read place folder fault
+files_fail place read n folder fault (at_first e) = each_fails (IsMissingAt read place) (λ name. 1) (source_file_at_place_by_read place read) (file_fails place read) n folder.files fault e
 files_fail place read n folder fault (behind files e f) = absurd (cc (f))
 
-folder_fails : (place : ℕ) (read : Reads) (n : ℕ) (folder : FolderListing) (fault : MakeFault) → source_folder_read_at place read n folder ≡ Err fault → IsMissingIn read place folder fault
+folder_fails : (place : ℕ) (read : Reads) (n : ℕ) (folder : FolderListing) (fault : MakeFault) → source_folder_at_place_by_read place read n folder ≡ Err fault → IsMissingIn read place folder fault
 folder_fails place read n folder fault e =
-    files_fail place read n folder fault (fails_by (sources_at_place_from_read place read n folder.files) (λ files. let source : SourceFolder = record { name = folder.name; files = files } in Ok source) fault e)
+    files_fail place read n folder fault (fails_by (source_files_at_place_from_read place read n folder.files) (λ files. let source : SourceFolder = record { name = folder.name; files = files } in Ok source) fault e)
 
 -- one of the names below the folder is missing
 record IsMissingBelow (read : Reads) (place : ℕ) (names : List (List ℕ)) (fault : MakeFault) : Type 0 where
@@ -100,11 +100,11 @@ record IsMissingBelow (read : Reads) (place : ℕ) (names : List (List ℕ)) (fa
   listed : IsIn name names
   is : IsMissingAt read place name fault
 
-below_fails : (read : Reads) (place n : ℕ) (dir : List ℕ) (names : List (List ℕ)) (fault : MakeFault) → source_folders_at_place_from_read place read n (folder_listings_of dir names) ≡ Err fault → IsMissingBelow read place names fault
-unfolding folder_listings_of
+below_fails : (read : Reads) (place n : ℕ) (dir : List ℕ) (names : List (List ℕ)) (fault : MakeFault) → source_folders_at_place_from_read place read n (folder_listings_by_tree_names dir names) ≡ Err fault → IsMissingBelow read place names fault
+unfolding folder_listings_by_tree_names
 below_fails read place n dir names fault e =
-    let one = each_fails (IsMissingIn read place) (λ (folder : FolderListing). length folder.files) (source_folder_read_at place read) (folder_fails place read) n (map (folder_listing_of dir names) (all_folders_above (map (path_relative_to dir) names))) fault e in
-    let listing = from-map (folder_listing_of dir names) one.x (all_folders_above (map (path_relative_to dir) names)) one.is_in in
+    let one = each_fails (IsMissingIn read place) (λ (folder : FolderListing). length folder.files) (source_folder_at_place_by_read place read) (folder_fails place read) n (map (folder_listing_by_tree_names dir names) (all_folders_above (map (path_relative_to dir) names))) fault e in
+    let listing = from-map (folder_listing_by_tree_names dir names) one.x (all_folders_above (map (path_relative_to dir) names)) one.is_in in
     let file = one.is in
     let here : IsIn file.x (tree_names_in_package_folder dir names listing.0) = subst (λ (l : FolderListing). IsIn file.x l.files) listing.2 file.is_in in
     record { name = file.x; listed = (filter_in (stands_in dir listing.0) file.x names here).0; is = file.is }
@@ -119,7 +119,7 @@ script_is_missing read scripts place e =
     let one = each_fails (λ (v : OptionValue). IsMissingAt read v.place (script_name v)) (λ v. 1) (script_at read) (script_fails read) 0 scripts (FileMissing place) e in
     record { script = one.x; given = contains-from_in one.x scripts one.is_in; at = missing_place place one.x.place one.is.0; absent = one.is.1 }
 
-file_is_missing : (read : Reads) (n : ℕ) (folders : List OptionValue) (names : List (List ℕ)) (place : ℕ) → source_folders_of_first_option read n folders names ≡ Err (FileMissing place) → IsPlaceOfFolderWithMissingFile read folders names place
+file_is_missing : (read : Reads) (n : ℕ) (folders : List OptionValue) (names : List (List ℕ)) (place : ℕ) → source_folders_of_first_option_only read n folders names ≡ Err (FileMissing place) → IsPlaceOfFolderWithMissingFile read folders names place
 file_is_missing read n [] names place e = absurd (cc (e))
 file_is_missing read n (folder ∷ others) names place e =
     let one = below_fails read folder.place n (without_dot_slash folder.text) names (FileMissing place) e in
@@ -142,23 +142,23 @@ info_never (Ok items) place e = cc (e)
 info_never (Err at) place e = cc (e)
 
 module _ (command : CommandLine) (names : List (List ℕ)) (read : Reads) (place : ℕ) where
-  at_files : (scripts : List Script) (items : List FieldWithValue) → Fails (source_folders_of_first_option read (length scripts) (values_of_letter FILES command.values) names) (package_of_parts command scripts items) (FileMissing place) → IsMissing read command names place
+  at_files : (scripts : List Script) (items : List FieldWithValue) → Fails (source_folders_of_first_option_only read (length scripts) (values_of_letter FILES command.values) names) (package_of_parts command scripts items) (FileMissing place) → IsMissing read command names place
   at_files scripts items (at_first e) = inr (file_is_missing read (length scripts) (values_of_letter FILES command.values) names place e)
   at_files scripts items (behind sources e f) = absurd (packed_never command scripts items sources place f)
 
   at_information : (scripts : List Script)
-      → Fails (or_info_bad (information command)) (λ about. and_then (source_folders_of_first_option read (length scripts) (values_of_letter FILES command.values) names) (package_of_parts command scripts about)) (FileMissing place) → IsMissing read command names place
+      → Fails (or_info_bad (information command)) (λ about. and_then (source_folders_of_first_option_only read (length scripts) (values_of_letter FILES command.values) names) (package_of_parts command scripts about)) (FileMissing place) → IsMissing read command names place
   at_information scripts (at_first e) = absurd (info_never (information command) place e)
-  at_information scripts (behind items e f) = at_files scripts items (fails_by (source_folders_of_first_option read (length scripts) (values_of_letter FILES command.values) names) (package_of_parts command scripts items) (FileMissing place) f)
+  at_information scripts (behind items e f) = at_files scripts items (fails_by (source_folders_of_first_option_only read (length scripts) (values_of_letter FILES command.values) names) (package_of_parts command scripts items) (FileMissing place) f)
 
   at_scripts : Fails (scripts_from_read read 0 (values_of_letter SCRIPT command.values)) (λ scripts.
-      and_then (or_info_bad (information command)) (λ about. and_then (source_folders_of_first_option read (length scripts) (values_of_letter FILES command.values) names) (package_of_parts command scripts about))) (FileMissing place) → IsMissing read command names place
+      and_then (or_info_bad (information command)) (λ about. and_then (source_folders_of_first_option_only read (length scripts) (values_of_letter FILES command.values) names) (package_of_parts command scripts about))) (FileMissing place) → IsMissing read command names place
   at_scripts (at_first e) = inl (script_is_missing read (values_of_letter SCRIPT command.values) place e)
   at_scripts (behind scripts e f) =
-      at_information scripts (fails_by (or_info_bad (information command)) (λ about. and_then (source_folders_of_first_option read (length scripts) (values_of_letter FILES command.values) names) (package_of_parts command scripts about)) (FileMissing place) f)
+      at_information scripts (fails_by (or_info_bad (information command)) (λ about. and_then (source_folders_of_first_option_only read (length scripts) (values_of_letter FILES command.values) names) (package_of_parts command scripts about)) (FileMissing place) f)
 
 pub made_missing : (command : CommandLine) (names : List (List ℕ)) (read : Reads) (place : ℕ) → made_package command names read ≡ Err (FileMissing place) → IsMissing read command names place
 unfolding made_package
 made_missing command names read place e =
     at_scripts command names read place (fails_by (scripts_from_read read 0 (values_of_letter SCRIPT command.values)) (λ scripts.
-    and_then (or_info_bad (information command)) (λ about. and_then (source_folders_of_first_option read (length scripts) (values_of_letter FILES command.values) names) (package_of_parts command scripts about))) (FileMissing place) e)
+    and_then (or_info_bad (information command)) (λ about. and_then (source_folders_of_first_option_only read (length scripts) (values_of_letter FILES command.values) names) (package_of_parts command scripts about))) (FileMissing place) e)

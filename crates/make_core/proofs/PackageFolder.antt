@@ -20,10 +20,10 @@ use Rattle.command_core.specs.Command.{CommandLine}
 use Rattle.command_core.specs.Files.{without_dot_slash}
 use Rattle.command_core.specs.declared.values.OptionValue.{OptionValue}
 use Rattle.make_index.specs.make_info.Information.{replaces_priority}
-use Rattle.make_package.specs.package_files.Folders.{FolderListing, all_folders_above, folder_listings_of, last_part_of, folder_listing_of, tree_names_in_package_folder, path_relative_to}
+use Rattle.make_package.specs.package_files.Folders.{FolderListing, all_folders_above, folder_listings_by_tree_names, last_part_of, folder_listing_by_tree_names, tree_names_in_package_folder, path_relative_to}
 use Rattle.make_package.specs.Making.{made_package}
-use Rattle.make_package.specs.package_files.Package.{Source, SourceFolder, value_of_file, value_of_folder, kind_of_file}
-use Rattle.make_package.specs.package_files.Sources.{AreNamesBelowFirstFolder, source_file_read_at, source_folder_read_at, source_folders_of_first_option, found_bytes_or_missing, source_folders_at_place_from_read, sources_at_place_from_read, texts_of, values_of_letter}
+use Rattle.make_package.specs.package_files.Package.{SourceFile, SourceFolder, value_of_file, value_of_folder, kind_of_file}
+use Rattle.make_package.specs.package_files.Sources.{AreSortedNamesBelowFirstFolder, source_file_at_place_by_read, source_folder_at_place_by_read, source_folders_of_first_option_only, found_bytes_or_missing, source_folders_at_place_from_read, source_files_at_place_from_read, texts_of, values_of_letter}
 use Rattle.make_index.specs.pkg_core.Whole.{PackageWithContents}
 use Rattle.make_core.specs.FilesBelow.{HasJustNamedFilesBelowFolder, IsFileBelow, path_joined_to_folder}
 use Rattle.make_core.proofs.Apart.{Tells}
@@ -41,40 +41,40 @@ found_is place (Some b) bytes e = let same : b ≡ bytes = cc (e) in ap Some sam
 
 module _ (files : Files) where
   -- a file is that of a name, with the bytes that stand there
-  abbrev IsRead : List ℕ → Source → Type 0
+  abbrev IsRead : List ℕ → SourceFile → Type 0
   IsRead name file = (file.name ≡ last_part_of name) × (files name ≡ Some file.bytes)
 
-  file_is_read : (place n : ℕ) (name : List ℕ) (file : Source) → source_file_read_at place (λ n name. files name) n name ≡ Ok file → IsRead name file
+  file_is_read : (place n : ℕ) (name : List ℕ) (file : SourceFile) → source_file_at_place_by_read place (λ n name. files name) n name ≡ Ok file → IsRead name file
   file_is_read place n name file e =
       let one = after_ok (found_bytes_or_missing place (files name)) (λ bytes. Ok (record { name = last_part_of name; bytes = bytes })) file e in
       let gives = one.gives in
       let same : record { name = last_part_of name; bytes = one.x } ≡ file = cc (gives) in
-      (ap (λ (f : Source). f.name) (sym same), found_is place (files name) one.x one.is ∙ ap (λ (f : Source). Some f.bytes) same)
+      (ap (λ (f : SourceFile). f.name) (sym same), found_is place (files name) one.x one.is ∙ ap (λ (f : SourceFile). Some f.bytes) same)
 
   abbrev IsFolderRead : FolderListing → SourceFolder → Type 0
   IsFolderRead l s = (s.name ≡ l.name) × AllOf IsRead l.files s.files
 
-  folder_is_read : (place n : ℕ) (folder : FolderListing) (source : SourceFolder) → source_folder_read_at place (λ n name. files name) n folder ≡ Ok source → IsFolderRead folder source
+  folder_is_read : (place n : ℕ) (folder : FolderListing) (source : SourceFolder) → source_folder_at_place_by_read place (λ n name. files name) n folder ≡ Ok source → IsFolderRead folder source
   folder_is_read place n folder source e =
-      let one = after_ok (sources_at_place_from_read place (λ n name. files name) n folder.files) (λ fs. Ok (record { name = folder.name; files = fs })) source e in
+      let one = after_ok (source_files_at_place_from_read place (λ n name. files name) n folder.files) (λ fs. Ok (record { name = folder.name; files = fs })) source e in
       let gives = one.gives in
       let same : record { name = folder.name; files = one.x } ≡ source = cc (gives) in
-      subst (IsFolderRead folder) same (refl, each_read IsRead (λ name. 1) (source_file_read_at place (λ n name. files name)) (file_is_read place) n folder.files one.x one.is)
+      subst (IsFolderRead folder) same (refl, each_read IsRead (λ name. 1) (source_file_at_place_by_read place (λ n name. files name)) (file_is_read place) n folder.files one.x one.is)
 
   -- ---- where they stand
 
-  abbrev AreFilesAt : List ℕ → List ℕ → List Source → Type 0
+  abbrev AreFilesAt : List ℕ → List ℕ → List SourceFile → Type 0
   AreFilesAt dir folder [] = Unit {0}
   AreFilesAt dir folder (s ∷ ss) = (files (path_joined_to_folder dir (path_of folder s.name)) ≡ Some s.bytes) × AreFilesAt dir folder ss
 
   abbrev paths_of : SourceFolder → List (List ℕ)
-  paths_of s = map (λ (file : Source). path_of s.name file.name) s.files
+  paths_of s = map (λ (file : SourceFile). path_of s.name file.name) s.files
 
-  abbrev AreAt : List ℕ → List ℕ → List (List ℕ) → List Source → Type 0
+  abbrev AreAt : List ℕ → List ℕ → List (List ℕ) → List SourceFile → Type 0
   AreAt dir folder names sources =
-      (map (λ (file : Source). path_of folder file.name) sources ≡ map (path_relative_to dir) names) × AreFilesAt dir folder sources
+      (map (λ (file : SourceFile). path_of folder file.name) sources ≡ map (path_relative_to dir) names) × AreFilesAt dir folder sources
 
-  files_at : (dir folder : List ℕ) (names : List (List ℕ)) (sources : List Source) → ((name : List ℕ) → IsIn name names → name ≡ path_joined_to_folder dir (path_of folder (last_part_of name)))
+  files_at : (dir folder : List ℕ) (names : List (List ℕ)) (sources : List SourceFile) → ((name : List ℕ) → IsIn name names → name ≡ path_joined_to_folder dir (path_of folder (last_part_of name)))
       → AllOf IsRead names sources → AreAt dir folder names sources
   files_at dir folder [] [] all h = (refl, tt)
   files_at dir folder [] (s ∷ ss) all h = absurd h
@@ -90,8 +90,8 @@ module _ (files : Files) where
   AreFoldersAt dir [] = Unit {0}
   AreFoldersAt dir (s ∷ ss) = AreFilesAt dir s.name s.files × AreFoldersAt dir ss
 
-  folders_at : (dir : List ℕ) (names fs : List (List ℕ)) (sources : List SourceFolder) → AreListed dir names → AllOf IsFolderRead (map (folder_listing_of dir names) fs) sources
-      → (flat_map paths_of sources ≡ map (path_relative_to dir) (flat_map (λ (l : FolderListing). l.files) (map (folder_listing_of dir names) fs))) × AreFoldersAt dir sources
+  folders_at : (dir : List ℕ) (names fs : List (List ℕ)) (sources : List SourceFolder) → AreListed dir names → AllOf IsFolderRead (map (folder_listing_by_tree_names dir names) fs) sources
+      → (flat_map paths_of sources ≡ map (path_relative_to dir) (flat_map (λ (l : FolderListing). l.files) (map (folder_listing_by_tree_names dir names) fs))) × AreFoldersAt dir sources
   folders_at dir names [] [] all h = (refl, tt)
   folders_at dir names [] (s ∷ ss) all h = absurd h
   folders_at dir names (f ∷ fs) [] all h = absurd h
@@ -100,8 +100,8 @@ module _ (files : Files) where
       let at = files_at dir f here s.files (λ name is. let both = filter_in (stands_in dir f) name names is in recovered dir f name (listed_in dir names name all both.0) both.1) h.0.1 in
       let one = subst (λ (g : List ℕ). AreAt dir g here s.files) (sym h.0.0) at in
       let further = folders_at dir names fs ss all h.1 in
-      let listings : List FolderListing = map (folder_listing_of dir names) fs in
-      let l : FolderListing = folder_listing_of dir names f in (
+      let listings : List FolderListing = map (folder_listing_by_tree_names dir names) fs in
+      let l : FolderListing = folder_listing_by_tree_names dir names f in (
         flat_map-cons paths_of s ss ∙ (λ k. one.0 k ++ further.0 k)
             ∙ sym (map-append (path_relative_to dir) here (flat_map (λ (m : FolderListing). m.files) listings))
             ∙ ap (map (path_relative_to dir)) (sym (flat_map-cons (λ (m : FolderListing). m.files) l listings)),
@@ -110,7 +110,7 @@ module _ (files : Files) where
 
   -- ---- what the package's value says of them
 
-  file_paths_stand : (folder : List ℕ) (sources : List Source) → map (λ (file : Plain). path_of folder (name_of file)) (map value_of_file sources) ≡ map (λ (file : Source). path_of folder file.name) sources
+  file_paths_stand : (folder : List ℕ) (sources : List SourceFile) → map (λ (file : Plain). path_of folder (name_of file)) (map value_of_file sources) ≡ map (λ (file : SourceFile). path_of folder file.name) sources
   file_paths_stand folder [] = refl
   file_paths_stand folder (s ∷ ss) = λ k. path_of folder (name_stands s.name (kind_of_file s.bytes) k) ∷ file_paths_stand folder ss k
 
@@ -123,7 +123,7 @@ module _ (files : Files) where
   paths_stand (s ∷ ss) =
       flat_map-cons paths_of_folder_files (value_of_folder s) (map value_of_folder ss) ∙ (λ k. paths_stand_under s k ++ paths_stand ss k) ∙ sym (flat_map-cons paths_of s ss)
 
-  file_stands : (dir folder : List ℕ) (s : Source) → files (path_joined_to_folder dir (path_of folder s.name)) ≡ Some s.bytes → IsFileBelow files dir folder (value_of_file s)
+  file_stands : (dir folder : List ℕ) (s : SourceFile) → files (path_joined_to_folder dir (path_of folder s.name)) ≡ Some s.bytes → IsFileBelow files dir folder (value_of_file s)
   file_stands dir folder s e =
       let name = name_stands s.name (kind_of_file s.bytes) in
       record {
@@ -132,7 +132,7 @@ module _ (files : Files) where
         is = ap (λ (part : List ℕ). value_of_file (record { name = part; bytes = s.bytes })) (sym name);
       }
 
-  files_stand_at : (dir folder : List ℕ) (sources : List Source) → AreFilesAt dir folder sources → All (IsFileBelow files dir folder) (map value_of_file sources)
+  files_stand_at : (dir folder : List ℕ) (sources : List SourceFile) → AreFilesAt dir folder sources → All (IsFileBelow files dir folder) (map value_of_file sources)
   files_stand_at dir folder [] h = All-nil (IsFileBelow files dir folder)
   files_stand_at dir folder (s ∷ ss) h = All-cons (IsFileBelow files dir folder) (value_of_file s) (map value_of_file ss) (file_stands dir folder s h.0) (files_stand_at dir folder ss h.1)
 
@@ -153,15 +153,15 @@ module _ (files : Files) where
 
 -- each name stands in one folder
 abbrev pub OneFolder : Type 0
-OneFolder = (dir : List ℕ) (names : List (List ℕ)) → IsPermutation names (flat_map (λ (folder : FolderListing). folder.files) (folder_listings_of dir names))
+OneFolder = (dir : List ℕ) (names : List (List ℕ)) → IsPermutation names (flat_map (λ (folder : FolderListing). folder.files) (folder_listings_by_tree_names dir names))
 
 read_below : OneFolder → (files : Files) (place n : ℕ) (dir : List ℕ) (names : List (List ℕ)) (sources : List SourceFolder) (pkg : Plain) → AreListed dir names
-    → source_folders_at_place_from_read place (λ n name. files name) n (folder_listings_of dir names) ≡ Ok sources → folders_in pkg ≡ map value_of_folder sources → HasJustNamedFilesBelowFolder files dir names pkg
-unfolding folder_listings_of
+    → source_folders_at_place_from_read place (λ n name. files name) n (folder_listings_by_tree_names dir names) ≡ Ok sources → folders_in pkg ≡ map value_of_folder sources → HasJustNamedFilesBelowFolder files dir names pkg
+unfolding folder_listings_by_tree_names
 read_below law files place n dir names sources pkg all e is =
     let fs : List (List ℕ) = all_folders_above (map (path_relative_to dir) names) in
-    let listings : List FolderListing = map (folder_listing_of dir names) fs in
-    let are = each_read (IsFolderRead files) (λ (folder : FolderListing). length folder.files) (source_folder_read_at place (λ n name. files name)) (folder_is_read files place) n listings sources e in
+    let listings : List FolderListing = map (folder_listing_by_tree_names dir names) fs in
+    let are = each_read (IsFolderRead files) (λ (folder : FolderListing). length folder.files) (source_folder_at_place_by_read place (λ n name. files name)) (folder_is_read files place) n listings sources e in
     let at = folders_at files dir names fs sources all are in
     record {
       paths = subst (IsPermutation (map (path_relative_to dir) names)) (sym (ap (flat_map paths_of_folder_files) is ∙ paths_stand files sources ∙ at.0)) (IsPermutation-map (path_relative_to dir) names (flat_map (λ (folder : FolderListing). folder.files) listings) (law dir names));
@@ -172,10 +172,10 @@ pub made_below : OneFolder → Holds IsReadBack → Sizes → Exact → Needs �
     → values_of_letter FILES command.values ≡ folder ∷ others → AreSortedNamesBelowFolder (without_dot_slash folder.text) names → made_package command names (λ n name. files name) ≡ Ok bytes → length bytes < 2 ^ 64
     → HasJustNamedFilesBelowFolder files (without_dot_slash folder.text) names (root_value_of_payload Package (payload_in bytes))
 made_below law holds sizes exact needs tells command names files bytes folder others given below e short =
-    let named : AreNamesBelowFirstFolder (values_of_letter FILES command.values) names = subst (λ (l : List OptionValue). AreNamesBelowFirstFolder l names) (sym given) below in
+    let named : AreSortedNamesBelowFirstFolder (values_of_letter FILES command.values) names = subst (λ (l : List OptionValue). AreSortedNamesBelowFirstFolder l names) (sym given) below in
     let made = made_of IsReadBack holds sizes exact needs tells command names (λ n name. files name) bytes named e short in
-    let read : source_folders_of_first_option (λ n name. files name) (length made.scripts) (folder ∷ others) names ≡ Ok made.sources =
-    ap (λ (l : List OptionValue). source_folders_of_first_option (λ n name. files name) (length made.scripts) l names) (sym given) ∙ made.sources_read in
+    let read : source_folders_of_first_option_only (λ n name. files name) (length made.scripts) (folder ∷ others) names ≡ Ok made.sources =
+    ap (λ (l : List OptionValue). source_folders_of_first_option_only (λ n name. files name) (length made.scripts) l names) (sym given) ∙ made.sources_read in
     let value = ap (λ (p : PackageWithContents). p.value) made.holds in
     read_below law files folder.place (length made.scripts) (without_dot_slash folder.text) names made.sources (root_value_of_payload Package (payload_in bytes)) (are_listed (without_dot_slash folder.text) names below.each) read
     (ap folders_in value ∙ folders_stand _ made.sources made.scripts (texts_of (values_of_letter TRIGGER command.values)) (replaces_priority made.items))

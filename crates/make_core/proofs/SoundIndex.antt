@@ -26,7 +26,7 @@ use Rattle.make_index.specs.Entries.{index_entry_of_package_file}
 use Rattle.make_index.specs.EntryOrder.{index_entry_cmp}
 use Rattle.base_core.specs.Sorted.{sorted_by, with_element_inserted}
 use Rattle.base_core.specs.Files.{AreFileBytes}
-use Rattle.make_index.specs.Files.{OperandReadsFindOnlyValidFileBytes}
+use Rattle.make_index.specs.Files.{EachOperandReadFindsNoFileOrFileBytes}
 use Rattle.make_package.specs.adb_sound.Root.{IsValidRootValueOfTable}
 use Rattle.make_index.specs.make_info.declared.fault.MakeFault.{MakeFault}
 use Rattle.make_core.specs.ReadBack.{index_value_of_command, index_value_of_entries}
@@ -77,7 +77,7 @@ entries_by around (Ok v) (Ok vs) entries e a b =
     let same : v ∷ vs ≡ entries = cc (e) in
     subst (λ us. Each (IsEntry around) (plains_of_list us)) same (a v refl, b vs refl)
 
-entries_good : Values → (around : Surroundings) (read : ℕ → List ℕ → Option (List ℕ)) (n : ℕ) (operands : List Operand) (entries : List Plain) → OperandReadsFindOnlyValidFileBytes read n operands → around.root ≡ Index
+entries_good : Values → (around : Surroundings) (read : ℕ → List ℕ → Option (List ℕ)) (n : ℕ) (operands : List Operand) (entries : List Plain) → EachOperandReadFindsNoFileOrFileBytes read n operands → around.root ≡ Index
     → found_entries read n operands ≡ Ok entries → Each (IsEntry around) (plains_of_list entries)
 entries_good laws around read n [] entries files root e =
     let same : [] ≡ entries = cc (e) in
@@ -131,7 +131,7 @@ module _ (P : Plain → List ℕ → Type 0) where
       (v, refl, file_holds holds exact v (payload_or_overflow v) bytes (index_good description (sorted_by index_entry_cmp entries) (λ around root. each_in_order (IsEntry around) index_entry_cmp entries (each entries around refl root))) refl e)
 
   -- of a command
-  made_holds : Holds → Exact → Values → (command : CommandLine) (read : ℕ → List ℕ → Option (List ℕ)) (bytes : List ℕ) → OperandReadsFindOnlyValidFileBytes read 0 command.operands → made_index command read ≡ Ok bytes
+  made_holds : Holds → Exact → Values → (command : CommandLine) (read : ℕ → List ℕ → Option (List ℕ)) (bytes : List ℕ) → EachOperandReadFindsNoFileOrFileBytes read 0 command.operands → made_index command read ≡ Ok bytes
       → (v : Plain) × (index_value_of_command command read ≡ Ok v) × P v bytes
   unfolding made_index
   made_holds holds exact values command read bytes files e =
@@ -141,7 +141,7 @@ module _ (P : Plain → List ℕ → Type 0) where
 abbrev pub Sound : Type 0
 Sound = (which : Which) (schema : ℕ) (v : Plain) → schema_word which ≡ Some schema → which ≢ Package → IsValidRootValueOfTable which v → container_fault (file_of schema (canonical v)) ≡ None
 
-pub made_sound : Sound → Exact → Values → (command : CommandLine) (read : ℕ → List ℕ → Option (List ℕ)) (bytes : List ℕ) → OperandReadsFindOnlyValidFileBytes read 0 command.operands → made_index command read ≡ Ok bytes → container_fault bytes ≡ None
+pub made_sound : Sound → Exact → Values → (command : CommandLine) (read : ℕ → List ℕ → Option (List ℕ)) (bytes : List ℕ) → EachOperandReadFindsNoFileOrFileBytes read 0 command.operands → made_index command read ≡ Ok bytes → container_fault bytes ≡ None
 made_sound sound exact values command read bytes files e =
     (made_holds (λ v file. container_fault file ≡ None) (λ v root. sound Index INDEX_WORD v refl not_package root) exact values command read bytes files e).2
 
@@ -149,7 +149,7 @@ made_sound sound exact values command read bytes files e =
 abbrev pub Back : Type 0
 Back = (which : Which) (schema : ℕ) (v : Plain) → schema_word which ≡ Some schema → IsValidRootValueOfTable which v → root_value_of_payload which (payload_in (file_of schema (canonical v))) ≡ v
 
-pub made_back : Back → Exact → Values → (command : CommandLine) (read : ℕ → List ℕ → Option (List ℕ)) (bytes : List ℕ) → OperandReadsFindOnlyValidFileBytes read 0 command.operands → made_index command read ≡ Ok bytes → index_value_of_command command read ≡ Ok (root_value_of_payload Index (payload_in bytes))
+pub made_back : Back → Exact → Values → (command : CommandLine) (read : ℕ → List ℕ → Option (List ℕ)) (bytes : List ℕ) → EachOperandReadFindsNoFileOrFileBytes read 0 command.operands → made_index command read ≡ Ok bytes → index_value_of_command command read ≡ Ok (root_value_of_payload Index (payload_in bytes))
 made_back back exact values command read bytes files e =
     let made = made_holds (λ v file. root_value_of_payload Index (payload_in file) ≡ v) (λ v root. back Index INDEX_WORD v refl root) exact values command read bytes files e in
     made.1 ∙ ap Ok (sym made.2)

@@ -15,7 +15,7 @@ use Rattle.make_index.specs.make_info.Reads.{Reads}
 use Rattle.make_index.specs.make_info.declared.fault.MakeFault.{MakeFault}
 use Rattle.make_package.specs.Making.{or_info_bad}
 use Rattle.make_package.specs.package_files.Package.{Script, SourceFolder, contents_of_folders, installed_size, value_of_package}
-use Rattle.make_package.specs.package_files.Sources.{source_folders_of_first_option, and_then, scripts_from_read, texts_of, values_of_letter}
+use Rattle.make_package.specs.package_files.Sources.{source_folders_of_first_option_only, and_then, scripts_from_read, texts_of, values_of_letter}
 use Rattle.make_index.specs.pkg_core.Whole.{PackageWithContents}
 
 -- the value and the contents of the package of a command, given its parts in the order of their reads.
@@ -36,7 +36,7 @@ abbrev pub package_with_contents_of_command : CommandLine → List (List ℕ) �
 package_with_contents_of_command command names read =
     and_then (scripts_from_read read 0 (values_of_letter SCRIPT command.values)) (λ scripts.
     and_then (or_info_bad (information command)) (λ about.
-    and_then (source_folders_of_first_option read (length scripts)
+    and_then (source_folders_of_first_option_only read (length scripts)
     (values_of_letter FILES command.values) names)
     (packed_of_parts command scripts about)))
 

@@ -3,7 +3,7 @@
 //! their order; that the result is sound, in `docs/DECISIONS.md`, "Making".
 ghost use Rattle.base_core.specs.Calls.{IfObservable};
 ghost use Rattle.base_core.specs.Read.{OnlyReads};
-ghost use Rattle.make_index.specs.Files.{OperandReadsFindOnlyValidFileBytes, reads_of};
+ghost use Rattle.make_index.specs.Files.{EachOperandReadFindsNoFileOrFileBytes, reads_of};
 ghost use Rattle.make_index.specs.Index.{made_index};
 ghost use Rattle.make_index.specs.Kept.{AgreesUnlessMemoryOrDisk};
 ghost use Rattle.make_index.specs.make_info.Reads.{Reads};
@@ -72,7 +72,8 @@ pub fn mkndx<T: Tree>(alloc: Global, command: &Command, tree: &mut T) -> Result<
         (reads_of v))) }
     // For every tree, the result is that for some result of each read (`read`). The read of the
     // first operand has the number 0.
-    ensures found { (read : Reads) × OperandReadsFindOnlyValidFileBytes read 0 command.now.operands
+    ensures found { (read : Reads)
+        × EachOperandReadFindsNoFileOrFileBytes read 0 command.now.operands
         × AgreesUnlessMemoryOrDisk (λ file. file.items) result (made_index command.now read) }
     // The bytes that are returned pass all tests of a container.
     ensures sound { IfOk result (λ file. container_fault file.items ≡ None) }

@@ -5,11 +5,11 @@
 ghost use Rattle.make_index.specs.adb_schema.Soundness.{payload_in, root_value_of_payload};
 ghost use Rattle.adb_view.specs.declared.tables.Which.TheVariants.{Index, Package};
 ghost use Rattle.command_core.specs.declared.values.TheConstants.{FILES, SCRIPT};
-ghost use Rattle.make_index.specs.Files.{OperandReadsFindOnlyValidFileBytes};
+ghost use Rattle.make_index.specs.Files.{EachOperandReadFindsNoFileOrFileBytes};
 ghost use Rattle.make_index.specs.Index.{made_index};
 ghost use Rattle.make_index.specs.make_info.Reads.{Reads};
 ghost use Rattle.make_package.specs.Making.{made_package};
-ghost use Rattle.make_package.specs.package_files.Sources.{AreNamesBelowFirstFolder, values_of_letter};
+ghost use Rattle.make_package.specs.package_files.Sources.{AreSortedNamesBelowFirstFolder, values_of_letter};
 ghost use Rattle.make_core.specs.ReadBack.{index_value_of_command, package_with_contents_of_command};
 ghost use Rattle.make_index.specs.pkg_core.Whole.{container_fault, package_with_contents};
 ghost use Rattle.std.specs.Prelude.{◌≡◌, ◌<◌, ◌^◌, ◌∷◌, ◌⊎◌, ℕ, List, length, None, Ok, Err};
@@ -39,7 +39,7 @@ use make_package::{
 /// than 2^64 each.
 pub fn a_made_index_is_sound()
     ensures { (command : CommandLine) (read : Reads) (bytes : List ℕ)
-        → OperandReadsFindOnlyValidFileBytes read 0 command.operands → made_index command read
+        → EachOperandReadFindsNoFileOrFileBytes read 0 command.operands → made_index command read
         ≡ Ok bytes
         → container_fault bytes ≡ None }
 {
@@ -55,7 +55,7 @@ pub fn a_made_index_is_sound()
 /// than 2^64 bytes and is made from names below its folder, in byte order and each once.
 pub fn a_made_package_is_sound()
     ensures { (command : CommandLine) (names : List (List ℕ)) (read : Reads) (bytes : List ℕ)
-        → AreNamesBelowFirstFolder (values_of_letter FILES command.values) names
+        → AreSortedNamesBelowFirstFolder (values_of_letter FILES command.values) names
         → made_package command names read ≡ Ok bytes → length bytes < 2 ^ 64
         → container_fault bytes ≡ None }
 {
@@ -73,7 +73,7 @@ pub fn a_made_package_is_sound()
 /// its description, and the entries of the named packages, in order.
 pub fn a_made_index_is_read_back()
     ensures { (command : CommandLine) (read : Reads) (bytes : List ℕ)
-        → OperandReadsFindOnlyValidFileBytes read 0 command.operands → made_index command read
+        → EachOperandReadFindsNoFileOrFileBytes read 0 command.operands → made_index command read
         ≡ Ok bytes
         → index_value_of_command command read
         ≡ Ok (root_value_of_payload Index (payload_in bytes)) }
@@ -90,7 +90,7 @@ pub fn a_made_index_is_read_back()
 /// that the command describes, if the package has fewer than 2^64 bytes.
 pub fn a_made_package_is_read_back()
     ensures { (command : CommandLine) (names : List (List ℕ)) (read : Reads) (bytes : List ℕ)
-        → AreNamesBelowFirstFolder (values_of_letter FILES command.values) names
+        → AreSortedNamesBelowFirstFolder (values_of_letter FILES command.values) names
         → made_package command names read ≡ Ok bytes → length bytes < 2 ^ 64
         → package_with_contents_of_command command names read ≡ Ok (package_with_contents bytes) }
 {
@@ -108,7 +108,7 @@ pub fn a_made_package_is_read_back()
 /// order; each package passes all its tests.
 pub fn a_made_index_has_its_packages_in_order()
     ensures { (command : CommandLine) (read : Reads) (bytes : List ℕ)
-        → OperandReadsFindOnlyValidFileBytes read 0 command.operands → made_index command read
+        → EachOperandReadFindsNoFileOrFileBytes read 0 command.operands → made_index command read
         ≡ Ok bytes
         → HasSortedEntriesOfOperands read command.operands (root_value_of_payload Index
         (payload_in bytes)) }

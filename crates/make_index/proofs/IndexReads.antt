@@ -13,7 +13,7 @@ use Rattle.command_core.specs.Files.{without_dot_slash}
 use Rattle.command_core.specs.declared.operands.Operand.{Operand}
 use Rattle.make_index.specs.Index.{entry_before_others_or_fault, found_entries, found_entry}
 use Rattle.make_index.specs.Kept.{AgreesUnlessMemory, AgreesUnlessMemoryOrDisk}
-use Rattle.make_index.specs.Files.{reads_of, OperandReadsFindOnlyValidFileBytes}
+use Rattle.make_index.specs.Files.{reads_of, EachOperandReadFindsNoFileOrFileBytes}
 use Rattle.base_core.specs.Files.{AreFileBytes}
 use Rattle.make_info.specs.declared.fault.MakeFault.{MakeFault}
 use Rattle.make_info.specs.declared.fault.MakeFault.TheVariants.{FileMissing, FileBad, InfoBad, TooLarge, Disk, Memory}
@@ -127,7 +127,7 @@ with_files found i f one files k q =
       | false ↦ files k q
     ]
 
-files_all : (read : ℕ → List ℕ → Option (List ℕ)) → ((k : ℕ) (q : List ℕ) → IfSome (read k q) AreFileBytes) → (n : ℕ) (os : List Operand) → OperandReadsFindOnlyValidFileBytes read n os
+files_all : (read : ℕ → List ℕ → Option (List ℕ)) → ((k : ℕ) (q : List ℕ) → IfSome (read k q) AreFileBytes) → (n : ℕ) (os : List Operand) → EachOperandReadFindsNoFileOrFileBytes read n os
 files_all read files n [] = tt
 files_all read files n (o ∷ os) = (λ file is. subst (λ (x : Option (List ℕ)). IfSome x AreFileBytes) is (files n (without_dot_slash o.text)), files_all read files (n + 1) os)
 
@@ -142,10 +142,10 @@ read_more os i o es new e at so f file one is = record {
       is;
 }
 
-pub read_all_is : (os : List Operand) (i : ℕ) (es : List Plain) → length os ≤ i → IsReadTo os i es → (read : ℕ → List ℕ → Option (List ℕ)) × OperandReadsFindOnlyValidFileBytes read 0 os × (found_entries read 0 os ≡ Ok es)
+pub read_all_is : (os : List Operand) (i : ℕ) (es : List Plain) → length os ≤ i → IsReadTo os i es → (read : ℕ → List ℕ → Option (List ℕ)) × EachOperandReadFindsNoFileOrFileBytes read 0 os × (found_entries read 0 os ≡ Ok es)
 read_all_is os i es past so = (so.found, files_all so.found so.files 0 os, so_far_all so.found os i es past (so.rest so.found (λ k lt. refl)))
 
-pub read_err : {A B : Type 0} (view : A → List Plain) (one : B → Plain) (os : List Operand) (i : ℕ) (o : Operand) (es : List Plain) (fault : MakeFault) (r : Result A MakeFault) → slice_get os i ≡ Some o → IsReadTo os i es → (found : Option (List ℕ)) × IfSome found AreFileBytes × AgreesUnlessMemoryOrDisk one (Err fault) (found_entry o.place found) → r ≡ Err fault → (read : ℕ → List ℕ → Option (List ℕ)) × OperandReadsFindOnlyValidFileBytes read 0 os × AgreesUnlessMemoryOrDisk view r (found_entries read 0 os)
+pub read_err : {A B : Type 0} (view : A → List Plain) (one : B → Plain) (os : List Operand) (i : ℕ) (o : Operand) (es : List Plain) (fault : MakeFault) (r : Result A MakeFault) → slice_get os i ≡ Some o → IsReadTo os i es → (found : Option (List ℕ)) × IfSome found AreFileBytes × AgreesUnlessMemoryOrDisk one (Err fault) (found_entry o.place found) → r ≡ Err fault → (read : ℕ → List ℕ → Option (List ℕ)) × EachOperandReadFindsNoFileOrFileBytes read 0 os × AgreesUnlessMemoryOrDisk view r (found_entries read 0 os)
 read_err view one os i o es fault r at so made e =
     let f : Option (List ℕ) = made.0 in (
       found_with so.found i f,
@@ -155,7 +155,7 @@ read_err view one os i o es fault r at so made e =
     )
 
 -- for lack of memory nothing is said of what was found
-pub read_stopped : {A : Type 0} (view : A → List Plain) (os : List Operand) (r : Result A MakeFault) → IsErrAnd r (λ e. e ≡ Memory) → (read : ℕ → List ℕ → Option (List ℕ)) × OperandReadsFindOnlyValidFileBytes read 0 os × AgreesUnlessMemoryOrDisk view r (found_entries read 0 os)
+pub read_stopped : {A : Type 0} (view : A → List Plain) (os : List Operand) (r : Result A MakeFault) → IsErrAnd r (λ e. e ≡ Memory) → (read : ℕ → List ℕ → Option (List ℕ)) × EachOperandReadFindsNoFileOrFileBytes read 0 os × AgreesUnlessMemoryOrDisk view r (found_entries read 0 os)
 read_stopped view os (Ok x) e = absurd e
 read_stopped view os (Err fault) e =
     let nothing : ℕ → List ℕ → Option (List ℕ) = λ k q. None in

@@ -15,7 +15,7 @@ use Rattle.command_core.specs.declared.command.Applet.{Applet}
 use Rattle.command_core.specs.declared.command.Applet.TheVariants.{Mkndx}
 use Rattle.make_index.specs.Index.{found_entries, index_of_entries, index_of_entries_or_fault, first_description_or_empty, made_index}
 use Rattle.make_index.specs.Kept.{AgreesUnlessMemory, AgreesUnlessMemoryOrDisk}
-use Rattle.make_index.specs.Files.{reads_of, OperandReadsFindOnlyValidFileBytes}
+use Rattle.make_index.specs.Files.{reads_of, EachOperandReadFindsNoFileOrFileBytes}
 use Rattle.make_info.specs.declared.fault.MakeFault.{MakeFault}
 use Rattle.make_info.specs.declared.fault.MakeFault.TheVariants.{FileMissing, FileBad, InfoBad, TooLarge, Disk, Memory}
 use Rattle.make_index.proofs.IndexReads.{by_made}
@@ -40,16 +40,16 @@ module _ (command : CommandLine) (d : List ℕ) (os : List Operand) (is_d : d �
   told_made view [] es r so made = tt
   told_made view (v ∷ earlier) es r so made = by_command view (reads_of v) r (made_all view d r _ es so made)
 
-  pub found_made : {A : Type 0} (view : A → List ℕ) (es : List Plain) (r : Result A MakeFault) → (read : ℕ → List ℕ → Option (List ℕ)) × OperandReadsFindOnlyValidFileBytes read 0 os × (found_entries read 0 os ≡ Ok es) → AgreesUnlessMemory view r (index_of_entries d es) → (read : ℕ → List ℕ → Option (List ℕ)) × OperandReadsFindOnlyValidFileBytes read 0 command.operands × AgreesUnlessMemoryOrDisk view r (made_index command read)
-  found_made view es r so made = (so.0, subst (OperandReadsFindOnlyValidFileBytes so.0 0) is_os so.1, by_command view so.0 r (made_all view d r _ es so.2 made))
+  pub found_made : {A : Type 0} (view : A → List ℕ) (es : List Plain) (r : Result A MakeFault) → (read : ℕ → List ℕ → Option (List ℕ)) × EachOperandReadFindsNoFileOrFileBytes read 0 os × (found_entries read 0 os ≡ Ok es) → AgreesUnlessMemory view r (index_of_entries d es) → (read : ℕ → List ℕ → Option (List ℕ)) × EachOperandReadFindsNoFileOrFileBytes read 0 command.operands × AgreesUnlessMemoryOrDisk view r (made_index command read)
+  found_made view es r so made = (so.0, subst (EachOperandReadFindsNoFileOrFileBytes so.0 0) is_os so.1, by_command view so.0 r (made_all view d r _ es so.2 made))
 
 module _ (command : CommandLine) (os : List Operand) (is_os : os ≡ command.operands) where
   pub told_refused : {A B : Type 0} (one : B → List Plain) (view : A → List ℕ) (history : List TreeState) (fault : MakeFault) (r : Result A MakeFault) → IfObservable history (λ v. AgreesUnlessMemoryOrDisk one (Err fault) (found_entries (reads_of v) 0 os)) → r ≡ Err fault → IfObservable history (λ v. AgreesUnlessMemoryOrDisk view r (made_index command (reads_of v)))
   told_refused one view [] fault r so e = tt
   told_refused one view (v ∷ earlier) fault r so e = by_command command (first_description_or_empty command.values) os refl is_os view (reads_of v) r (subst (λ x. AgreesUnlessMemoryOrDisk view x (index_of_entries_or_fault (first_description_or_empty command.values) (found_entries (reads_of v) 0 os))) (sym e) (refused_all one view (first_description_or_empty command.values) fault _ so))
 
-  pub found_refused : {A B : Type 0} (one : B → List Plain) (view : A → List ℕ) (fault : MakeFault) (r : Result A MakeFault) → (read : ℕ → List ℕ → Option (List ℕ)) × OperandReadsFindOnlyValidFileBytes read 0 os × AgreesUnlessMemoryOrDisk one (Err fault) (found_entries read 0 os) → r ≡ Err fault → (read : ℕ → List ℕ → Option (List ℕ)) × OperandReadsFindOnlyValidFileBytes read 0 command.operands × AgreesUnlessMemoryOrDisk view r (made_index command read)
-  found_refused one view fault r so e = (so.0, subst (OperandReadsFindOnlyValidFileBytes so.0 0) is_os so.1, by_command command (first_description_or_empty command.values) os refl is_os view so.0 r (subst (λ x. AgreesUnlessMemoryOrDisk view x (index_of_entries_or_fault (first_description_or_empty command.values) (found_entries so.0 0 os))) (sym e) (refused_all one view (first_description_or_empty command.values) fault _ so.2)))
+  pub found_refused : {A B : Type 0} (one : B → List Plain) (view : A → List ℕ) (fault : MakeFault) (r : Result A MakeFault) → (read : ℕ → List ℕ → Option (List ℕ)) × EachOperandReadFindsNoFileOrFileBytes read 0 os × AgreesUnlessMemoryOrDisk one (Err fault) (found_entries read 0 os) → r ≡ Err fault → (read : ℕ → List ℕ → Option (List ℕ)) × EachOperandReadFindsNoFileOrFileBytes read 0 command.operands × AgreesUnlessMemoryOrDisk view r (made_index command read)
+  found_refused one view fault r so e = (so.0, subst (EachOperandReadFindsNoFileOrFileBytes so.0 0) is_os so.1, by_command command (first_description_or_empty command.values) os refl is_os view so.0 r (subst (λ x. AgreesUnlessMemoryOrDisk view x (index_of_entries_or_fault (first_description_or_empty command.values) (found_entries so.0 0 os))) (sym e) (refused_all one view (first_description_or_empty command.values) fault _ so.2)))
 
 -- what the layer of commands says of operands that are files
 abbrev pub AreFileOperands : Type 0

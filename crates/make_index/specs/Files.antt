@@ -9,11 +9,11 @@ use Rattle.make_info.specs.Reads.{Reads}
 
 -- for each operand, the read of its file finds no file, or bytes that a file may have. The operands are
 -- read one after the other; the read for the first one has the number `n`
-abbrev pub OperandReadsFindOnlyValidFileBytes : Reads → ℕ → List Operand → Type 0
-OperandReadsFindOnlyValidFileBytes read n [] = Unit {0}
-OperandReadsFindOnlyValidFileBytes read n (o ∷ operands) =
+abbrev pub EachOperandReadFindsNoFileOrFileBytes : Reads → ℕ → List Operand → Type 0
+EachOperandReadFindsNoFileOrFileBytes read n [] = Unit {0}
+EachOperandReadFindsNoFileOrFileBytes read n (o ∷ operands) =
     ((file : List ℕ) → read n (without_dot_slash o.text) ≡ Some file → AreFileBytes file)
-    × OperandReadsFindOnlyValidFileBytes read (n + 1) operands
+    × EachOperandReadFindsNoFileOrFileBytes read (n + 1) operands
 
 -- the results of reads of a tree in this state: each finds what the tree has under the name that is read
 abbrev pub reads_of : TreeState → Reads

@@ -18,7 +18,7 @@ ghost use Rattle.make_index.specs.Entries.{index_entry_of_package_file};
 ghost use Rattle.make_index.specs.EntryOrder.{index_entry_cmp, version_of_index_entry, id_of_index_entry, name_of_index_entry};
 ghost use Rattle.base_core.specs.Sorted.{sorted_by};
 ghost use Rattle.base_core.specs.Files.{AreFileBytes};
-ghost use Rattle.make_index.specs.Files.{OperandReadsFindOnlyValidFileBytes, reads_of};
+ghost use Rattle.make_index.specs.Files.{EachOperandReadFindsNoFileOrFileBytes, reads_of};
 ghost use Rattle.make_index.specs.Index.{first_description_or_empty, index_of_entries, value_of_index, found_entries, found_entry, made_index};
 ghost use Rattle.make_index.specs.Kept.{AgreesUnlessMemory, AgreesUnlessMemoryOrDisk};
 ghost use Rattle.make_index.specs.Views.{entries_view, entry_view};
@@ -62,7 +62,8 @@ pub fn make<T: Tree>(alloc: Global, command: &Command, tree: &mut T) -> Result<V
         (reads_of v))) }
     // For every tree, the result is that for some result of each read (`read`). The read of the
     // first operand has the number 0.
-    ensures found { (read : Reads) × OperandReadsFindOnlyValidFileBytes read 0 command.now.operands
+    ensures found { (read : Reads)
+        × EachOperandReadFindsNoFileOrFileBytes read 0 command.now.operands
         × AgreesUnlessMemoryOrDisk (λ file. file.items) result (made_index command.now read) }
     // The tree is only read, and `Disk` has a fault of the tree as its cause.
     ensures tree { OnlyReads MakeFault.Disk (T.history tree.old) (T.history tree.new)
@@ -99,7 +100,7 @@ fn read_entries<T: Tree>(
     ensures made { IfObservable (T.history tree.old) (λ v.
         AgreesUnlessMemoryOrDisk entries_view result (found_entries (reads_of v) 0 operands.now)) }
     // For every tree, the result is that for some result of each read (`read`).
-    ensures found { (read : Reads) × OperandReadsFindOnlyValidFileBytes read 0 operands.now
+    ensures found { (read : Reads) × EachOperandReadFindsNoFileOrFileBytes read 0 operands.now
         × AgreesUnlessMemoryOrDisk entries_view result (found_entries read 0 operands.now) }
     // The tree is only read: no file changes, no I/O error is hidden, and no call is a misuse.
     ensures tree { OnlyReads MakeFault.Disk (T.history tree.old) (T.history tree.new)

@@ -12,9 +12,9 @@ use Rattle.command_core.specs.Command.{CommandLine}
 use Rattle.command_core.specs.Files.{without_dot_slash}
 use Rattle.command_core.specs.declared.values.OptionValue.{OptionValue}
 use Rattle.make_core.specs.make_info.Reads.{Reads}
-use Rattle.make_core.specs.package_files.Folders.{prefixes_before_slashes, all_folders_above, folder_listings_of, folders_above, is_slash, folder_listing_of, path_relative_to}
+use Rattle.make_core.specs.package_files.Folders.{prefixes_before_slashes, all_folders_above, folder_listings_by_tree_names, folders_above, is_slash, folder_listing_by_tree_names, path_relative_to}
 use Rattle.make_core.specs.package_files.Package.{SourceFolder}
-use Rattle.make_core.specs.package_files.Sources.{AreNamesBelowFirstFolder, source_folders_of_first_option, values_of_letter}
+use Rattle.make_core.specs.package_files.Sources.{AreSortedNamesBelowFirstFolder, source_folders_of_first_option_only, values_of_letter}
 use Rattle.make_core.specs.FilesBelow.{path_joined_to_folder}
 use Rattle.make_core.proofs.ListedNames.{AreListed, below_is, listed_in}
 use Rattle.make_core.proofs.SoundPackage.{are_listed}
@@ -89,19 +89,19 @@ module _ (dir : List ℕ) (names : List (List ℕ)) (all : AreListed dir names) 
   names_over pkg e f =
       (λ h. over_one f (subst (IsIn f) e h), λ h. subst (IsIn f) (sym e) (one_over f h))
 
-names_read : (read : Reads) (n place : ℕ) (dir : List ℕ) (names : List (List ℕ)) (sources : List SourceFolder) (v : OptionValue) (vs : List OptionValue) → source_folders_of_first_option read n (v ∷ vs) names ≡ Ok sources
+names_read : (read : Reads) (n place : ℕ) (dir : List ℕ) (names : List (List ℕ)) (sources : List SourceFolder) (v : OptionValue) (vs : List OptionValue) → source_folders_of_first_option_only read n (v ∷ vs) names ≡ Ok sources
     → map (λ (s : SourceFolder). s.name) sources ≡ all_folders_above (map (path_relative_to (without_dot_slash v.text)) names)
-unfolding folder_listings_of
+unfolding folder_listings_by_tree_names
 names_read read n place dir names sources v vs e =
     let fs : List (List ℕ) = all_folders_above (map (path_relative_to (without_dot_slash v.text)) names) in
-    listed_names (without_dot_slash v.text) names fs sources (folders_named v.place read n (map (folder_listing_of (without_dot_slash v.text) names) fs) sources e)
+    listed_names (without_dot_slash v.text) names fs sources (folders_named v.place read n (map (folder_listing_by_tree_names (without_dot_slash v.text) names) fs) sources e)
 
-pub folders_over_paths : AreFolderNames → (command : CommandLine) (names : List (List ℕ)) (read : Reads) (pkg : Plain) (v : OptionValue) (vs : List OptionValue) → AreNamesBelowFirstFolder (values_of_letter FILES command.values) names
+pub folders_over_paths : AreFolderNames → (command : CommandLine) (names : List (List ℕ)) (read : Reads) (pkg : Plain) (v : OptionValue) (vs : List OptionValue) → AreSortedNamesBelowFirstFolder (values_of_letter FILES command.values) names
     → values_of_letter FILES command.values ≡ v ∷ vs → IsMadeFrom command names read pkg → HasJustFoldersAbove (without_dot_slash v.text) names pkg
 folders_over_paths law command names read pkg v vs below given m =
     let dir : List ℕ = without_dot_slash v.text in
-    let named : AreNamesBelowFirstFolder (v ∷ vs) names = subst (λ (l : List OptionValue). AreNamesBelowFirstFolder l names) given below in
-    let read_of : source_folders_of_first_option read (length m.scripts) (v ∷ vs) names ≡ Ok m.sources =
-    ap (λ (l : List OptionValue). source_folders_of_first_option read (length m.scripts) l names) (sym given) ∙ m.sources_read in
+    let named : AreSortedNamesBelowFirstFolder (v ∷ vs) names = subst (λ (l : List OptionValue). AreSortedNamesBelowFirstFolder l names) given below in
+    let read_of : source_folders_of_first_option_only read (length m.scripts) (v ∷ vs) names ≡ Ok m.sources =
+    ap (λ (l : List OptionValue). source_folders_of_first_option_only read (length m.scripts) l names) (sym given) ∙ m.sources_read in
     names_over dir names (are_listed dir names named.each) law pkg
     (ap (map name_of) (folders_are command names read pkg m) ∙ (folder_names_stand m.sources ∙ names_read read (length m.scripts) v.place dir names m.sources v vs read_of))

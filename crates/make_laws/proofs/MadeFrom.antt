@@ -12,7 +12,7 @@ use Rattle.make_core.specs.make_info.Reads.{Reads}
 use Rattle.make_core.specs.make_info.Values.{number_or_null, plains_of_list}
 use Rattle.make_core.specs.make_package.Making.{made_package, or_info_bad}
 use Rattle.make_core.specs.package_files.Package.{Script, SourceFolder, contents_of_folders, installed_size, package_fields, value_of_folder, value_of_package, value_of_scripts}
-use Rattle.make_core.specs.package_files.Sources.{AreNamesBelowFirstFolder, source_folders_of_first_option, and_then, scripts_from_read, texts_of, values_of_letter}
+use Rattle.make_core.specs.package_files.Sources.{AreSortedNamesBelowFirstFolder, source_folders_of_first_option_only, and_then, scripts_from_read, texts_of, values_of_letter}
 use Rattle.make_core.specs.ReadBack.{packed_of_parts, package_with_contents_of_command}
 use Rattle.make_core.proofs.ListedNames.{after_ok}
 use Rattle.make_core.proofs.PackageFiles.{folders_stand, list-plains}
@@ -21,7 +21,7 @@ use Rattle.make_laws.specs.MadePackages.{HasTriggersOfOptionsInOrder, IsMadePack
 
 -- what a package that is made is read back as
 abbrev pub ReadsBack : Type 0
-ReadsBack = (command : CommandLine) (names : List (List ℕ)) (read : Reads) (bytes : List ℕ) → AreNamesBelowFirstFolder (values_of_letter FILES command.values) names → made_package command names read ≡ Ok bytes → length bytes < 2 ^ 64
+ReadsBack = (command : CommandLine) (names : List (List ℕ)) (read : Reads) (bytes : List ℕ) → AreSortedNamesBelowFirstFolder (values_of_letter FILES command.values) names → made_package command names read ≡ Ok bytes → length bytes < 2 ^ 64
     → package_with_contents_of_command command names read ≡ Ok (package_with_contents bytes)
 
 pub record IsMadeFrom (command : CommandLine) (names : List (List ℕ)) (read : Reads) (pkg : Plain) : Type 0 where
@@ -30,7 +30,7 @@ pub record IsMadeFrom (command : CommandLine) (names : List (List ℕ)) (read : 
   pub sources : List SourceFolder
   pub scripts_read : scripts_from_read read 0 (values_of_letter SCRIPT command.values) ≡ Ok scripts
   pub items_read : or_info_bad (information command) ≡ Ok items
-  pub sources_read : source_folders_of_first_option read (length scripts) (values_of_letter FILES command.values) names ≡ Ok sources
+  pub sources_read : source_folders_of_first_option_only read (length scripts) (values_of_letter FILES command.values) names ≡ Ok sources
   pub value : pkg ≡ value_of_package (information_value_with_installed_size items (installed_size sources)) sources scripts (texts_of (values_of_letter TRIGGER command.values)) (replaces_priority items)
 
 pub made_from : ReadsBack → (command : CommandLine) (names : List (List ℕ)) (read : Reads) (bytes : List ℕ) → IsMadePackage command names read bytes → IsMadeFrom command names read (package_in_container bytes)
@@ -38,10 +38,10 @@ made_from back command names read bytes made =
     let whole : PackageWithContents = package_with_contents bytes in
     let one = after_ok (scripts_from_read read 0 (values_of_letter SCRIPT command.values)) (λ scripts.
     and_then (or_info_bad (information command)) (λ about.
-    and_then (source_folders_of_first_option read (length scripts) (values_of_letter FILES command.values) names) (packed_of_parts command scripts about))) whole (back command names read bytes made.below made.made made.short) in
+    and_then (source_folders_of_first_option_only read (length scripts) (values_of_letter FILES command.values) names) (packed_of_parts command scripts about))) whole (back command names read bytes made.below made.made made.short) in
     let two = after_ok (or_info_bad (information command)) (λ about.
-    and_then (source_folders_of_first_option read (length one.x) (values_of_letter FILES command.values) names) (packed_of_parts command one.x about)) whole one.gives in
-    let three = after_ok (source_folders_of_first_option read (length one.x) (values_of_letter FILES command.values) names) (packed_of_parts command one.x two.x) whole two.gives in
+    and_then (source_folders_of_first_option_only read (length one.x) (values_of_letter FILES command.values) names) (packed_of_parts command one.x about)) whole one.gives in
+    let three = after_ok (source_folders_of_first_option_only read (length one.x) (values_of_letter FILES command.values) names) (packed_of_parts command one.x two.x) whole two.gives in
     let gives = three.gives in
     let v : Plain = value_of_package (information_value_with_installed_size two.x (installed_size three.x)) three.x one.x (texts_of (values_of_letter TRIGGER command.values)) (replaces_priority two.x) in
     let same : package_with_contents_from_parts v (contents_of_folders 1 three.x) ≡ whole = cc (gives) in

@@ -13,17 +13,17 @@ use Rattle.command_core.specs.Command.{CommandLine}
 use Rattle.command_core.specs.Values.{script_file}
 use Rattle.command_core.specs.Files.{without_dot_slash}
 use Rattle.command_core.specs.declared.values.OptionValue.{OptionValue}
-use Rattle.package_files.specs.Folders.{folder_listings_of}
+use Rattle.package_files.specs.Folders.{folder_listings_by_tree_names}
 use Rattle.package_files.specs.make_info.Faults.{IsInfoFault}
 use Rattle.package_files.specs.make_info.Information.{FieldWithValue, information}
-use Rattle.make_package.specs.Answers.{IsBytes, IsOkOrDiskOrMemory, IsMakeResult, IsNotDisk, AreNamesBelowFirstOption}
+use Rattle.make_package.specs.Answers.{IsBytes, IsOkOrDiskOrMemory, IsMakeResult, IsNotDisk, IsSortedListingOfFirstFolder}
 use Rattle.make_package.specs.Making.{made_package, or_info_bad, package_of_parts}
 use Rattle.package_files.specs.Package as packages
 use Rattle.package_files.specs.Package.{SourceFolder}
 use Rattle.package_files.specs.Packed.{IsPacking}
 use Rattle.package_files.specs.Runs.{AgreesOrIsFault, HoldsOfSomeReadsOfTree}
 use Rattle.make_package.specs.Scripts.{AreScripts, IsScript, script_view, scripts_view}
-use Rattle.package_files.specs.Sources.{AreNamesBelowFirstFolder, and_then, results_from_read, source_folder_read_at, source_folders_of_first_option, source_folders_at_place_from_read, found_bytes_or_missing, values_of_letter, script_at, scripts_from_read}
+use Rattle.package_files.specs.Sources.{AreSortedNamesBelowFirstFolder, and_then, results_from_read, source_folder_at_place_by_read, source_folders_of_first_option_only, source_folders_at_place_from_read, found_bytes_or_missing, values_of_letter, script_at, scripts_from_read}
 use Rattle.package_files.specs.make_info.Reads.{Reads}
 use Rattle.package_files.specs.make_info.declared.fault.MakeFault.{MakeFault}
 use Rattle.package_files.specs.make_info.declared.fault.MakeFault.TheVariants.{FileMissing, FileBad, InfoBad, TooLarge, Disk, Memory}
@@ -91,19 +91,19 @@ ones (x ∷ xs) = let further = ones xs in omega arith
 
 -- ---- scripts, and then folders
 
-folders_rest : (k : ℕ) (ds : List OptionValue) (names : List (List ℕ)) (f g : Reads) → ((m : ℕ) (name : List ℕ) → k ≤ m → f m name ≡ g m name) → source_folders_of_first_option f k ds names ≡ source_folders_of_first_option g k ds names
+folders_rest : (k : ℕ) (ds : List OptionValue) (names : List (List ℕ)) (f g : Reads) → ((m : ℕ) (name : List ℕ) → k ≤ m → f m name ≡ g m name) → source_folders_of_first_option_only f k ds names ≡ source_folders_of_first_option_only g k ds names
 folders_rest k [] names f g h = refl
-folders_rest k (v ∷ vs) names f g h = each_rests reads_in (source_folder_read_at v.place) (folder_own v.place) f g k (folder_listings_of (without_dot_slash v.text) names) (λ m name lo hi. h m name lo)
+folders_rest k (v ∷ vs) names f g h = each_rests reads_in (source_folder_at_place_by_read v.place) (folder_own v.place) f g k (folder_listings_by_tree_names (without_dot_slash v.text) names) (λ m name lo hi. h m name lo)
 
 -- scripts and folders are explained together
 pub record AreParts (ss ds : List OptionValue) (names : List (List ℕ)) (scripts : Vec Script Global) (r : Result Packing MakeFault) (read : Reads) : Type 0 where
   pub given : List packages.Script
   pub are : scripts_from_read read 0 ss ≡ Ok given
   pub view : AreScripts scripts given
-  pub rest : AgreesOrIsFault IsPacking r (source_folders_of_first_option read (length given) ds names)
+  pub rest : AgreesOrIsFault IsPacking r (source_folders_of_first_option_only read (length given) ds names)
 
 pub both_parts : (told : List TreeState) (ss ds : List OptionValue) (names : List (List ℕ)) (scripts : Vec Script Global) (r : Result Packing MakeFault)
-    → HoldsOfSomeReadsOfTree told (λ read. AgreesOrIsFault AreScripts (Ok scripts) (scripts_from_read read 0 ss)) → ((n : ℕ) → HoldsOfSomeReadsOfTree told (λ read. AgreesOrIsFault IsPacking r (source_folders_of_first_option read n ds names)))
+    → HoldsOfSomeReadsOfTree told (λ read. AgreesOrIsFault AreScripts (Ok scripts) (scripts_from_read read 0 ss)) → ((n : ℕ) → HoldsOfSomeReadsOfTree told (λ read. AgreesOrIsFault IsPacking r (source_folders_of_first_option_only read n ds names)))
     → HoldsOfSomeReadsOfTree told (AreParts ss ds names scripts r)
 both_parts told ss ds names scripts r p q =
     let k : ℕ = 0 + total one_read ss in
@@ -112,7 +112,7 @@ both_parts told ss ds names scripts r p q =
     let many : length p.is.0 ≡ length ss = each_long one_read (script_at p.read) 0 ss p.is.0 p.is.1 in
     let counted : total one_read ss ≡ length ss = ones ss in
     let long : k ≡ length p.is.0 = omega arith in
-    let P : ℕ → Type 0 = λ n. AgreesOrIsFault IsPacking r (source_folders_of_first_option both n ds names) in
+    let P : ℕ → Type 0 = λ n. AgreesOrIsFault IsPacking r (source_folders_of_first_option_only both n ds names) in
     let Q : Result (List SourceFolder) MakeFault → Type 0 = λ w. AgreesOrIsFault IsPacking r w in
     record {
       read = both;
@@ -129,7 +129,7 @@ both_parts told ss ds names scripts r p q =
 
 module _ (command : CommandLine) (names : List (List ℕ)) (read : Reads) where
   abbrev behind_info : List packages.Script → List FieldWithValue → Result (List ℕ) MakeFault
-  behind_info scripts about = and_then (source_folders_of_first_option read (length scripts) (values_of_letter FILES command.values) names) (package_of_parts command scripts about)
+  behind_info scripts about = and_then (source_folders_of_first_option_only read (length scripts) (values_of_letter FILES command.values) names) (package_of_parts command scripts about)
 
   abbrev after_scripts : List packages.Script → Result (List ℕ) MakeFault
   after_scripts scripts = and_then (or_info_bad (information command)) (behind_info scripts)
@@ -158,7 +158,7 @@ module _ (command : CommandLine) (names : List (List ℕ)) (read : Reads) where
   folders_fault scripts about fault i h =
       let Q : Result (List ℕ) MakeFault → Type 0 = λ w. AgreesOrIsFault IsBytes (Err fault) w in
       subst Q (sym (to_folders h.given about h.are i))
-      (fault_of_part IsPacking IsBytes fault (source_folders_of_first_option read (length h.given) (values_of_letter FILES command.values) names) (package_of_parts command h.given about) h.rest)
+      (fault_of_part IsPacking IsBytes fault (source_folders_of_first_option_only read (length h.given) (values_of_letter FILES command.values) names) (package_of_parts command h.given about) h.rest)
 
   pub parts_made : (scripts : Vec Script Global) (about : List FieldWithValue) (packing : Packing) (r : Result (Vec ℕ Global) MakeFault) → information command ≡ Ok about
       → AreParts (values_of_letter SCRIPT command.values) (values_of_letter FILES command.values) names scripts (Ok packing) read
@@ -172,7 +172,7 @@ module _ (command : CommandLine) (names : List (List ℕ)) (read : Reads) where
 
 -- ---- a run, of what is made
 
-pub made_by : (told : List TreeState) (command : CommandLine) (names : List (List ℕ)) (r : Result (Vec ℕ Global) MakeFault) → AreNamesBelowFirstFolder (values_of_letter FILES command.values) names → IfObservable told (λ v. AreNamesBelowFirstOption (values_of_letter FILES command.values) v names)
+pub made_by : (told : List TreeState) (command : CommandLine) (names : List (List ℕ)) (r : Result (Vec ℕ Global) MakeFault) → AreSortedNamesBelowFirstFolder (values_of_letter FILES command.values) names → IfObservable told (λ v. IsSortedListingOfFirstFolder (values_of_letter FILES command.values) v names)
     → HoldsOfSomeReadsOfTree told (λ read. AgreesOrIsFault IsBytes r (made_package command names read)) → IsMakeResult told command r
 made_by told command names (Ok file) named below p = record { names = names; named = named; below = below; reads = record { read = p.read; observed = p.observed; is = p.is.1 ∙ ap Ok p.is.2 } }
 made_by told command names (Err Disk) named below p = tt
@@ -183,7 +183,7 @@ made_by told command names (Err (InfoBad q)) named below p = record { names = na
 made_by told command names (Err (TooLarge b v)) named below p = record { names = names; named = named; below = below; reads = p }
 
 -- the tree was asked before the run, and stayed as it was
-pub run_as : (t0 t1 : List TreeState) (command : CommandLine) (names : List (List ℕ)) (r : Result (Vec ℕ Global) MakeFault) → t1 ≡ t0 → AreNamesBelowFirstFolder (values_of_letter FILES command.values) names → IfObservable t0 (λ v. AreNamesBelowFirstOption (values_of_letter FILES command.values) v names)
+pub run_as : (t0 t1 : List TreeState) (command : CommandLine) (names : List (List ℕ)) (r : Result (Vec ℕ Global) MakeFault) → t1 ≡ t0 → AreSortedNamesBelowFirstFolder (values_of_letter FILES command.values) names → IfObservable t0 (λ v. IsSortedListingOfFirstFolder (values_of_letter FILES command.values) v names)
     → HoldsOfSomeReadsOfTree t1 (λ read. AgreesOrIsFault IsBytes r (made_package command names read)) → IsMakeResult t0 command r
 run_as t0 t1 command names r e named below p =
     let P : List TreeState → Type 0 = λ t. HoldsOfSomeReadsOfTree t (λ read. AgreesOrIsFault IsBytes r (made_package command names read)) in
@@ -191,19 +191,19 @@ run_as t0 t1 command names r e named below p =
 
 -- ---- the listing
 
-pub below_as : (told : List TreeState) (command : CommandLine) (values : List OptionValue) (names : List (List ℕ)) → values ≡ command.values → IfObservable told (λ v. AreNamesBelowFirstOption (values_of_letter FILES values) v names)
-    → IfObservable told (λ v. AreNamesBelowFirstOption (values_of_letter FILES command.values) v names)
-below_as told command values names e h = let P : List OptionValue → Type 0 = λ vs. IfObservable told (λ v. AreNamesBelowFirstOption (values_of_letter FILES vs) v names) in subst P e h
+pub below_as : (told : List TreeState) (command : CommandLine) (values : List OptionValue) (names : List (List ℕ)) → values ≡ command.values → IfObservable told (λ v. IsSortedListingOfFirstFolder (values_of_letter FILES values) v names)
+    → IfObservable told (λ v. IsSortedListingOfFirstFolder (values_of_letter FILES command.values) v names)
+below_as told command values names e h = let P : List OptionValue → Type 0 = λ vs. IfObservable told (λ v. IsSortedListingOfFirstFolder (values_of_letter FILES vs) v names) in subst P e h
 
-pub named_as : (command : CommandLine) (values : List OptionValue) (names : List (List ℕ)) → values ≡ command.values → AreNamesBelowFirstFolder (values_of_letter FILES values) names → AreNamesBelowFirstFolder (values_of_letter FILES command.values) names
-named_as command values names e h = let P : List OptionValue → Type 0 = λ vs. AreNamesBelowFirstFolder (values_of_letter FILES vs) names in subst P e h
+pub named_as : (command : CommandLine) (values : List OptionValue) (names : List (List ℕ)) → values ≡ command.values → AreSortedNamesBelowFirstFolder (values_of_letter FILES values) names → AreSortedNamesBelowFirstFolder (values_of_letter FILES command.values) names
+named_as command values names e h = let P : List OptionValue → Type 0 = λ vs. AreSortedNamesBelowFirstFolder (values_of_letter FILES vs) names in subst P e h
 
-pub nothing_named : (dirs : List OptionValue) (names : List (List ℕ)) → dirs ≡ [] → AreNamesBelowFirstFolder dirs names
-nothing_named dirs names e = let P : List OptionValue → Type 0 = λ l. AreNamesBelowFirstFolder l names in subst P (sym e) tt
+pub nothing_named : (dirs : List OptionValue) (names : List (List ℕ)) → dirs ≡ [] → AreSortedNamesBelowFirstFolder dirs names
+nothing_named dirs names e = let P : List OptionValue → Type 0 = λ l. AreSortedNamesBelowFirstFolder l names in subst P (sym e) tt
 
-pub nothing_below : (told : List TreeState) (dirs : List OptionValue) (names : List (List ℕ)) → dirs ≡ [] → IfObservable told (λ v. AreNamesBelowFirstOption dirs v names)
+pub nothing_below : (told : List TreeState) (dirs : List OptionValue) (names : List (List ℕ)) → dirs ≡ [] → IfObservable told (λ v. IsSortedListingOfFirstFolder dirs v names)
 nothing_below [] dirs names e = tt
-nothing_below (v ∷ vs) dirs names e = let P : List OptionValue → Type 0 = λ l. AreNamesBelowFirstOption l v names in subst P (sym e) tt
+nothing_below (v ∷ vs) dirs names e = let P : List OptionValue → Type 0 = λ l. IsSortedListingOfFirstFolder l v names in subst P (sym e) tt
 
 cut_by : (told : List TreeState) (command : CommandLine) (fault : MakeFault) → IsOkOrDiskOrMemory {A = List (List ℕ)} (Err fault) → IsMakeResult told command (Err fault)
 cut_by told command Disk cut = tt
@@ -225,11 +225,11 @@ scripts_as told r values wanted e h = let P : List OptionValue → Type 0 = λ v
 
 -- folders behind scripts, after which the tree stayed as it was
 pub both_as : (t0 t1 : List TreeState) (command : CommandLine) (values : List OptionValue) (names : List (List ℕ)) (scripts : Vec Script Global) (r : Result Packing MakeFault) → values ≡ command.values → t1 ≡ t0
-    → HoldsOfSomeReadsOfTree t0 (λ read. AgreesOrIsFault AreScripts (Ok scripts) (scripts_from_read read 0 (values_of_letter SCRIPT values))) → ((n : ℕ) → HoldsOfSomeReadsOfTree t1 (λ read. AgreesOrIsFault IsPacking r (source_folders_of_first_option read n (values_of_letter FILES values) names)))
+    → HoldsOfSomeReadsOfTree t0 (λ read. AgreesOrIsFault AreScripts (Ok scripts) (scripts_from_read read 0 (values_of_letter SCRIPT values))) → ((n : ℕ) → HoldsOfSomeReadsOfTree t1 (λ read. AgreesOrIsFault IsPacking r (source_folders_of_first_option_only read n (values_of_letter FILES values) names)))
     → HoldsOfSomeReadsOfTree t0 (AreParts (values_of_letter SCRIPT command.values) (values_of_letter FILES command.values) names scripts r)
 both_as t0 t1 command values names scripts r e same p q =
     let P : List OptionValue → Type 0 = λ vs. HoldsOfSomeReadsOfTree t0 (AreParts (values_of_letter SCRIPT vs) (values_of_letter FILES vs) names scripts r) in
-    let Q : List TreeState → Type 0 = λ t. (n : ℕ) → HoldsOfSomeReadsOfTree t (λ read. AgreesOrIsFault IsPacking r (source_folders_of_first_option read n (values_of_letter FILES values) names)) in
+    let Q : List TreeState → Type 0 = λ t. (n : ℕ) → HoldsOfSomeReadsOfTree t (λ read. AgreesOrIsFault IsPacking r (source_folders_of_first_option_only read n (values_of_letter FILES values) names)) in
     subst P e (both_parts t0 (values_of_letter SCRIPT values) (values_of_letter FILES values) names scripts r p (subst Q same q))
 
 pub package_as : (command : CommandLine) (about : List FieldWithValue) (borrowed scripts : List Script) (packing : Packing) (r : Result (Vec ℕ Global) MakeFault) → borrowed ≡ scripts
@@ -241,29 +241,29 @@ package_as command about borrowed scripts packing r e made sources is =
 -- ---- of the folder that is given, or of none
 
 pub listed_for : (told : List TreeState) (vs : List OptionValue) (folder : List ℕ) (names : List (List ℕ)) → IsFolder vs folder
-    → IfObservable told (λ w. IsSortedListingOfFolder folder w names) → IfObservable told (λ w. AreNamesBelowFirstOption (values_of_letter FILES vs) w names)
+    → IfObservable told (λ w. IsSortedListingOfFolder folder w names) → IfObservable told (λ w. IsSortedListingOfFirstFolder (values_of_letter FILES vs) w names)
 listed_for told vs folder names f h =
-    let P : List OptionValue → Type 0 = λ l. IfObservable told (λ w. AreNamesBelowFirstOption l w names) in
+    let P : List OptionValue → Type 0 = λ l. IfObservable told (λ w. IsSortedListingOfFirstFolder l w names) in
     let Q : List ℕ → Type 0 = λ d. IfObservable told (λ w. IsSortedListingOfFolder d w names) in
     subst P (sym f.first) (subst Q (sym f.name) h)
 
-pub named_for : (vs : List OptionValue) (folder : List ℕ) (names : List (List ℕ)) → IsFolder vs folder → AreSortedNamesBelowFolder folder names → AreNamesBelowFirstFolder (values_of_letter FILES vs) names
+pub named_for : (vs : List OptionValue) (folder : List ℕ) (names : List (List ℕ)) → IsFolder vs folder → AreSortedNamesBelowFolder folder names → AreSortedNamesBelowFirstFolder (values_of_letter FILES vs) names
 named_for vs folder names f h =
-    let P : List OptionValue → Type 0 = λ l. AreNamesBelowFirstFolder l names in
+    let P : List OptionValue → Type 0 = λ l. AreSortedNamesBelowFirstFolder l names in
     let Q : List ℕ → Type 0 = λ d. AreSortedNamesBelowFolder d names in
     subst P (sym f.first) (subst Q (sym f.name) h)
 
 pub packed_for : (told : List TreeState) (dirs : List OptionValue) (v : OptionValue) (others : List OptionValue) (dir : List ℕ) (names : List (List ℕ)) (r : Result Packing MakeFault) (n : ℕ) → dirs ≡ v ∷ others
-    → dir ≡ without_dot_slash v.text → HoldsOfSomeReadsOfTree told (λ read. AgreesOrIsFault IsPacking r (source_folders_at_place_from_read v.place read n (folder_listings_of dir names))) → HoldsOfSomeReadsOfTree told (λ read. AgreesOrIsFault IsPacking r (source_folders_of_first_option read n dirs names))
+    → dir ≡ without_dot_slash v.text → HoldsOfSomeReadsOfTree told (λ read. AgreesOrIsFault IsPacking r (source_folders_at_place_from_read v.place read n (folder_listings_by_tree_names dir names))) → HoldsOfSomeReadsOfTree told (λ read. AgreesOrIsFault IsPacking r (source_folders_of_first_option_only read n dirs names))
 packed_for told dirs v others dir names r n e d h =
-    let P : List OptionValue → Type 0 = λ l. HoldsOfSomeReadsOfTree told (λ read. AgreesOrIsFault IsPacking r (source_folders_of_first_option read n l names)) in
-    let Q : List ℕ → Type 0 = λ f. HoldsOfSomeReadsOfTree told (λ read. AgreesOrIsFault IsPacking r (source_folders_at_place_from_read v.place read n (folder_listings_of f names))) in
+    let P : List OptionValue → Type 0 = λ l. HoldsOfSomeReadsOfTree told (λ read. AgreesOrIsFault IsPacking r (source_folders_of_first_option_only read n l names)) in
+    let Q : List ℕ → Type 0 = λ f. HoldsOfSomeReadsOfTree told (λ read. AgreesOrIsFault IsPacking r (source_folders_at_place_from_read v.place read n (folder_listings_by_tree_names f names))) in
     subst P (sym e) (subst Q d h)
 
 pub nothing_packed : (told : List TreeState) (dirs : List OptionValue) (names : List (List ℕ)) (packing : Packing) (n : ℕ) → dirs ≡ [] → packing.blocks.items ≡ [] → packing.folders.items ≡ []
-    → HoldsOfSomeReadsOfTree told (λ read. AgreesOrIsFault IsPacking (Ok packing) (source_folders_of_first_option read n dirs names))
+    → HoldsOfSomeReadsOfTree told (λ read. AgreesOrIsFault IsPacking (Ok packing) (source_folders_of_first_option_only read n dirs names))
 nothing_packed told dirs names packing n e b f =
-    let P : List OptionValue → Type 0 = λ l. HoldsOfSomeReadsOfTree told (λ read. AgreesOrIsFault IsPacking (Ok packing) (source_folders_of_first_option read n l names)) in
+    let P : List OptionValue → Type 0 = λ l. HoldsOfSomeReadsOfTree told (λ read. AgreesOrIsFault IsPacking (Ok packing) (source_folders_of_first_option_only read n l names)) in
     subst P (sym e) (explained told (λ read. AgreesOrIsFault IsPacking (Ok packing) (Ok [])) (λ read. ([], refl, folders_none packing.blocks.items packing.folders b f)))
 
 -- ---- a run, of the tree

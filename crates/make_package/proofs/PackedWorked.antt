@@ -1,7 +1,7 @@
 -- Packages worked by hand: their folders, values and files.
 use Rattle.std.proofs.Common.{◌≡◌, [], ◌∷◌, refl, codes}
 use Rattle.adb_view.specs.Plain.{Plain, none, more, blob_or_null, trimmed_object_or_null}
-use Rattle.package_files.specs.Folders.{all_folders_above, folder_of, last_part_of, folder_listings_of}
+use Rattle.package_files.specs.Folders.{all_folders_above, folder_of, last_part_of, folder_listings_by_tree_names}
 
 a_path : folder_of (codes "usr/bin/hello") ≡ codes "usr/bin"
 a_path = refl
@@ -22,9 +22,9 @@ folders = refl
 no_folders : all_folders_above [] ≡ []
 no_folders = refl
 
-their_files : folder_listings_of (codes "in") (codes "in/a-b/x" ∷ codes "in/a/b/c" ∷ codes "in/a/b/d" ∷ [])
+their_files : folder_listings_by_tree_names (codes "in") (codes "in/a-b/x" ∷ codes "in/a/b/c" ∷ codes "in/a/b/d" ∷ [])
     ≡ record { name = []; files = [] } ∷ record { name = codes "a"; files = [] } ∷ record { name = codes "a-b"; files = codes "in/a-b/x" ∷ [] } ∷ record { name = codes "a/b"; files = codes "in/a/b/c" ∷ codes "in/a/b/d" ∷ [] } ∷ []
-unfolding folder_listings_of
+unfolding folder_listings_by_tree_names
 their_files = refl
 
 -- a name and a version alone

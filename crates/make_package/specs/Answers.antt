@@ -16,7 +16,7 @@ use Rattle.package_files.specs.make_info.declared.fault.MakeFault.{MakeFault}
 use Rattle.package_files.specs.make_info.declared.fault.MakeFault.TheVariants.{Disk, Memory}
 use Rattle.make_package.specs.Making.{made_package}
 use Rattle.package_files.specs.Runs.{HoldsOfSomeReadsOfTree}
-use Rattle.package_files.specs.Sources.{AreNamesBelowFirstFolder, values_of_letter}
+use Rattle.package_files.specs.Sources.{AreSortedNamesBelowFirstFolder, values_of_letter}
 
 -- ---- parts of a run
 
@@ -43,9 +43,10 @@ IsNotDisk result = Unit {0}
 
 -- the names are exactly those of the files below the folder that the first value of `-F` gives, in a tree
 -- of this state. Without a value of `-F` nothing is stated
-abbrev pub AreNamesBelowFirstOption : List OptionValue → TreeState → List (List ℕ) → Type 0
-AreNamesBelowFirstOption [] v names = Unit {0}
-AreNamesBelowFirstOption (dir ∷ dirs) v names = IsSortedListingOfFolder (without_dot_slash dir.text) v names
+abbrev pub IsSortedListingOfFirstFolder : List OptionValue → TreeState → List (List ℕ) → Type 0
+IsSortedListingOfFirstFolder [] v names = Unit {0}
+IsSortedListingOfFirstFolder (dir ∷ dirs) v names =
+    IsSortedListingOfFolder (without_dot_slash dir.text) v names
 
 -- `P` holds of the refusal with this error. If the error is an I/O error of the tree or out of memory,
 -- nothing is stated
@@ -63,10 +64,10 @@ pub record IsMadeOf (history : List TreeState) (command : CommandLine)
   -- the names of the files below the folder of the option `-F`
   pub names : List (List ℕ)
   -- they are names below this folder, in byte order
-  pub named : AreNamesBelowFirstFolder (values_of_letter FILES command.values) names
+  pub named : AreSortedNamesBelowFirstFolder (values_of_letter FILES command.values) names
   -- if the tree is observable, they are exactly the tree's names below this folder
   pub below : IfObservable history
-      (λ v. AreNamesBelowFirstOption (values_of_letter FILES command.values) v names)
+      (λ v. IsSortedListingOfFirstFolder (values_of_letter FILES command.values) v names)
   -- some results of reads, which are the tree's if it is observable, give what is made
   pub reads : HoldsOfSomeReadsOfTree history (λ read. made_package command names read ≡ made)
 
@@ -82,7 +83,7 @@ pub record IsMadeFromTree (command : CommandLine) (v : TreeState) (made : Result
   -- the names of the files below the folder of the option `-F`
   pub names : List (List ℕ)
   -- they are exactly the tree's names below this folder
-  pub below : AreNamesBelowFirstOption (values_of_letter FILES command.values) v names
+  pub below : IsSortedListingOfFirstFolder (values_of_letter FILES command.values) v names
   -- the package is made with reads that return the tree's files
   pub is : made_package command names (λ n name. files_of v name) ≡ made
 
@@ -92,7 +93,7 @@ pub record IsMadeBySomeReads (command : CommandLine) (made : Result (List ℕ) M
   -- the names of the files below the folder of the option `-F`
   pub names : List (List ℕ)
   -- they are names below this folder, in byte order
-  pub named : AreNamesBelowFirstFolder (values_of_letter FILES command.values) names
+  pub named : AreSortedNamesBelowFirstFolder (values_of_letter FILES command.values) names
   -- the results of the reads
   pub read : Reads
   -- the package is made of the command, the names and these reads

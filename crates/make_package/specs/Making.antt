@@ -15,7 +15,7 @@ use Rattle.package_files.specs.make_info.Reads.{Reads}
 use Rattle.package_files.specs.make_info.declared.fault.MakeFault.{MakeFault}
 use Rattle.package_files.specs.make_info.declared.fault.MakeFault.TheVariants.{InfoBad, TooLarge}
 use Rattle.package_files.specs.Package.{SourceFolder, Script, value_of_package, installed_size, contents_of_folders}
-use Rattle.package_files.specs.Sources.{and_then, values_of_letter, texts_of, scripts_from_read, source_folders_of_first_option}
+use Rattle.package_files.specs.Sources.{and_then, values_of_letter, texts_of, scripts_from_read, source_folders_of_first_option_only}
 
 -- ---- the file
 
@@ -56,6 +56,6 @@ unfoldable pub made_package : CommandLine → List (List ℕ) → Reads → Resu
 made_package command names read =
     and_then (scripts_from_read read 0 (values_of_letter SCRIPT command.values)) (λ scripts.
     and_then (or_info_bad (information command)) (λ about.
-    and_then (source_folders_of_first_option read (length scripts)
+    and_then (source_folders_of_first_option_only read (length scripts)
     (values_of_letter FILES command.values) names)
     (package_of_parts command scripts about)))

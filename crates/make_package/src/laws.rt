@@ -9,7 +9,7 @@ ghost use Rattle.package_files.specs.make_info.declared.field.Field.TheVariants.
 ghost use Rattle.package_files.specs.make_info.Fields.{field_word};
 ghost use Rattle.package_files.specs.make_info.Named.{value_by_name};
 ghost use Rattle.package_files.specs.make_info.Values.{number_or_null, plains_of_list, size_or_null_if_zero};
-ghost use Rattle.package_files.specs.Folders.{all_folders_above, folder_listings_of, folders_above};
+ghost use Rattle.package_files.specs.Folders.{all_folders_above, folder_listings_by_tree_names, folders_above};
 ghost use Rattle.package_files.specs.Package.{FILE_MODE, FOLDER_MODE, Script, access_value, file_fields, folder_fields, is_link_file, kind_of_file, link_text, package_fields, script_fields, script_bytes_of_field};
 ghost use Rattle.package_files.specs.declared.file.FileKind.{FileKind};
 ghost use Rattle.sha2.specs.Sha256.{sha256};
@@ -42,10 +42,11 @@ pub fn a_part_is_in_the_field_of_its_name()
 pub fn each_name_is_in_one_folder()
     // The files of all folders are the listed names, each once.
     ensures names { (dir : List ℕ) (names : List (List ℕ))
-        → IsPermutation names (flat_map (λ folder. folder.files) (folder_listings_of dir names)) }
+        → IsPermutation names (flat_map (λ folder. folder.files)
+        (folder_listings_by_tree_names dir names)) }
     // The folders are in byte order of their names.
     ensures rise { (dir : List ℕ) (names : List (List ℕ)) → IsStrictlySortedBy (slice_cmp nat_cmp)
-        (map (λ folder. folder.name) (folder_listings_of dir names)) }
+        (map (λ folder. folder.name) (folder_listings_by_tree_names dir names)) }
     // Each folder of a package is above one of the paths.
     ensures over { (paths : List (List ℕ)) (folder : List ℕ)
         → Contains (all_folders_above paths) folder

@@ -9,11 +9,11 @@ ghost use Rattle.command_core.specs.Files.{without_dot_slash};
 ghost use Rattle.command_core.specs.Values.{script_file};
 ghost use Rattle.command_core.specs.declared.command.Applet.TheVariants.{Mkpkg};
 ghost use Rattle.command_core.specs.declared.values.TheConstants.{FILES, SCRIPT};
-ghost use Rattle.make_package.specs.Answers.{IsOkOrDiskOrMemory, IsFirstValue, AreNamesBelowFirstOption};
+ghost use Rattle.make_package.specs.Answers.{IsOkOrDiskOrMemory, IsFirstValue, IsSortedListingOfFirstFolder};
 ghost use Rattle.package_files.specs.Packed.{IsPacking};
 ghost use Rattle.package_files.specs.Runs.{AgreesOrIsFault, HoldsOfSomeReadsOfTree};
 ghost use Rattle.make_package.specs.Scripts.{AreScripts, IsScript};
-ghost use Rattle.package_files.specs.Sources.{AreNamesBelowFirstFolder, source_folders_of_first_option, values_of_letter, script_at, scripts_from_read};
+ghost use Rattle.package_files.specs.Sources.{AreSortedNamesBelowFirstFolder, source_folders_of_first_option_only, values_of_letter, script_at, scripts_from_read};
 ghost use Rattle.std.specs.Prelude.{◌≡◌, ◌++◌, ◌∷◌, [], ℕ, IfOk, IsTrue, OnOk};
 
 use crate::writing::Script;
@@ -39,9 +39,9 @@ pub(crate) fn list_names<T: Tree>(
     // If the tree's files are observable, these are exactly the names of its files below the
     // folder.
     ensures names { IfOk result (λ names. IfObservable (T.history tree.old) (λ v.
-        AreNamesBelowFirstOption (values_of_letter FILES values.now) v names)) }
+        IsSortedListingOfFirstFolder (values_of_letter FILES values.now) v names)) }
     // Whatever the tree returns, these are names below the folder, in byte order and each once.
-    ensures order { IfOk result (λ names. AreNamesBelowFirstFolder
+    ensures order { IfOk result (λ names. AreSortedNamesBelowFirstFolder
         (values_of_letter FILES values.now) names) }
 {
     match values.first_file(FILES) {
@@ -67,7 +67,7 @@ pub(crate) fn pack_below<'a, T: Tree>(
     // For each number `n` of the first read, some results of reads give this result. If the tree is
     // observable, the reads find its files.
     ensures read { (n : ℕ) → HoldsOfSomeReadsOfTree (T.history tree.old) (λ read.
-        AgreesOrIsFault IsPacking result (source_folders_of_first_option read n
+        AgreesOrIsFault IsPacking result (source_folders_of_first_option_only read n
         (values_of_letter FILES values.now) names.now)) }
 {
     match first_folder(values) {

@@ -23,7 +23,7 @@ use Rattle.outcome.proofs.MadeSound.{IsRefusalOrMade, index_fine, package_fine}
 use Rattle.outcome.specs.Changing.{change_outcome}
 use Rattle.outcome.specs.Given.{Given}
 use Rattle.outcome.specs.Commands.{IsOutcomeWithoutDemo, IsOutcomeUnlessBadIntent, effect_outcome, reads_in}
-use Rattle.outcome.specs.Effect.{Effect, Computes, OnlyReadsFiles, AsksRoot, Makes, Changes, does_only_read, effect_of_arguments, effect_of, reads_only}
+use Rattle.outcome.specs.Effect.{Effect, Computes, OnlyReadsFiles, AsksRoot, Makes, Changes, does_neither_recover_nor_write, effect_of_arguments, effect_of, do_arguments_neither_recover_nor_write}
 use Rattle.outcome.specs.Make.{files_with_output, index_report_line, make_outcome, outcome_unless_output_reserved}
 use Rattle.outcome.specs.Outcome.{Outcome, commit_report, just_refusal}
 use Rattle.outcome.specs.Work.{recovery_fault, files_recovered_if_needed}
@@ -128,18 +128,18 @@ refused_maker : (o : Outcome) → CommitsUnlessRefused o → IsSome o.refusal �
 refused_maker o h some = h ∙ ap not some
 
 -- a command only reads, tells, makes a file, or changes what is installed
-effect_cases : (effect : Effect) → (IsTrue (does_only_read effect)) ⊎ ((effect ≡ AsksRoot) ⊎ ((effect ≡ Makes) ⊎ (effect ≡ Changes)))
+effect_cases : (effect : Effect) → (IsTrue (does_neither_recover_nor_write effect)) ⊎ ((effect ≡ AsksRoot) ⊎ ((effect ≡ Makes) ⊎ (effect ≡ Changes)))
 effect_cases Computes = inl refl
 effect_cases OnlyReadsFiles = inl refl
 effect_cases AsksRoot = inr (inl refl)
 effect_cases Makes = inr (inr (inl refl))
 effect_cases Changes = inr (inr (inr refl))
 
-line_cases : (read : Result CommandLine ℕ) → (IsTrue (reads_only read)) ⊎ ((effect_of_arguments read ≡ AsksRoot) ⊎ ((effect_of_arguments read ≡ Makes) ⊎ (effect_of_arguments read ≡ Changes)))
+line_cases : (read : Result CommandLine ℕ) → (IsTrue (do_arguments_neither_recover_nor_write read)) ⊎ ((effect_of_arguments read ≡ AsksRoot) ⊎ ((effect_of_arguments read ≡ Makes) ⊎ (effect_of_arguments read ≡ Changes)))
 line_cases (Err place) = inl refl
 line_cases (Ok command) = effect_cases (effect_of command.applet)
 
-pub refusal_commits : (words : List (List ℕ)) (files : Files) (o : Outcome) → IsOutcomeWithoutDemo (command_of words) files o → (IsTrue (reads_only (command_of words)) → o.commits ≡ false) → (effect_of_arguments (command_of words) ≡ AsksRoot → o.commits ≡ false) → (effect_of_arguments (command_of words) ≡ Makes → CommitsUnlessRefused o) → IsSome o.refusal → o.commits ≡ false
+pub refusal_commits : (words : List (List ℕ)) (files : Files) (o : Outcome) → IsOutcomeWithoutDemo (command_of words) files o → (IsTrue (do_arguments_neither_recover_nor_write (command_of words)) → o.commits ≡ false) → (effect_of_arguments (command_of words) ≡ AsksRoot → o.commits ≡ false) → (effect_of_arguments (command_of words) ≡ Makes → CommitsUnlessRefused o) → IsSome o.refusal → o.commits ≡ false
 refusal_commits words files o is reads tell makes some = elim (line_cases (command_of words)) as (λ _. o.commits ≡ false) [
   | inl only ↦ reads only
   | inr (inl tells) ↦ tell tells

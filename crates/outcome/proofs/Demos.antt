@@ -26,8 +26,8 @@ use Rattle.words_core.specs.Options.{applet_of_help_or_version_option}
 use Rattle.outcome.proofs.Existing.{work_within}
 use Rattle.outcome.proofs.Looking.{read_leaves}
 use Rattle.outcome.specs.Commands.{IsOutcomeWithoutDemo, IsOutcomeUnlessBadIntent, effect_outcome, reads_in}
-use Rattle.outcome.specs.Demo.{IsDemoOutcomeAfterIndexing, IsDemoOutcomeAfterInstalling, IsDemoOutcomeAfterPackaging, IsDemoOutcome, IsOutcomeOfNextRunOrEarlierRefusal, IsOutcomeOfNextRunUnlessRefused, outcome_with_demo_repositories, with_demo_file}
-use Rattle.outcome.specs.Effect.{Makes, does_only_read, effect_of}
+use Rattle.outcome.specs.Demo.{IsDemoOutcomeAfterIndexing, IsDemoOutcomeAfterInstalling, IsDemoOutcomeAfterPackaging, IsDemoOutcome, IsOutcomeOfNextRunOrEarlierRefusal, IsOutcomeOfNextRunOrBeforeIfRefused, outcome_before_first_demo_run, with_demo_file}
+use Rattle.outcome.specs.Effect.{Makes, does_neither_recover_nor_write, effect_of}
 use Rattle.outcome.specs.Given.{Given}
 use Rattle.outcome.specs.Make.{files_with_output, index_report_line, make_outcome, outcome_unless_output_reserved}
 use Rattle.outcome.specs.Outcome.{Outcome, just_refusal, just_report, outcome_without_commit, just_report_unless_refusal}
@@ -90,7 +90,7 @@ few_unless None command files o makes (given, are, is) few =
 
 -- words that make a file, or only read, if they are a command
 abbrev pub DoMake : Result CommandLine ℕ → Type 0
-DoMake (Ok command) = (effect_of command.applet ≡ Makes) ⊎ (does_only_read (effect_of command.applet) ≡ true)
+DoMake (Ok command) = (effect_of command.applet ≡ Makes) ⊎ (does_neither_recover_nor_write (effect_of command.applet) ≡ true)
 DoMake (Err place) = Unit {0}
 
 few_by : (read : Result CommandLine ℕ) (files : Files) (o : Outcome) → DoMake read → IsOutcomeWithoutDemo read files o → AreFew files → AreFew o.files
@@ -108,7 +108,7 @@ unless_makes None false behind command makes = inl makes
 -- what words ask for only looks at the words
 abbrev AskComputes : Option Applet → Type 0
 AskComputes None = Unit {0}
-AskComputes (Some applet) = does_only_read (effect_of applet) ≡ true
+AskComputes (Some applet) = does_neither_recover_nor_write (effect_of applet) ≡ true
 
 word_asks : (help version : Bool) → AskComputes (if help then Some Help else if version then Some ProgramVersion else None)
 word_asks true version = refl
@@ -154,18 +154,18 @@ HaveOutcome = (read : Result CommandLine ℕ) (files : Files) (within : List (Li
 abbrev One : (Outcome → Type 0) → Type 0
 One IsOne = (o : Outcome) × IsOne o × AreFew o.files
 
-unless_exists : HaveOutcome → (refusal : Option Refusal) (words : List (List ℕ)) (files : Files) (before : Outcome) → AreFew files → (o : Outcome) × IsOutcomeOfNextRunUnlessRefused refusal words files before o
+unless_exists : HaveOutcome → (refusal : Option Refusal) (words : List (List ℕ)) (files : Files) (before : Outcome) → AreFew files → (o : Outcome) × IsOutcomeOfNextRunOrBeforeIfRefused refusal words files before o
 unless_exists have (Some refusal) words files before few = (before, refl)
 unless_exists have None words files before (names, within) = have (command_of words) files names within
 
-few_after : (refusal : Option Refusal) (words : List (List ℕ)) (files : Files) (before o : Outcome) → DoMake (command_of words) → IsOutcomeOfNextRunUnlessRefused refusal words files before o → AreFew before.files → AreFew files → AreFew o.files
+few_after : (refusal : Option Refusal) (words : List (List ℕ)) (files : Files) (before o : Outcome) → DoMake (command_of words) → IsOutcomeOfNextRunOrBeforeIfRefused refusal words files before o → AreFew before.files → AreFew files → AreFew o.files
 few_after (Some refusal) words files before o makes is few few_now = subst AreFew (sym (ap (λ (p : Outcome). p.files) is)) few
 few_after None words files before o makes is few few_now = few_by (command_of words) files o makes is few_now
 
 packaged_exists : HaveOutcome → (n : ℕ) → One (IsDemoOutcomeAfterPackaging n)
 packaged_exists have zero =
     let start : Files = put_name no_names repositories_name demo_repositories in
-    (outcome_with_demo_repositories, refl, few_put no_names repositories_name demo_repositories ([], λ q some. cc))
+    (outcome_before_first_demo_run, refl, few_put no_names repositories_name demo_repositories ([], λ q some. cc))
 packaged_exists have (suc i) =
     let (before, is, few) = packaged_exists have i in
     let files = with_demo_file (suc i) before.files in
@@ -196,7 +196,7 @@ demo_exists have n files =
 abbrev pub HaveOneOutcome : Type 0
 HaveOneOutcome = (read : Result CommandLine ℕ) (files : Files) (a b : Outcome) → IsOutcomeWithoutDemo read files a → IsOutcomeWithoutDemo read files b → a ≡ b
 
-unless_one : HaveOneOutcome → (refusal : Option Refusal) (words : List (List ℕ)) (files : Files) (before a b : Outcome) → IsOutcomeOfNextRunUnlessRefused refusal words files before a → IsOutcomeOfNextRunUnlessRefused refusal words files before b → a ≡ b
+unless_one : HaveOneOutcome → (refusal : Option Refusal) (words : List (List ℕ)) (files : Files) (before a b : Outcome) → IsOutcomeOfNextRunOrBeforeIfRefused refusal words files before a → IsOutcomeOfNextRunOrBeforeIfRefused refusal words files before b → a ≡ b
 unless_one one (Some refusal) words files before a b x y = x ∙ sym y
 unless_one one None words files before a b x y = one (command_of words) files a b x y
 

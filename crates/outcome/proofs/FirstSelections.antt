@@ -8,7 +8,7 @@ use Rattle.tell_core.specs.change_inputs.Chains.{and_then}
 use Rattle.tell_core.specs.change_inputs.Inputs.{Inputs, inputs_of}
 use Rattle.engine_core.specs.change_outcome.Made.{IsChangeMade}
 use Rattle.engine_core.specs.change_files.PlanLists.{paths_with_apk_new_file, kept_left_over_paths_of}
-use Rattle.engine_core.specs.change_outcome.ChangeOutcome.{ChangeDone, ChangeWishes, change_or_refusal, file_change, member_sum_line, touched_paths}
+use Rattle.engine_core.specs.change_outcome.ChangeOutcome.{ChangeDone, ChangeWishes, change_or_refusal, packages_before_and_after_with_purge, member_sum_line, touched_paths}
 use Rattle.engine_core.specs.change_outcome.ConfigurationLines.{lines_of_apk_new_and_kept_paths}
 use Rattle.engine_core.specs.change_outcome.Triggers.{trigger_lines}
 use Rattle.command_core.specs.Command.{CommandLine}
@@ -18,7 +18,7 @@ use Rattle.engine_core.specs.Selecting.{pool_of_inputs, pool_of_command, replace
 use Rattle.engine_core.specs.Wishes.{names_to_reinstall, names_to_upgrade, unknown_operand_place, unless_unknown_operand, wishes_of}
 use Rattle.make_core.specs.make_info.Reads.{Reads}
 use Rattle.engine_core.specs.package_changes.Changes.{Replacement, changes_of}
-use Rattle.engine_core.specs.package_changes.Report.{selected_sum_line, simulated_report, still_needed_lines}
+use Rattle.engine_core.specs.package_changes.Report.{selected_sum_line, simulated_report, lines_on_names_that_stay}
 use Rattle.tell_core.specs.path_clashes.Clash.{NamePair}
 use Rattle.tell_core.specs.candidate_core.Rank.{SealedPool}
 use Rattle.report_core.specs.Reports.{change_lines}
@@ -49,15 +49,15 @@ IsMadeKnown = (inputs : Inputs) (r : Replacement) (wishes : ChangeWishes) (read 
 simulated_lines : (r : Replacement) (to_remove : List (List ℕ)) → HasChangeLines r (simulated_report r to_remove)
 unfolding simulated_report
 simulated_lines r to_remove =
-    let stays = still_needed_lines r.before r.selected to_remove in
+    let stays = lines_on_names_that_stay r.before r.selected to_remove in
     let sum = selected_sum_line r.selected in
     (stays ++ sum, append_assoc (change_lines (changes_of r)) stays sum)
 
 made_lines : (inputs : Inputs) (r : Replacement) (wishes : ChangeWishes) (read : Reads) (clash : Option NamePair) (files : Files) (done : ChangeDone) → IsChangeMade inputs r wishes read clash files done → HasChangeLines r done.report
 made_lines inputs r wishes read clash files done made =
-    let change = file_change inputs wishes made.found in
+    let change = packages_before_and_after_with_purge inputs wishes made.found in
     let lines = change_lines (changes_of r) in
-    let stays = still_needed_lines r.before r.selected wishes.to_remove in
+    let stays = lines_on_names_that_stay r.before r.selected wishes.to_remove in
     let configuration = lines_of_apk_new_and_kept_paths (paths_with_apk_new_file change files) (kept_left_over_paths_of change files) in
     let triggers = trigger_lines (touched_paths change files) change.members in
     let sum = member_sum_line change.members in (

@@ -16,7 +16,7 @@ use Rattle.make_core.specs.make_info.Reads.{Reads}
 use Rattle.report_core.specs.declared.refusal.Refusal.{Refusal}
 use Rattle.outcome.specs.Commands.{IsOutcomeWithoutDemo, IsOutcomeOverRecoveredFiles, IsOutcomeUnlessBadIntent, outcome_from_arguments_alone, effect_outcome, reading_outcome, reads_in}
 use Rattle.outcome.specs.Dump.{adbdump, dump_of, dump_outcome, text_outcome}
-use Rattle.outcome.specs.Effect.{Effect, Changes, Computes, Makes, OnlyReadsFiles, AsksRoot, does_only_read, effect_of, reads_only}
+use Rattle.outcome.specs.Effect.{Effect, Changes, Computes, Makes, OnlyReadsFiles, AsksRoot, does_neither_recover_nor_write, effect_of, do_arguments_neither_recover_nor_write}
 use Rattle.outcome.specs.Generate.{adbgen, container_outcome, generate_outcome}
 use Rattle.outcome.specs.Given.{Given}
 use Rattle.outcome.specs.Outcome.{Outcome, outcome_without_commit, just_report_unless_refusal}
@@ -73,7 +73,7 @@ reading_leaves Adbdump command read files = adbdump_leaves read files command.op
 reading_leaves Adbgen command read files = adbgen_leaves read files command.operands
 reading_leaves other command read files = (refl, refl)
 
-pub look_leaves : (effect : Effect) (applet : Applet) (command : CommandLine) (given : Given) (files : Files) → does_only_read effect ≡ true → LeavesFiles files (effect_outcome effect applet command given (reads_in files) files)
+pub look_leaves : (effect : Effect) (applet : Applet) (command : CommandLine) (given : Given) (files : Files) → does_neither_recover_nor_write effect ≡ true → LeavesFiles files (effect_outcome effect applet command given (reads_in files) files)
 look_leaves Computes applet command given files reads = computing_leaves applet command files
 look_leaves OnlyReadsFiles applet command given files reads = reading_leaves applet command (reads_in files) files
 look_leaves AsksRoot applet command given files reads = absurd (false≢true reads)
@@ -82,21 +82,21 @@ look_leaves Changes applet command given files reads = absurd (false≢true read
 
 -- ---- by the words
 
-no_fault : (effect : Effect) (files : Files) → does_only_read effect ≡ true → recovery_fault effect files ≡ None
+no_fault : (effect : Effect) (files : Files) → does_neither_recover_nor_write effect ≡ true → recovery_fault effect files ≡ None
 no_fault Computes files reads = refl
 no_fault OnlyReadsFiles files reads = refl
 no_fault AsksRoot files reads = absurd (false≢true reads)
 no_fault Makes files reads = absurd (false≢true reads)
 no_fault Changes files reads = absurd (false≢true reads)
 
-same_files : (effect : Effect) (files : Files) → does_only_read effect ≡ true → files_recovered_if_needed effect files ≡ files
+same_files : (effect : Effect) (files : Files) → does_neither_recover_nor_write effect ≡ true → files_recovered_if_needed effect files ≡ files
 same_files Computes files reads = refl
 same_files OnlyReadsFiles files reads = refl
 same_files AsksRoot files reads = absurd (false≢true reads)
 same_files Makes files reads = absurd (false≢true reads)
 same_files Changes files reads = absurd (false≢true reads)
 
-pub read_leaves : (read : Result CommandLine ℕ) (files : Files) (o : Outcome) → reads_only read ≡ true → IsOutcomeWithoutDemo read files o → LeavesFiles files o
+pub read_leaves : (read : Result CommandLine ℕ) (files : Files) (o : Outcome) → do_arguments_neither_recover_nor_write read ≡ true → IsOutcomeWithoutDemo read files o → LeavesFiles files o
 read_leaves (Err place) files o reads is = (ap (λ (p : Outcome). p.files) is, ap (λ (p : Outcome). p.commits) is)
 read_leaves (Ok command) files o reads is =
     let effect = effect_of command.applet in

@@ -14,16 +14,16 @@ use Rattle.base_core.specs.declared.cause.Cause.{Cause}
 use Rattle.command_core.specs.declared.values.TheConstants.{FILES, SCRIPT, TRIGGER}
 use Rattle.engine_core.specs.journal_core.Replacing.{files_after_replacement, scratch_name_of}
 use Rattle.engine_core.specs.journal_core.Staged.{unstaged_files}
-use Rattle.make_core.specs.package_files.Folders.{FolderListing, folder_listings_of, last_part_of}
+use Rattle.make_core.specs.package_files.Folders.{FolderListing, folder_listings_by_tree_names, last_part_of}
 use Rattle.make_core.specs.make_index.Index.{entry_before_others_or_fault, found_entries, found_entry, index_container, index_of_entries, index_of_entries_or_fault, value_of_index, entry_unless_fault, first_description_or_empty, made_index}
 use Rattle.make_core.specs.make_index.EntryOrder.{index_entry_cmp}
 use Rattle.base_core.specs.Sorted.{sorted_by}
 use Rattle.make_core.specs.make_info.Information.{FieldWithValue, information_value_with_installed_size, information, replaces_priority}
 use Rattle.make_core.specs.make_package.Making.{container_unless_too_large, made_package, or_info_bad, package_container, package_of_parts}
 use Rattle.make_core.specs.make_info.Output.{output_name}
-use Rattle.make_core.specs.package_files.Package.{Script, Source, SourceFolder, contents_of_folders, installed_size, value_of_package}
-use Rattle.make_core.specs.make_index.Files.{OperandReadsFindOnlyValidFileBytes}
-use Rattle.make_core.specs.package_files.Sources.{AreNamesBelowFirstFolder, and_then, results_from_read, source_file_read_at, sources_at_place_from_read, source_folder_read_at, source_folders_of_first_option, found_bytes_or_missing, values_of_letter, script_at, scripts_from_read, texts_of}
+use Rattle.make_core.specs.package_files.Package.{Script, SourceFile, SourceFolder, contents_of_folders, installed_size, value_of_package}
+use Rattle.make_core.specs.make_index.Files.{EachOperandReadFindsNoFileOrFileBytes}
+use Rattle.make_core.specs.package_files.Sources.{AreSortedNamesBelowFirstFolder, and_then, results_from_read, source_file_at_place_by_read, source_files_at_place_from_read, source_folder_at_place_by_read, source_folders_of_first_option_only, found_bytes_or_missing, values_of_letter, script_at, scripts_from_read, texts_of}
 use Rattle.make_core.specs.make_info.Reads.{Reads}
 use Rattle.make_core.specs.make_info.declared.fault.MakeFault.{MakeFault}
 use Rattle.make_core.specs.make_info.declared.fault.MakeFault.TheVariants.{FileMissing, FileBad, InfoBad, TooLarge, Disk, Memory}
@@ -51,10 +51,10 @@ use Rattle.outcome.specs.Work.{recovery_fault, files_recovered_if_needed}
 
 -- a package that is made of names below its folder is sound, and so is an index of files
 abbrev pub SoundPackage : Type 0
-SoundPackage = (command : CommandLine) (names : List (List ℕ)) (read : Reads) (bytes : List ℕ) → AreNamesBelowFirstFolder (values_of_letter FILES command.values) names → made_package command names read ≡ Ok bytes → length bytes < 2 ^ 64 → container_fault bytes ≡ None
+SoundPackage = (command : CommandLine) (names : List (List ℕ)) (read : Reads) (bytes : List ℕ) → AreSortedNamesBelowFirstFolder (values_of_letter FILES command.values) names → made_package command names read ≡ Ok bytes → length bytes < 2 ^ 64 → container_fault bytes ≡ None
 
 abbrev pub SoundIndex : Type 0
-SoundIndex = (command : CommandLine) (read : Reads) (bytes : List ℕ) → OperandReadsFindOnlyValidFileBytes read 0 command.operands → made_index command read ≡ Ok bytes → container_fault bytes ≡ None
+SoundIndex = (command : CommandLine) (read : Reads) (bytes : List ℕ) → EachOperandReadFindsNoFileOrFileBytes read 0 command.operands → made_index command read ≡ Ok bytes → container_fault bytes ≡ None
 
 -- ---- the names below a folder are names below it
 
@@ -69,13 +69,13 @@ names_below folder files names good are = record {
   each = All-weaker (Contains names) (IsValidNameBelowFolder folder) (λ q here. name_below folder files good q ((are.each q).0 here)) names (All-contains_itself names);
 }
 
-names_for : (values : List OptionValue) (files : Files) (names : List (List ℕ)) → HaveValidNamesAndBytes files → AreNamesBelowOptionFolder values files names → AreNamesBelowFirstFolder values names
+names_for : (values : List OptionValue) (files : Files) (names : List (List ℕ)) → HaveValidNamesAndBytes files → AreNamesBelowOptionFolder values files names → AreSortedNamesBelowFirstFolder values names
 names_for [] files names good are = tt
 names_for (folder ∷ values) files names good are = names_below (without_dot_slash folder.text) files names good are
 
 -- ---- what reads find in the files are files
 
-files_found : (files : Files) → HaveValidNamesAndBytes files → (n : ℕ) (operands : List Operand) → OperandReadsFindOnlyValidFileBytes (reads_in files) n operands
+files_found : (files : Files) → HaveValidNamesAndBytes files → (n : ℕ) (operands : List Operand) → EachOperandReadFindsNoFileOrFileBytes (reads_in files) n operands
 files_found files good n [] = tt
 files_found files good n (o ∷ operands) = (good.each (without_dot_slash o.text), files_found files good (n + 1) operands)
 
@@ -123,25 +123,25 @@ script_fine : (read : Reads) (n : ℕ) (v : OptionValue) → IsRefusalOrMade (sc
 unfolding script_of
 script_fine read n v = after_fine (found_bytes_or_missing v.place (read n (without_dot_slash (script_file v.text)))) (script_of v) (found_fine v.place (read n (without_dot_slash (script_file v.text)))) (λ bytes. tt)
 
-source_of : List ℕ → List ℕ → Result Source MakeFault
+source_of : List ℕ → List ℕ → Result SourceFile MakeFault
 source_of name bytes = Ok (record { name = last_part_of name; bytes = bytes })
 
-file_fine : (place : ℕ) (read : Reads) (n : ℕ) (name : List ℕ) → IsRefusalOrMade (source_file_read_at place read n name)
+file_fine : (place : ℕ) (read : Reads) (n : ℕ) (name : List ℕ) → IsRefusalOrMade (source_file_at_place_by_read place read n name)
 unfolding source_of
 file_fine place read n name = after_fine (found_bytes_or_missing place (read n name)) (source_of name) (found_fine place (read n name)) (λ bytes. tt)
 
-folder_of : FolderListing → List Source → Result SourceFolder MakeFault
+folder_of : FolderListing → List SourceFile → Result SourceFolder MakeFault
 folder_of folder files = Ok (record { name = folder.name; files = files })
 
-folder_fine : (place : ℕ) (read : Reads) (n : ℕ) (folder : FolderListing) → IsRefusalOrMade (source_folder_read_at place read n folder)
+folder_fine : (place : ℕ) (read : Reads) (n : ℕ) (folder : FolderListing) → IsRefusalOrMade (source_folder_at_place_by_read place read n folder)
 unfolding folder_of
 folder_fine place read n folder =
-    after_fine (sources_at_place_from_read place read n folder.files) (folder_of folder) (each_fine (λ name. 1) (source_file_read_at place read) (file_fine place read) n folder.files) (λ files. tt)
+    after_fine (source_files_at_place_from_read place read n folder.files) (folder_of folder) (each_fine (λ name. 1) (source_file_at_place_by_read place read) (file_fine place read) n folder.files) (λ files. tt)
 
-folders_fine : (read : Reads) (n : ℕ) (values : List OptionValue) (names : List (List ℕ)) → IsRefusalOrMade (source_folders_of_first_option read n values names)
+folders_fine : (read : Reads) (n : ℕ) (values : List OptionValue) (names : List (List ℕ)) → IsRefusalOrMade (source_folders_of_first_option_only read n values names)
 folders_fine read n [] names = tt
 folders_fine read n (v ∷ values) names =
-    each_fine (λ (folder : FolderListing). length folder.files) (source_folder_read_at v.place read) (folder_fine v.place read) n (folder_listings_of (without_dot_slash v.text) names)
+    each_fine (λ (folder : FolderListing). length folder.files) (source_folder_at_place_by_read v.place read) (folder_fine v.place read) n (folder_listings_by_tree_names (without_dot_slash v.text) names)
 
 unless_fine : (counts : Option ByteAndValueCounts) (v : Plain) (contents : List Contents) → IsRefusalOrMade (container_unless_too_large counts v contents)
 unless_fine None v contents = tt
@@ -155,13 +155,13 @@ pub package_fine : (command : CommandLine) (names : List (List ℕ)) (read : Rea
 unfolding made_package
 package_fine command names read =
     after_fine (scripts_from_read read 0 (values_of_letter SCRIPT command.values))
-    (λ scripts. and_then (or_info_bad (information command)) (λ about. and_then (source_folders_of_first_option read (length scripts) (values_of_letter FILES command.values) names) (package_of_parts command scripts about)))
+    (λ scripts. and_then (or_info_bad (information command)) (λ about. and_then (source_folders_of_first_option_only read (length scripts) (values_of_letter FILES command.values) names) (package_of_parts command scripts about)))
     (each_fine (λ v. 1) (script_at read) (script_fine read) 0 (values_of_letter SCRIPT command.values))
     (λ scripts.
-    after_fine (or_info_bad (information command)) (λ about. and_then (source_folders_of_first_option read (length scripts) (values_of_letter FILES command.values) names) (package_of_parts command scripts about))
+    after_fine (or_info_bad (information command)) (λ about. and_then (source_folders_of_first_option_only read (length scripts) (values_of_letter FILES command.values) names) (package_of_parts command scripts about))
     (info_fine (information command))
     (λ about.
-    after_fine (source_folders_of_first_option read (length scripts) (values_of_letter FILES command.values) names) (package_of_parts command scripts about)
+    after_fine (source_folders_of_first_option_only read (length scripts) (values_of_letter FILES command.values) names) (package_of_parts command scripts about)
     (folders_fine read (length scripts) (values_of_letter FILES command.values) names)
     (λ folders.
     file_of_fine

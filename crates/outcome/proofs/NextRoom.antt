@@ -10,7 +10,7 @@ use Rattle.command_core.specs.declared.command.Applet.{Applet}
 use Rattle.engine_core.specs.Changed.{IsFirstClashOfCommand, IsFirstClashUnlessRefused, IsFirstClashUnlessSimulated, InputsAndReplacement, change_of_selected, change_of_command, selected_from_reads_by_choice, simulated_change}
 use Rattle.engine_core.specs.Wishes.{wishes_of}
 use Rattle.engine_core.specs.journal_core.Recovery.{Intent, intent_in_file, intent_name, is_staged, recovered_files, files_after_intent}
-use Rattle.engine_core.specs.journal_core.Staged.{AreJournalPathsFreeIfIntentIsReplayed, HasEmptyStageAndFreeJournalPaths, unstaged_files}
+use Rattle.engine_core.specs.journal_core.Staged.{AreJournalPathsFreeAfterReplayIfAny, HasEmptyStageAndFreeJournalPaths, unstaged_files}
 use Rattle.make_core.specs.make_info.Reads.{Reads}
 use Rattle.engine_core.specs.package_changes.Changes.{Replacement}
 use Rattle.tell_core.specs.path_clashes.Clash.{NamePair}
@@ -96,14 +96,14 @@ nothing_at files q (absent, stage) false shown = ap (λ (o : Option (List ℕ)).
 nothing_left : (files : Files) → HasRoomNow files → unstaged_files files ≡ files
 nothing_left files now i q = nothing_at files q now (is_staged q) refl i
 
-room_now : (files : Files) → HasRoomNow files → AreJournalPathsFreeIfIntentIsReplayed files × HasEmptyStageAndFreeJournalPaths (unstaged_files files)
+room_now : (files : Files) → HasRoomNow files → AreJournalPathsFreeAfterReplayIfAny files × HasEmptyStageAndFreeJournalPaths (unstaged_files files)
 room_now files now =
     (λ some. absurd (let e = subst (λ (o : Option (List ℕ)). IsSome (intent_in_file o)) now.0 some in cc (e)), subst HasEmptyStageAndFreeJournalPaths (sym (nothing_left files now)) now.1)
 
 -- ---- by the words
 
 abbrev LeavesNext : Outcome → Type 0
-LeavesNext o = AreJournalPathsFreeIfIntentIsReplayed o.files × HasEmptyStageAndFreeJournalPaths (unstaged_files o.files)
+LeavesNext o = AreJournalPathsFreeAfterReplayIfAny o.files × HasEmptyStageAndFreeJournalPaths (unstaged_files o.files)
 
 module _ (room : KeepsRoom) (gone : BringsNoIntent) (sound : ReadSound) where
   unless_room : (fault : Option Cause) (command : CommandLine) (files : Files) (o : Outcome) → effect_of command.applet ≡ Changes → recovery_fault (effect_of command.applet) files ≡ fault

@@ -13,7 +13,7 @@ use Rattle.words_core.specs.Grammar.{command_of}
 use Rattle.outcome.proofs.Idle.{HaveIdle, HaveRoot, over_idle}
 use Rattle.outcome.proofs.Worded.{of_by}
 use Rattle.outcome.specs.Commands.{IsOutcomeWithoutDemo, IsOutcomeOverRecoveredFiles, IsOutcomeUnlessBadIntent}
-use Rattle.outcome.specs.Effect.{Effect, Changes, Computes, Makes, OnlyReadsFiles, AsksRoot, does_only_read, does_recover, effect_of, reads_only}
+use Rattle.outcome.specs.Effect.{Effect, Changes, Computes, Makes, OnlyReadsFiles, AsksRoot, does_neither_recover_nor_write, does_recover, effect_of, do_arguments_neither_recover_nor_write}
 use Rattle.outcome.specs.Outcome.{Outcome, just_refusal}
 use Rattle.outcome.specs.Recovers.{must_recover}
 use Rattle.outcome.specs.Words.{IsOutcome}
@@ -41,7 +41,7 @@ recovers Help = refl
 recovers ProgramVersion = refl
 
 -- and the others only read
-pub others_read : (applet : Applet) → must_recover applet ≡ false → IsTrue (does_only_read (effect_of applet))
+pub others_read : (applet : Applet) → must_recover applet ≡ false → IsTrue (does_neither_recover_nor_write (effect_of applet))
 others_read Verify h = refl
 others_read Version h = refl
 others_read Adbdump h = refl
@@ -107,5 +107,5 @@ leaves_recovered rooted idle words command files o reads must at is nothing =
 
 -- ---- of each other command
 
-pub reads_alone : (words : List (List ℕ)) (command : CommandLine) → command_of words ≡ Ok command → must_recover command.applet ≡ false → IsTrue (reads_only (command_of words))
-reads_alone words command reads must = subst (λ (r : Result CommandLine ℕ). IsTrue (reads_only r)) (sym reads) (others_read command.applet must)
+pub reads_alone : (words : List (List ℕ)) (command : CommandLine) → command_of words ≡ Ok command → must_recover command.applet ≡ false → IsTrue (do_arguments_neither_recover_nor_write (command_of words))
+reads_alone words command reads must = subst (λ (r : Result CommandLine ℕ). IsTrue (do_arguments_neither_recover_nor_write r)) (sym reads) (others_read command.applet must)

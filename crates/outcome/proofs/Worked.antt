@@ -5,7 +5,7 @@ use Rattle.adb_view.specs.Plain.{Plain, blob, more, none, obj}
 use Rattle.engine_core.specs.change_files.PlanLists.{sorted_distinct_names}
 use Rattle.demo_lines.specs.Lines.{contents_of_demo_file}
 use Rattle.dep_core.specs.Dependency.{Dependency, dependency_from_parts}
-use Rattle.engine_core.specs.package_changes.Report.{still_needed_lines}
+use Rattle.engine_core.specs.package_changes.Report.{lines_on_names_that_stay}
 use Rattle.tell_core.specs.candidate_core.Candidates.{Candidate, candidate_from_parts}
 
 -- ---- who needs a package that stays: in byte order, whatever is selected first
@@ -25,7 +25,7 @@ needs_b = dependency_from_parts (codes "b") None 1 false None ∷ []
 abbrev c_b_a : List Candidate
 c_b_a = selected (codes "c") needs_b ∷ selected (codes "b") [] ∷ selected (codes "a") needs_b ∷ []
 
-needed_by_both : still_needed_lines installed_b c_b_a (codes "b" ∷ []) ≡ codes "b stays; required by: a c\n"
+needed_by_both : lines_on_names_that_stay installed_b c_b_a (codes "b" ∷ []) ≡ codes "b stays; required by: a c\n"
 unfolding sorted_distinct_names
 needed_by_both = refl
 

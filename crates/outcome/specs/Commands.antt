@@ -19,7 +19,7 @@ use Rattle.outcome.specs.Changing.{change_outcome}
 use Rattle.outcome.specs.Dump.{adbdump}
 use Rattle.outcome.specs.Effect.{Effect, Computes, OnlyReadsFiles, AsksRoot, Makes, Changes, does_recover, effect_of}
 use Rattle.outcome.specs.Generate.{adbgen}
-use Rattle.outcome.specs.Given.{Given, IsListingChoiceAndClashFor, MayBeListingChoiceAndClashFor}
+use Rattle.outcome.specs.Given.{Given, IsListingChoiceAndClashFor, IsPossibleListingChoiceAndClash}
 use Rattle.outcome.specs.Make.{mkndx, mkpkg}
 use Rattle.outcome.specs.Outcome.{Outcome, just_refusal, just_report}
 use Rattle.outcome.specs.OutcomeOfReport.{outcome_of_report}
@@ -126,7 +126,7 @@ IsPossibleOutcomeAfterRecovery command outcome =
     (given : Given)
     × (read : Reads)
     × (files : Files)
-    × MayBeListingChoiceAndClashFor command read files given
+    × IsPossibleListingChoiceAndClash command read files given
     × ((outcome ≡ effect_outcome (effect_of command.applet) command.applet command given read files)
     ⊎ IsRefusedForSpoiledPackage command read given files outcome)
 

@@ -14,22 +14,22 @@ use Rattle.outcome.specs.Outcome.{Outcome, just_report, just_report_unless_refus
 -- The outcome of the next run, given the outcome `before` of the run before it, and the refusal of that run, if there
 -- is one. After a refusal nothing more is run, and the outcome is `before`; otherwise the command line `words` is run
 -- over `files`.
-abbrev pub IsOutcomeOfNextRunUnlessRefused : Option Refusal → List (List ℕ) → Files → Outcome → Outcome
+abbrev pub IsOutcomeOfNextRunOrBeforeIfRefused : Option Refusal → List (List ℕ) → Files → Outcome → Outcome
     → Type 0
-IsOutcomeOfNextRunUnlessRefused (Some refusal) words files before outcome = outcome ≡ before
-IsOutcomeOfNextRunUnlessRefused None words files before outcome =
+IsOutcomeOfNextRunOrBeforeIfRefused (Some refusal) words files before outcome = outcome ≡ before
+IsOutcomeOfNextRunOrBeforeIfRefused None words files before outcome =
     IsOutcomeWithoutDemo (command_of words) files outcome
 
 -- the outcome of the command line `words` over `files`; if the run before it was refused, its outcome `before` instead
 abbrev pub IsOutcomeOfNextRunOrEarlierRefusal : List (List ℕ) → Files → Outcome → Outcome → Type 0
 IsOutcomeOfNextRunOrEarlierRefusal words files before outcome =
-    IsOutcomeOfNextRunUnlessRefused before.refusal words files before outcome
+    IsOutcomeOfNextRunOrBeforeIfRefused before.refusal words files before outcome
 
 -- ---- the runs
 
 -- the outcome before the first run: the tree has only the list of repositories
-abbrev pub outcome_with_demo_repositories : Outcome
-outcome_with_demo_repositories = just_report (put_name no_names repositories_name demo_repositories) []
+abbrev pub outcome_before_first_demo_run : Outcome
+outcome_before_first_demo_run = just_report (put_name no_names repositories_name demo_repositories) []
 
 -- the files, with the one file that package i will contain added under its name
 abbrev pub with_demo_file : ℕ → Files → Files
@@ -37,7 +37,7 @@ with_demo_file i files = put_name files (demo_file i) (contents_of_demo_file i)
 
 -- the outcome after packages 1 to n are made; the one file of each is written before its run of `mkpkg`
 abbrev pub IsDemoOutcomeAfterPackaging : ℕ → Outcome → Type 0
-IsDemoOutcomeAfterPackaging zero outcome = outcome ≡ outcome_with_demo_repositories
+IsDemoOutcomeAfterPackaging zero outcome = outcome ≡ outcome_before_first_demo_run
 IsDemoOutcomeAfterPackaging (suc i) outcome =
     (before : Outcome)
     × IsDemoOutcomeAfterPackaging i before

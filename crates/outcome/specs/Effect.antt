@@ -56,12 +56,12 @@ ignores_files Makes = false
 ignores_files Changes = false
 
 -- whether a command leaves the tree unchanged, whatever it finds there
-abbrev pub does_only_read : Effect → Bool
-does_only_read Computes = true
-does_only_read OnlyReadsFiles = true
-does_only_read AsksRoot = false
-does_only_read Makes = false
-does_only_read Changes = false
+abbrev pub does_neither_recover_nor_write : Effect → Bool
+does_neither_recover_nor_write Computes = true
+does_neither_recover_nor_write OnlyReadsFiles = true
+does_neither_recover_nor_write AsksRoot = false
+does_neither_recover_nor_write Makes = false
+does_neither_recover_nor_write Changes = false
 
 -- whether a command first recovers: it completes the change of an intent (journal entry) that is found
 abbrev pub does_recover : Effect → Bool
@@ -92,9 +92,10 @@ depends_only_on_arguments (Ok command) = ignores_files (effect_of command.applet
 depends_only_on_arguments (Err place) = true
 
 -- whether a command line writes and removes no file of the root, as is so for a usage error
-abbrev pub reads_only : Result CommandLine ℕ → Bool
-reads_only (Ok command) = does_only_read (effect_of command.applet)
-reads_only (Err place) = true
+abbrev pub do_arguments_neither_recover_nor_write : Result CommandLine ℕ → Bool
+do_arguments_neither_recover_nor_write (Ok command) =
+    does_neither_recover_nor_write (effect_of command.applet)
+do_arguments_neither_recover_nor_write (Err place) = true
 
 -- the name of the file that a command line makes, if it makes one
 abbrev pub output_name_of_arguments : Result CommandLine ℕ → Option (List ℕ)

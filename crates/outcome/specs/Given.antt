@@ -12,7 +12,7 @@ use Rattle.engine_core.specs.Changed.{IsFirstClashOfCommand, IsFirstClashOfComma
 use Rattle.engine_core.specs.Choice.{IsPreferredChoiceUnlessRefused}
 use Rattle.engine_core.specs.Selecting.{pool_of_command}
 use Rattle.make_core.specs.make_info.Reads.{Reads}
-use Rattle.make_core.specs.package_files.Sources.{AreNamesBelowFirstFolder, values_of_letter}
+use Rattle.make_core.specs.package_files.Sources.{AreSortedNamesBelowFirstFolder, values_of_letter}
 use Rattle.tell_core.specs.path_clashes.Clash.{NamePair}
 use Rattle.outcome.specs.Effect.{Effect, Changes, effect_of}
 use Rattle.outcome.specs.Make.{AreNamesBelowOptionFolder}
@@ -71,28 +71,28 @@ pub record IsListingChoiceAndClashFor (command : CommandLine) (read : Reads) (fi
 
 -- `names` are some that an applet may list: `mkpkg` some below the folder of `-F`, in byte order and each once, the
 -- others none
-abbrev pub MayBeNamesListedForApplet : Applet → CommandLine → List (List ℕ) → Type 0
-MayBeNamesListedForApplet Mkpkg command names =
-    AreNamesBelowFirstFolder (values_of_letter FILES command.values) names
-MayBeNamesListedForApplet other command names = names ≡ []
+abbrev pub ArePossibleNamesListedForApplet : Applet → CommandLine → List (List ℕ) → Type 0
+ArePossibleNamesListedForApplet Mkpkg command names =
+    AreSortedNamesBelowFirstFolder (values_of_letter FILES command.values) names
+ArePossibleNamesListedForApplet other command names = names ≡ []
 
 -- `clash` is the first clash of names that a command makes among some present files, or None; only a change has one.
 -- `files` decide which configuration files are kept
-abbrev pub MayBeFirstClashForEffect :
+abbrev pub IsPossibleFirstClashForEffect :
     Effect → CommandLine → Reads → Files → Option (List ℕ) → Option NamePair → Type 0
-MayBeFirstClashForEffect Changes command read files chosen clash =
+IsPossibleFirstClashForEffect Changes command read files chosen clash =
     (present_files : Files) × IsFirstClashOfCommandAmong command read files present_files chosen clash
-MayBeFirstClashForEffect other command read files chosen clash = clash ≡ None
+IsPossibleFirstClashForEffect other command read files chosen clash = clash ≡ None
 
 -- `given` are names that a command may list, the candidates that it chooses, and a clash that it may find, on a tree
 -- that is not observable
-pub record MayBeListingChoiceAndClashFor (command : CommandLine) (read : Reads) (files : Files)
+pub record IsPossibleListingChoiceAndClash (command : CommandLine) (read : Reads) (files : Files)
     (given : Given)
     : Type 0 where
   -- some names that a tree may list
-  pub names : MayBeNamesListedForApplet command.applet command given.names
+  pub names : ArePossibleNamesListedForApplet command.applet command given.names
   -- for a change: the chosen candidates are the preferred selection; None if no selection satisfies world
   pub chosen : IsChoiceForCommand (effect_of command.applet) command read given.chosen
   -- a clash that is the first one over some files, if there is one
   pub clash :
-      MayBeFirstClashForEffect (effect_of command.applet) command read files given.chosen given.clash
+      IsPossibleFirstClashForEffect (effect_of command.applet) command read files given.chosen given.clash

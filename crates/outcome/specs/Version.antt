@@ -31,13 +31,13 @@ version_order_report (a ∷ []) = []
 version_order_report (a ∷ (b ∷ operands)) = order_line (version_cmp a.text b.text)
 
 -- the line of a text, which is empty if the text is a version
-abbrev pub invalid_version_line : List ℕ → List ℕ
-invalid_version_line text = if is_version text then [] else text ++ codes "\n"
+abbrev pub line_if_invalid_version : List ℕ → List ℕ
+line_if_invalid_version text = if is_version text then [] else text ++ codes "\n"
 
 -- the report of `--check`: each operand that is no version, on a line of its own
 abbrev pub invalid_version_lines : List Operand → List ℕ
 invalid_version_lines [] = []
-invalid_version_lines (o ∷ operands) = invalid_version_line o.text ++ invalid_version_lines operands
+invalid_version_lines (o ∷ operands) = line_if_invalid_version o.text ++ invalid_version_lines operands
 
 -- `--test` prints the order, unless one operand is no version. `--check` prints the operands that are
 -- no versions, and refuses the first of them after that report.

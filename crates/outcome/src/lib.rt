@@ -27,12 +27,12 @@ ghost use Rattle.tell_core.specs.change_inputs.Inputs.{database_for};
 ghost use Rattle.command_core.specs.Command.{CommandLine};
 ghost use Rattle.command_core.specs.declared.command.Applet.{Applet};
 ghost use Rattle.engine_core.specs.journal_core.Recovery.{intent_name};
-ghost use Rattle.engine_core.specs.journal_core.Staged.{AreJournalPathsFreeIfIntentIsReplayed, HasEmptyStageAndFreeJournalPaths, unstaged_files};
+ghost use Rattle.engine_core.specs.journal_core.Staged.{AreJournalPathsFreeAfterReplayIfAny, HasEmptyStageAndFreeJournalPaths, unstaged_files};
 ghost use Rattle.tell_core.specs.installed_info.declared.telling.ReportAndRefusal.{ReportAndRefusal};
 ghost use Rattle.make_core.specs.make_info.Reads.{Reads};
 ghost use Rattle.outcome.specs.ChangeEnd.{IsChangeEnd, IsChangeEndOrIntentRefusal, is_input_refusal};
 ghost use Rattle.outcome.specs.Commands.{IsOutcomeWithoutDemo, IsOutcomeOverRecoveredFiles, reads_in};
-ghost use Rattle.outcome.specs.Effect.{Changes, Makes, AsksRoot, does_recover, effect_of_arguments, effect_of, output, reads_only, depends_only_on_arguments};
+ghost use Rattle.outcome.specs.Effect.{Changes, Makes, AsksRoot, does_recover, effect_of_arguments, effect_of, output, do_arguments_neither_recover_nor_write, depends_only_on_arguments};
 ghost use Rattle.outcome.specs.Make.{files_below};
 ghost use Rattle.outcome.specs.Outcome.{Outcome, just_refusal, outcome_without_commit};
 ghost use Rattle.outcome.specs.Recovers.{must_recover};
@@ -94,11 +94,13 @@ pub fn an_outcome_over_files_is_unique()
 pub fn a_command_that_reads_leaves_the_files()
     // All files are unchanged.
     ensures files { (words : List (List ℕ)) (files : Files) (o : Outcome)
-        → IsTrue (reads_only (command_of words)) → IsOutcome (command_of words) files o
+        → IsTrue (do_arguments_neither_recover_nor_write (command_of words))
+        → IsOutcome (command_of words) files o
         → o.files ≡ files }
     // The outcome commits nothing.
     ensures commits { (words : List (List ℕ)) (files : Files) (o : Outcome)
-        → IsTrue (reads_only (command_of words)) → IsOutcome (command_of words) files o
+        → IsTrue (do_arguments_neither_recover_nor_write (command_of words))
+        → IsOutcome (command_of words) files o
         → o.commits ≡ false }
 {
     // A law that the proof needs; it has no effect at run time.
@@ -110,10 +112,12 @@ pub fn a_command_that_reads_leaves_the_files()
 fn reading_leaves_the_files()
     // All files are unchanged.
     ensures files { (read : Result CommandLine ℕ) (files : Files) (o : Outcome)
-        → IsTrue (reads_only read) → IsOutcomeWithoutDemo read files o → o.files ≡ files }
+        → IsTrue (do_arguments_neither_recover_nor_write read)
+        → IsOutcomeWithoutDemo read files o → o.files ≡ files }
     // The outcome commits nothing.
     ensures commits { (read : Result CommandLine ℕ) (files : Files) (o : Outcome)
-        → IsTrue (reads_only read) → IsOutcomeWithoutDemo read files o → o.commits ≡ false }
+        → IsTrue (do_arguments_neither_recover_nor_write read)
+        → IsOutcomeWithoutDemo read files o → o.commits ≡ false }
 {}
 
 /// A command that recovers and then only reads commits nothing. It leaves the recovered files, or
@@ -261,7 +265,7 @@ pub fn a_change_leaves_free_paths_for_the_next()
         → effect_of_arguments (command_of words) ≡ Changes → IsOutcome (command_of words) files o
         → o.refusal ≡ None
         → HasEmptyStageAndFreeJournalPaths (files_recovered_if_needed Changes files)
-        → AreJournalPathsFreeIfIntentIsReplayed o.files
+        → AreJournalPathsFreeAfterReplayIfAny o.files
         × HasEmptyStageAndFreeJournalPaths (files_recovered_if_needed Changes o.files) }
 {
     // Laws that the proof needs; they have no effect at run time.

@@ -21,7 +21,7 @@ use Rattle.path_claim_lists.proofs.path_claims.Places.{no_some, value_or}
 use Rattle.path_claim_lists.proofs.path_claims.Runs.{filter_ext}
 use Rattle.path_claim_lists.proofs.path_claims.Whole.{from_sorted}
 use Rattle.path_claim_lists.proofs.Lists.{found_ext, found_filtered, found_first, found_is, first_of}
-use Rattle.change_files.specs.file_owners.Owners.{numbered_claim_of_listing, claims_of_listings_numbered_from, claims_in, owner_of_path}
+use Rattle.change_files.specs.file_owners.Owners.{indexed_claim_of_listing, claims_of_listings_indexed_from, claims_in, owner_of_path}
 use Rattle.change_files.specs.FileChange.{FileChange, added_owner_listing, if_member_added, is_listed_after_change, old_entry, old_listings, owner_listing}
 use Rattle.own_core.specs.ClaimEntries.{AreClaimsOf, HasFileAt, IsClaimOf, claim_entry, is_added_at, is_added_if_any, listed_file_at, folders_if_any, is_of_added_owner}
 
@@ -92,7 +92,7 @@ pub record IsClaimFor (l : Listing) (c : PathClaim) : Type 0 where
   pub folder : c.folder ≡ l.folder
   pub file : c.file ≡ l.file
 
-pub claim_for : (n : ℕ) (l : Listing) → IsClaimFor l (numbered_claim_of_listing n l)
+pub claim_for : (n : ℕ) (l : Listing) → IsClaimFor l (indexed_claim_of_listing n l)
 claim_for n l = record { path = refl; member = refl; folder = refl; file = refl }
 
 pub entry_of : (members : List Member) (l : Listing) (c : PathClaim) → IsPlaced members l → IsClaimFor l c → claim_entry members c ≡ l.entry
@@ -107,11 +107,11 @@ GoTogether None (Some c) = ⊥
 GoTogether (Some l) None = ⊥
 GoTogether (Some l) (Some c) = IsClaimFor l c
 
-pub found_together : (t : PathClaim → Bool) (s : Listing → Bool) → ((n : ℕ) (l : Listing) → t (numbered_claim_of_listing n l) ≡ s l) → (n : ℕ) (ls : List Listing) → GoTogether (find s ls) (find t (claims_of_listings_numbered_from n ls))
+pub found_together : (t : PathClaim → Bool) (s : Listing → Bool) → ((n : ℕ) (l : Listing) → t (indexed_claim_of_listing n l) ≡ s l) → (n : ℕ) (ls : List Listing) → GoTogether (find s ls) (find t (claims_of_listings_indexed_from n ls))
 found_together t s h n [] = tt
-found_together t s h n (l ∷ ls) = go (t (numbered_claim_of_listing n l)) (s l) (h n l) (found_together t s h (n + 1) ls)
+found_together t s h n (l ∷ ls) = go (t (indexed_claim_of_listing n l)) (s l) (h n l) (found_together t s h (n + 1) ls)
   where
-    go : (a b : Bool) → a ≡ b → GoTogether (find s ls) (find t (claims_of_listings_numbered_from (n + 1) ls)) → GoTogether (cond b (Some l) (find s ls)) (cond a (Some (numbered_claim_of_listing n l)) (find t (claims_of_listings_numbered_from (n + 1) ls)))
+    go : (a b : Bool) → a ≡ b → GoTogether (find s ls) (find t (claims_of_listings_indexed_from (n + 1) ls)) → GoTogether (cond b (Some l) (find s ls)) (cond a (Some (indexed_claim_of_listing n l)) (find t (claims_of_listings_indexed_from (n + 1) ls)))
     go true true e r = claim_for n l
     go true false e r = absurd (true≢false e)
     go false true e r = absurd (true≢false (sym e))
@@ -259,10 +259,10 @@ module _ (members : List Member) (path : List ℕ) where
   unfolding claims_in
   coming_together =
       subst (GoTogether (find (by_owner (owner_of_path members path)) (listings_of_members members)))
-      (sym (same_kept (is_of_added_owner members) (claims_of_listings_numbered_from 0 (listings_of_members members)) path
-      ∙ (found_filtered (is_claim_of_path path) (is_of_added_owner members) (claims_of_listings_numbered_from 0 (listings_of_members members))
-      ∙ (found_and (is_of_added_owner members) (is_claim_of_path path) (claims_of_listings_numbered_from 0 (listings_of_members members))
-      ∙ found_ext (λ c. is_claim_of_path path c && is_of_added_owner members c) (λ c. bytes_eq c.path path && (is_owning_member c.member (owner_of_path members path) && is_added_at members c.member)) claim_test (claims_of_listings_numbered_from 0 (listings_of_members members))))))
+      (sym (same_kept (is_of_added_owner members) (claims_of_listings_indexed_from 0 (listings_of_members members)) path
+      ∙ (found_filtered (is_claim_of_path path) (is_of_added_owner members) (claims_of_listings_indexed_from 0 (listings_of_members members))
+      ∙ (found_and (is_of_added_owner members) (is_claim_of_path path) (claims_of_listings_indexed_from 0 (listings_of_members members))
+      ∙ found_ext (λ c. is_claim_of_path path c && is_of_added_owner members c) (λ c. bytes_eq c.path path && (is_owning_member c.member (owner_of_path members path) && is_added_at members c.member)) claim_test (claims_of_listings_indexed_from 0 (listings_of_members members))))))
       (found_together (λ c. bytes_eq c.path path && (is_owning_member c.member (owner_of_path members path) && is_added_at members c.member)) (by_owner (owner_of_path members path)) (λ n l. refl) 0 (listings_of_members members))
 
 -- the claim of a path's owner that comes, and its listing
@@ -283,10 +283,10 @@ coming_placed change path l e =
 -- ---- claims of members
 
 pub claim_listed : (members : List Member) → All (λ l. IsName l.path) (listings_of_members members) → (c : PathClaim) (n i : ℕ) (ls : List Listing) → Each (IsPlaced members) ls → Each (λ l. IsName l.path) ls
-    → slice_get (claims_of_listings_numbered_from n ls) i ≡ Some c → IsClaimOf members c
+    → slice_get (claims_of_listings_indexed_from n ls) i ≡ Some c → IsClaimOf members c
 claim_listed members named c n i [] p q g = absurd (no_some c g)
 claim_listed members named c n zero (l ∷ ls) p q g =
-    let is : numbered_claim_of_listing n l ≡ c = ap (value_or c) g in
+    let is : indexed_claim_of_listing n l ≡ c = ap (value_or c) g in
     subst (IsClaimOf members) is (record { member = l.member; at = p.0.at; place = p.0.place; name = q.0 })
 claim_listed members named c n (suc i) (l ∷ ls) p q g = claim_listed members named c (n + 1) i ls p.1 q.1 g
 

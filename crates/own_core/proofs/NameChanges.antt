@@ -17,7 +17,7 @@ use Rattle.change_files.specs.db_core.Members.{Listing, Member, is_added, listin
 use Rattle.change_files.specs.db_core.Seen.{members_of}
 use Rattle.path_claim_lists.specs.path_claims.Claims.{PathClaim, claim_cmp, is_claim_of_path}
 use Rattle.path_claim_lists.specs.Once.{HasFirstClaimOfEachPath}
-use Rattle.change_files.specs.file_owners.Owners.{claims_of_listings_numbered_from, claims_in}
+use Rattle.change_files.specs.file_owners.Owners.{claims_of_listings_indexed_from, claims_in}
 use Rattle.change_files.specs.Fate.{apk_new_name}
 use Rattle.change_files.specs.FileChange.{old_entry, was_listed}
 use Rattle.change_files.specs.FilesAfter.{database_name, is_left_over_modified_file_kept, is_left_over_and_not_written, listing_written_as_apk_new_beside, is_modified_config_to_keep, path_of_apk_new_name, world_name}
@@ -67,7 +67,7 @@ any_of_kept g t p (x ∷ xs) = go (p x) (any_of_kept g t p xs)
     go false h = h
 
 any_listing : (members : List Member) (t : List ℕ → Bool) (n : ℕ) (ls : List Listing) → Each (IsPlaced members) ls
-    → list_any (λ c. is_added_at members c.member && t c.path) (claims_of_listings_numbered_from n ls) ≡ list_any (λ l. is_added l.member && t l.path) ls
+    → list_any (λ c. is_added_at members c.member && t c.path) (claims_of_listings_indexed_from n ls) ≡ list_any (λ l. is_added l.member && t l.path) ls
 any_listing members t n [] h = refl
 any_listing members t n (l ∷ ls) h = (λ j. (ap is_added_if_any h.0.at j && t l.path) || any_listing members t (n + 1) ls h.1 j)
 
@@ -78,7 +78,7 @@ unfolding claims_in
 any_coming members t cs e =
     any_of_kept (λ c. c.path) t (λ c. is_added_at members c.member) cs
     ∙ (ap (list_any (λ c. is_added_at members c.member && t c.path)) e
-    ∙ (any_sorted claim_cmp (λ c. is_added_at members c.member && t c.path) (claims_of_listings_numbered_from 0 (listings_of_members members))
+    ∙ (any_sorted claim_cmp (λ c. is_added_at members c.member && t c.path) (claims_of_listings_indexed_from 0 (listings_of_members members))
     ∙ (any_listing members t 0 (listings_of_members members) (each_placed members)
     ∙ sym (any_of_kept (λ l. l.path) t (λ l. is_added l.member) (listings_of_members members)))))
 

@@ -12,7 +12,7 @@ use Rattle.base_core.proofs.Orderings.{is_less}
 use Rattle.path_claim_lists.specs.path_claims.Claims.{PathClaim, is_claim_of_path}
 use Rattle.path_claim_lists.proofs.Firsts.{paths}
 use Rattle.path_claim_lists.proofs.PathOrder.{behind}
-use Rattle.change_files.specs.PlanLists.{sorted_distinct_names, prepend_unless_equal_to_first, without_adjacent_repeats}
+use Rattle.change_files.specs.PlanLists.{sorted_distinct_names, prepend_unless_equal_to_first, names_with_adjacent_repeats_merged}
 use Rattle.change_files.proofs.InOrder.{from_once, in_order, from_order, order_rises, filter_rises}
 
 -- ---- each once
@@ -22,9 +22,9 @@ not_below x [] h q here = absurd here
 not_below x (y ∷ ys) h q (inl is) = ap (λ z. precedes z x) is ∙ h.0
 not_below x (y ∷ ys) h q (inr old) = not_below x ys h.1 q old
 
-once_rises : (xs : List (List ℕ)) → Sorting.Rises (λ x y. is_lt (bytes_cmp x y)) (Sorting.ranks bytes_cmp nat_list_cmp_total) xs → Names.Rises (without_adjacent_repeats xs)
+once_rises : (xs : List (List ℕ)) → Sorting.Rises (λ x y. is_lt (bytes_cmp x y)) (Sorting.ranks bytes_cmp nat_list_cmp_total) xs → Names.Rises (names_with_adjacent_repeats_merged xs)
 once_rises [] up = tt
-once_rises (x ∷ xs) up = go (without_adjacent_repeats xs) (once_rises xs up.1) (λ q here. not_below x xs up.0 q (from_once q xs here))
+once_rises (x ∷ xs) up = go (names_with_adjacent_repeats_merged xs) (once_rises xs up.1) (λ q here. not_below x xs up.0 q (from_once q xs here))
   where
     go : (w : List (List ℕ)) → Names.Rises w → ((q : List ℕ) → Names.IsIn q w → precedes q x ≡ false) → Names.Rises (prepend_unless_equal_to_first x w)
     go [] r low = (λ q here. absurd here, tt)

@@ -14,7 +14,7 @@ use Rattle.change_files.specs.file_guard.AsListed.{is_as_listed}
 use Rattle.change_files.specs.Fate.{agrees_with_old_entry, apk_new_name, fate_if_user_modified_file, fate_with_file_found, fate_of, gives_way, goes_aside, goes_in, is_as_old_entry_lists, is_protected_path}
 use Rattle.change_files.specs.FileChange.{FileChange, is_listed_after_change, old_entry, old_listings}
 use Rattle.change_files.specs.FilesAfter.{is_removed, is_listing_written_under_name, listing_written_as_apk_new_beside, listing_written_under_name}
-use Rattle.change_files.specs.PlanLists.{FileWrite, file_writes_of, first_reserved_added_path, removals_of}
+use Rattle.change_files.specs.PlanLists.{FileWrite, file_writes_of, first_reserved_added_path_in_byte_order, removals_of}
 use Rattle.change_files.specs.Touched.{IsPlannedWrite}
 use Rattle.change_files.proofs.LeftOver.{removed_unreserved}
 use Rattle.change_files.proofs.Lists.{IsOneOf, contains_from_one}
@@ -77,7 +77,7 @@ named_beside change files l named laid =
 
 module _ (change : FileChange) (files : Files) (old_named : All (λ l. IsName l.path) (listings_of_members (map member_of_kept change.old)))
     (old_free : All (λ l. is_reserved l.path ≡ false) (listings_of_members (map member_of_kept change.old))) (named : All (λ l. IsName l.path) (listings_of_members change.members))
-    (none : first_reserved_added_path change.members ≡ None) where
+    (none : first_reserved_added_path_in_byte_order change.members ≡ None) where
   removed_open : (path : List ℕ) → is_removed change files path ≡ true → IsUnreservedName path
   unfolding old_listings
   removed_open path removed =

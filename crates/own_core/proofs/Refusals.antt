@@ -23,8 +23,8 @@ use Rattle.path_claim_lists.proofs.path_claims.ClaimOrder.{claims_total}
 use Rattle.path_claim_lists.proofs.path_claims.Places.{map_len, no_some, seen_at, value_or}
 use Rattle.path_claim_lists.proofs.path_claims.Whole.{paths_in_order}
 use Rattle.path_claim_lists.proofs.Lists.{filter_swap, first_of, found_both, found_first, found_is, or_found, take_at, take_whole}
-use Rattle.change_files.specs.file_owners.Owners.{numbered_claim_of_listing, claims_of_listings_numbered_from, claims_in, first_contested_path_of_members, member_beats}
-use Rattle.change_files.specs.PlanLists.{first_reserved_added_path}
+use Rattle.change_files.specs.file_owners.Owners.{indexed_claim_of_listing, claims_of_listings_indexed_from, claims_in, first_contested_member_path_in_byte_order, member_beats}
+use Rattle.change_files.specs.PlanLists.{first_reserved_added_path_in_byte_order}
 use Rattle.change_files.proofs.InOrder.{from_sorted}
 use Rattle.own_core.specs.ClaimEntries.{is_added_at, is_added_if_any, is_added_and_reserved}
 use Rattle.own_core.proofs.Listings.{IsPlaced, each_all, each_placed}
@@ -74,12 +74,12 @@ first_kept p cs =
     ∙ sym (smallest_first (map (λ c. c.path) (filter p cs)))))
 
 reserved_listings : (members : List Member) (n : ℕ) (ls : List Listing) → Each (IsPlaced members) ls
-    → map (λ c. c.path) (filter (is_added_and_reserved members) (claims_of_listings_numbered_from n ls)) ≡ filter is_reserved (map (λ l. l.path) (filter (λ l. is_added l.member) ls))
+    → map (λ c. c.path) (filter (is_added_and_reserved members) (claims_of_listings_indexed_from n ls)) ≡ filter is_reserved (map (λ l. l.path) (filter (λ l. is_added l.member) ls))
 reserved_listings members n [] h = refl
 reserved_listings members n (l ∷ ls) h = go (is_reserved l.path) (is_added_at members l.place) (is_added l.member) refl (ap is_added_if_any h.0.at) (reserved_listings members (n + 1) ls h.1)
   where
-    go : (r a b : Bool) → is_reserved l.path ≡ r → a ≡ b → map (λ c. c.path) (filter (is_added_and_reserved members) (claims_of_listings_numbered_from (n + 1) ls)) ≡ filter is_reserved (map (λ l. l.path) (filter (λ l. is_added l.member) ls))
-        → map (λ c. c.path) (cond (r && a) (numbered_claim_of_listing n l ∷ filter (is_added_and_reserved members) (claims_of_listings_numbered_from (n + 1) ls)) (filter (is_added_and_reserved members) (claims_of_listings_numbered_from (n + 1) ls)))
+    go : (r a b : Bool) → is_reserved l.path ≡ r → a ≡ b → map (λ c. c.path) (filter (is_added_and_reserved members) (claims_of_listings_indexed_from (n + 1) ls)) ≡ filter is_reserved (map (λ l. l.path) (filter (λ l. is_added l.member) ls))
+        → map (λ c. c.path) (cond (r && a) (indexed_claim_of_listing n l ∷ filter (is_added_and_reserved members) (claims_of_listings_indexed_from (n + 1) ls)) (filter (is_added_and_reserved members) (claims_of_listings_indexed_from (n + 1) ls)))
         ≡ filter is_reserved (map (λ l. l.path) (cond b (l ∷ filter (λ l. is_added l.member) ls) (filter (λ l. is_added l.member) ls)))
     go true true true e f rest = ap (λ t. l.path ∷ t) rest ∙ sym (ap (λ t. cond t (l.path ∷ filter is_reserved (map (λ l. l.path) (filter (λ l. is_added l.member) ls))) (filter is_reserved (map (λ l. l.path) (filter (λ l. is_added l.member) ls)))) e)
     go true true false e f rest = absurd (true≢false f)
@@ -90,11 +90,11 @@ reserved_listings members n (l ∷ ls) h = go (is_reserved l.path) (is_added_at 
     go false false true e f rest = absurd (true≢false (sym f))
     go false false false e f rest = rest
 
-pub reserved_is : (members : List Member) (cs : List PathClaim) → cs ≡ sorted_by claim_cmp (claims_in members) → option_map (λ c. c.path) (find (is_added_and_reserved members) cs) ≡ first_reserved_added_path members
-unfolding claims_in first_reserved_added_path
+pub reserved_is : (members : List Member) (cs : List PathClaim) → cs ≡ sorted_by claim_cmp (claims_in members) → option_map (λ c. c.path) (find (is_added_and_reserved members) cs) ≡ first_reserved_added_path_in_byte_order members
+unfolding claims_in first_reserved_added_path_in_byte_order
 reserved_is members cs e =
     ap (λ xs. option_map (λ c. c.path) (find (is_added_and_reserved members) xs)) e
-    ∙ (first_kept (is_added_and_reserved members) (claims_of_listings_numbered_from 0 (listings_of_members members)) ∙ ap smallest_text (reserved_listings members 0 (listings_of_members members) (each_placed members)))
+    ∙ (first_kept (is_added_and_reserved members) (claims_of_listings_indexed_from 0 (listings_of_members members)) ∙ ap smallest_text (reserved_listings members 0 (listings_of_members members) (each_placed members)))
 
 -- the search claim by claim
 found_none_here : (p : PathClaim → Bool) (cs : List PathClaim) (i : ℕ) (c : PathClaim) → slice_get cs i ≡ Some c → find p (take i cs) ≡ None → p c ≡ true → find p cs ≡ Some c
@@ -108,7 +108,7 @@ found_none_here p (d ∷ cs) (suc i) c g n t = go (p d) n (λ m. found_none_here
 
 pub reserved_here : (members : List Member) (xs : List Claim) (i : ℕ) (d : Claim) (name : List ℕ) (t : Bool) → map claim_seen xs ≡ sorted_by claim_cmp (claims_in members) → i < length xs
     → find (is_added_and_reserved members) (take i (map claim_seen xs)) ≡ None → t ≡ is_added_and_reserved members (claim_seen (slice_index_or xs i d)) → t ≡ true → name ≡ (claim_seen (slice_index_or xs i d)).path
-    → Some name ≡ first_reserved_added_path members
+    → Some name ≡ first_reserved_added_path_in_byte_order members
 reserved_here members xs i d name t e l n is passes m =
     ap Some m
     ∙ (sym (ap (option_map (λ c. c.path)) (found_none_here (is_added_and_reserved members) (map claim_seen xs) i (claim_seen (slice_index_or xs i d)) (seen_at claim_seen xs i d l) n (sym is ∙ passes)))
@@ -124,7 +124,7 @@ not_reserved_here members xs i d t l n is fails =
     ∙ (λ j. or_found (n j) (cond ((sym is ∙ fails) j) (Some (claim_seen (slice_index_or xs i d))) None))))
 
 pub none_reserved : (members : List Member) (xs : List Claim) (i : ℕ) → map claim_seen xs ≡ sorted_by claim_cmp (claims_in members) → length xs ≤ i
-    → find (is_added_and_reserved members) (take i (map claim_seen xs)) ≡ None → None ≡ first_reserved_added_path members
+    → find (is_added_and_reserved members) (take i (map claim_seen xs)) ≡ None → None ≡ first_reserved_added_path_in_byte_order members
 none_reserved members xs i e l n =
     let k : length (map claim_seen xs) ≡ length xs = map_len claim_seen xs in
     sym (ap (option_map (λ c. c.path)) (sym (ap (find (is_added_and_reserved members)) (take_whole (map claim_seen xs) i (omega (arith, k, l)))) ∙ n)) ∙ reserved_is members (map claim_seen xs) e
@@ -136,12 +136,12 @@ place_low [] i x g = absurd (no_some x g)
 place_low (y ∷ xs) zero x g = omega arith
 place_low (y ∷ xs) (suc i) x g = let r = place_low xs i x g in omega arith
 
-claimants_low : (members : List Member) (path : List ℕ) (n : ℕ) (ls : List Listing) → Each (IsPlaced members) ls → Each (λ m. m < length members) (claimants (claims_of_listings_numbered_from n ls) path)
+claimants_low : (members : List Member) (path : List ℕ) (n : ℕ) (ls : List Listing) → Each (IsPlaced members) ls → Each (λ m. m < length members) (claimants (claims_of_listings_indexed_from n ls) path)
 claimants_low members path n [] h = tt
 claimants_low members path n (l ∷ ls) h = go (bytes_eq l.path path) (claimants_low members path (n + 1) ls h.1)
   where
-    go : (b : Bool) → Each (λ m. m < length members) (map (λ c. c.member) (filter (is_claim_of_path path) (claims_of_listings_numbered_from (n + 1) ls)))
-        → Each (λ m. m < length members) (map (λ c. c.member) (cond b (numbered_claim_of_listing n l ∷ filter (is_claim_of_path path) (claims_of_listings_numbered_from (n + 1) ls)) (filter (is_claim_of_path path) (claims_of_listings_numbered_from (n + 1) ls))))
+    go : (b : Bool) → Each (λ m. m < length members) (map (λ c. c.member) (filter (is_claim_of_path path) (claims_of_listings_indexed_from (n + 1) ls)))
+        → Each (λ m. m < length members) (map (λ c. c.member) (cond b (indexed_claim_of_listing n l ∷ filter (is_claim_of_path path) (claims_of_listings_indexed_from (n + 1) ls)) (filter (is_claim_of_path path) (claims_of_listings_indexed_from (n + 1) ls))))
     go true rest = (place_low members l.place l.member h.0.at, rest)
     go false rest = rest
 
@@ -156,7 +156,7 @@ rivals_low beats n (x ∷ ms) r h e = go (find (λ y. not ((x == y) || beats x y
         let is : rivals_of x y ≡ r = ap (value_or (rivals_of x y)) k in
         subst (λ (s : Rivals). (s.first < n) × (s.second < n)) is (h.0, (found_is (λ y. not ((x == y) || beats x y)) (λ m. m < n) (x ∷ ms) y h f).0)
 
-named_paths : (n : ℕ) (ls : List Listing) (q : List ℕ) → Each (λ l. IsName l.path) ls → Names.IsIn q (map (λ c. c.path) (claims_of_listings_numbered_from n ls)) → IsName q
+named_paths : (n : ℕ) (ls : List Listing) (q : List ℕ) → Each (λ l. IsName l.path) ls → Names.IsIn q (map (λ c. c.path) (claims_of_listings_indexed_from n ls)) → IsName q
 named_paths n [] q h here = absurd here
 named_paths n (l ∷ ls) q h (inl is) = subst IsName (sym is) h.0
 named_paths n (l ∷ ls) q h (inr old) = named_paths (n + 1) ls q h.1 old
@@ -171,21 +171,21 @@ pub record IsContestable (members : List Member) (contest : ContestedPath) : Typ
   pub first : contest.rivals.first < length members
   pub second : contest.rivals.second < length members
 
-pub contestable : (members : List Member) (contest : ContestedPath) → All (λ l. IsName l.path) (listings_of_members members) → first_contested_path_of_members members ≡ Some contest → IsContestable members contest
-unfolding first_contested_path_of_members first_contested_path claims_in
-contestable members contest named e = by_path (first_path_without_owner (member_beats members) (claims_of_listings_numbered_from 0 (listings_of_members members))) refl e
+pub contestable : (members : List Member) (contest : ContestedPath) → All (λ l. IsName l.path) (listings_of_members members) → first_contested_member_path_in_byte_order members ≡ Some contest → IsContestable members contest
+unfolding first_contested_member_path_in_byte_order first_contested_path claims_in
+contestable members contest named e = by_path (first_path_without_owner (member_beats members) (claims_of_listings_indexed_from 0 (listings_of_members members))) refl e
   where
-    by_rivals : (path : List ℕ) → first_path_without_owner (member_beats members) (claims_of_listings_numbered_from 0 (listings_of_members members)) ≡ Some path → (o : Option Rivals)
-        → first_with_unbeaten_rival (member_beats members) (claimants (claims_of_listings_numbered_from 0 (listings_of_members members)) path) ≡ o → option_map (λ rivals. record { path = path; rivals = rivals }) o ≡ Some contest → IsContestable members contest
+    by_rivals : (path : List ℕ) → first_path_without_owner (member_beats members) (claims_of_listings_indexed_from 0 (listings_of_members members)) ≡ Some path → (o : Option Rivals)
+        → first_with_unbeaten_rival (member_beats members) (claimants (claims_of_listings_indexed_from 0 (listings_of_members members)) path) ≡ o → option_map (λ rivals. record { path = path; rivals = rivals }) o ≡ Some contest → IsContestable members contest
     by_rivals path f None g k = absurd (no_some contest k)
     by_rivals path f (Some r) g k =
         let is : record { path = path; rivals = r } ≡ contest = ap (value_or contest) k in
-        let low = rivals_low (member_beats members) (length members) (claimants (claims_of_listings_numbered_from 0 (listings_of_members members)) path) r (claimants_low members path 0 (listings_of_members members) (each_placed members)) g in
-        let place = found_from (λ p. is_none (owner_among (member_beats members) (claims_of_listings_numbered_from 0 (listings_of_members members)) p)) (sorted_by bytes_cmp (map (λ c. c.path) (claims_of_listings_numbered_from 0 (listings_of_members members)))) path f in
-        let here = from_sorted path (map (λ c. c.path) (claims_of_listings_numbered_from 0 (listings_of_members members))) (at_in (sorted_by bytes_cmp (map (λ c. c.path) (claims_of_listings_numbered_from 0 (listings_of_members members)))) place.0 path place.1) in
+        let low = rivals_low (member_beats members) (length members) (claimants (claims_of_listings_indexed_from 0 (listings_of_members members)) path) r (claimants_low members path 0 (listings_of_members members) (each_placed members)) g in
+        let place = found_from (λ p. is_none (owner_among (member_beats members) (claims_of_listings_indexed_from 0 (listings_of_members members)) p)) (sorted_by bytes_cmp (map (λ c. c.path) (claims_of_listings_indexed_from 0 (listings_of_members members)))) path f in
+        let here = from_sorted path (map (λ c. c.path) (claims_of_listings_indexed_from 0 (listings_of_members members))) (at_in (sorted_by bytes_cmp (map (λ c. c.path) (claims_of_listings_indexed_from 0 (listings_of_members members)))) place.0 path place.1) in
         subst (IsContestable members) is (record { name = named_paths 0 (listings_of_members members) path (each_all (λ l. IsName l.path) (listings_of_members members) named) here; first = low.0; second = low.1 })
 
-    by_path : (o : Option (List ℕ)) → first_path_without_owner (member_beats members) (claims_of_listings_numbered_from 0 (listings_of_members members)) ≡ o → option_and_then (path_with_rivals_of_first_claimant (member_beats members) (claims_of_listings_numbered_from 0 (listings_of_members members))) o ≡ Some contest
+    by_path : (o : Option (List ℕ)) → first_path_without_owner (member_beats members) (claims_of_listings_indexed_from 0 (listings_of_members members)) ≡ o → option_and_then (path_with_rivals_of_first_claimant (member_beats members) (claims_of_listings_indexed_from 0 (listings_of_members members))) o ≡ Some contest
         → IsContestable members contest
     by_path None f k = absurd (no_some contest k)
-    by_path (Some path) f k = by_rivals path f (first_with_unbeaten_rival (member_beats members) (claimants (claims_of_listings_numbered_from 0 (listings_of_members members)) path)) refl k
+    by_path (Some path) f k = by_rivals path f (first_with_unbeaten_rival (member_beats members) (claimants (claims_of_listings_indexed_from 0 (listings_of_members members)) path)) refl k

@@ -18,10 +18,10 @@ use Rattle.change_files.specs.db_core.declared.members.Members.{Members}
 use Rattle.path_claim_lists.specs.path_claims.Claims.{ContestedPath}
 use Rattle.path_claim_lists.specs.path_clashes.Clash.{HasNoClash, IsFirstClash, NamePair}
 use Rattle.path_claim_lists.specs.path_clashes.FirstClash.{IsFirstClashOverSomeFiles}
-use Rattle.change_files.specs.file_owners.Owners.{first_contested_path_of_members, owned_flags_of}
+use Rattle.change_files.specs.file_owners.Owners.{first_contested_member_path_in_byte_order, owned_flags_of}
 use Rattle.change_files.specs.FileChange.{FileChange}
 use Rattle.change_files.specs.NamesAfter.{name_change}
-use Rattle.change_files.specs.PlanLists.{FileWrite, paths_with_apk_new_file, file_writes_of, first_reserved_added_path, kept_left_over_paths_of, removals_of}
+use Rattle.change_files.specs.PlanLists.{FileWrite, paths_with_apk_new_file, file_writes_of, first_reserved_added_path_in_byte_order, kept_left_over_paths_of, removals_of}
 use Rattle.own_core.specs.ClaimEntries.{HasFileAt}
 use Rattle.own_core.specs.WritesSeen.{writes_in}
 use Rattle.own_core.specs.declared.fault.PlanFault.{PlanFault}
@@ -66,9 +66,9 @@ pub record IsPlanForMembersAlone (members : List Member) (plan : FilePlan) : Typ
   -- for each file that members list, the plan says whether its member owns it
   pub owned : plan.owned ≡ owned_flags_of members
   -- no added member lists a reserved path
-  pub allowed : first_reserved_added_path members ≡ None
+  pub allowed : first_reserved_added_path_in_byte_order members ≡ None
   -- no path is contested
-  pub owners : first_contested_path_of_members members ≡ None
+  pub owners : first_contested_member_path_in_byte_order members ≡ None
 
 -- the names under which a plan writes files: their paths, or `PATH.apk-new`
 abbrev pub written_names : FilePlan → List (List ℕ)
@@ -120,7 +120,7 @@ pub record IsFirstContest (members : List Member) (path first second : List ℕ)
   -- the path, with the indexes of its rivals
   pub contest : ContestedPath
   -- it is the first contested path
-  pub is : first_contested_path_of_members members ≡ Some contest
+  pub is : first_contested_member_path_in_byte_order members ≡ Some contest
   -- the given path is this one
   pub at : path ≡ contest.path
   -- `first` is the name of the first rival, the first member that lists the path
@@ -170,9 +170,11 @@ MayBeRefusalOf change history Memory = Unit {0}
 -- What a fault says about the members alone. A reported reserved path is the first one. Another fault, except
 -- `Memory`, is reported only if there is none. A contested path is the first one, with the names of its rivals.
 abbrev pub IsRefusalForMembersAlone : List Member → PlanFault → Type 0
-IsRefusalForMembersAlone members (Reserved path) = first_reserved_added_path members ≡ Some path
-IsRefusalForMembersAlone members (PathClash path other) = first_reserved_added_path members ≡ None
+IsRefusalForMembersAlone members (Reserved path) =
+    first_reserved_added_path_in_byte_order members ≡ Some path
+IsRefusalForMembersAlone members (PathClash path other) =
+    first_reserved_added_path_in_byte_order members ≡ None
 IsRefusalForMembersAlone members (Owned path first second) =
-    (first_reserved_added_path members ≡ None) × IsFirstContest members path first second
-IsRefusalForMembersAlone members Disk = first_reserved_added_path members ≡ None
+    (first_reserved_added_path_in_byte_order members ≡ None) × IsFirstContest members path first second
+IsRefusalForMembersAlone members Disk = first_reserved_added_path_in_byte_order members ≡ None
 IsRefusalForMembersAlone members Memory = Unit {0}

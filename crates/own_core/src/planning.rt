@@ -9,12 +9,12 @@ ghost use Rattle.base_core.specs.Name.{IsName};
 ghost use Rattle.base_core.specs.Read.{OnlyReads};
 ghost use Rattle.base_core.specs.Tree.{files_of};
 ghost use Rattle.change_files.specs.NamesAfter.{name_change};
-ghost use Rattle.change_files.specs.PlanLists.{first_reserved_added_path};
+ghost use Rattle.change_files.specs.PlanLists.{first_reserved_added_path_in_byte_order};
 ghost use Rattle.path_claim_lists.specs.Named.{HaveValidPaths};
 ghost use Rattle.path_claim_lists.specs.Once.{HasFirstClaimOfEachPath};
 ghost use Rattle.change_files.specs.db_core.Members.{listings_of_members};
 ghost use Rattle.change_files.specs.db_core.Seen.{members_of};
-ghost use Rattle.change_files.specs.file_owners.Owners.{claims_in, first_contested_path_of_members, owned_flags_of};
+ghost use Rattle.change_files.specs.file_owners.Owners.{claims_in, first_contested_member_path_in_byte_order, owned_flags_of};
 ghost use Rattle.base_core.specs.Sorted.{sorted_by};
 ghost use Rattle.path_claim_lists.specs.path_claims.Claims.{claim_cmp};
 ghost use Rattle.path_claim_lists.specs.path_claims.ContestedSeen.{contested_seen};
@@ -153,7 +153,7 @@ fn is_added_and_reserved(members: &Members<'_>, claim: &Claim<'_>) -> bool
 
 /// The first reserved path in byte order that an added package lists. `claims` are those of all
 /// members.
-fn first_reserved_added_path(
+fn first_reserved_added_path_in_byte_order(
     alloc: Global,
     members: &Members<'_>,
     claims: &[Claim<'_>],
@@ -163,7 +163,8 @@ fn first_reserved_added_path(
     // The claims are those of all files that the members list, in byte order of their paths.
     requires sorted { map claim_seen claims.now
         ≡ sorted_by claim_cmp (claims_in (members_of members.now)) }
-    ensures { IfOk result (λ found. found ≡ first_reserved_added_path (members_of members.now)) }
+    ensures { IfOk result (λ found. found
+        ≡ first_reserved_added_path_in_byte_order (members_of members.now)) }
 {
     for claim in claims {
         if is_added_and_reserved(members, claim) {
@@ -191,7 +192,7 @@ fn contest(
     contested: &Contested<'_>,
 ) -> Result<PlanFault, AllocError>
     // The path is the first one in byte order that no member owns.
-    requires contested { first_contested_path_of_members (members_of members.now)
+    requires contested { first_contested_member_path_in_byte_order (members_of members.now)
         ≡ Some (contested_seen contested.now) }
     // Each path that the members list is a name of the tree.
     requires named { All (λ l. IsName l.path) (listings_of_members (members_of members.now)) }
@@ -256,11 +257,12 @@ fn plan_of_claims<T: Tree>(
         (map claim_seen coming.now) }
     // `contested` is the first path in byte order that no member owns, with its rivals.
     requires contested { option_map contested_seen contested.now
-        ≡ first_contested_path_of_members (members_of change.now.members.now) }
+        ≡ first_contested_member_path_in_byte_order (members_of change.now.members.now) }
     // The flags are those of all files that the members list, in their order.
     requires owned { owned.items ≡ owned_flags_of (members_of change.now.members.now) }
     // Test 1 was passed: no added package lists a reserved path.
-    requires unreserved { first_reserved_added_path (members_of change.now.members.now) ≡ None }
+    requires unreserved { first_reserved_added_path_in_byte_order
+        (members_of change.now.members.now) ≡ None }
     // Each path that the members list is a name of the tree.
     requires named { All (λ l. IsName l.path)
         (listings_of_members (members_of change.now.members.now)) }
@@ -346,7 +348,7 @@ pub fn plan<'c, T: Tree>(
     let found = owners_of_files(alloc, after)?;
     let owned = found.owned;
     let contested = found.contested;
-    let reserved = first_reserved_added_path(alloc, after, &found.claims)?;
+    let reserved = first_reserved_added_path_in_byte_order(alloc, after, &found.claims)?;
     if let Some(path) = reserved {
         return Err(PlanFault::Reserved { path });
     }

@@ -9,7 +9,7 @@ use Rattle.solve_core.specs.candidate_core.Rank.{SealedPool, candidate_at}
 use Rattle.report_core.specs.Reports.{report_line, still_needed_text}
 use Rattle.package_changes.specs.Changes.{is_candidate_named}
 use Rattle.package_changes.specs.Placed.{candidates_at, selected_place}
-use Rattle.package_changes.specs.Report.{names_needing_candidate, still_needed_lines_of_name, was_installed}
+use Rattle.package_changes.specs.Report.{names_needing_candidate, lines_on_name_that_stays, was_installed}
 use Rattle.package_changes.specs.SelectedNames.{place_paired_with_name}
 use Rattle.package_changes.proofs.PlacedLaws.{found_at_place}
 
@@ -22,7 +22,7 @@ none_passes {X} p (x ∷ xs) e = go (p x) e (none_passes p xs)
     go false none rest = rest none
 
 -- a name without place has no line
-no_line : (pool : SealedPool) (trace : List ℕ) (name : List ℕ) → selected_place pool trace name ≡ None → still_needed_lines_of_name (candidates_at pool trace) name ≡ []
+no_line : (pool : SealedPool) (trace : List ℕ) (name : List ℕ) → selected_place pool trace name ≡ None → lines_on_name_that_stays (candidates_at pool trace) name ≡ []
 no_line pool trace name none =
     ap (flat_map (λ (c : Candidate). report_line (still_needed_text name (names_needing_candidate (candidates_at pool trace) c))))
     (none_passes (is_candidate_named name) (candidates_at pool trace)
@@ -30,13 +30,13 @@ no_line pool trace name none =
 
 -- names that no selected candidate has add nothing
 pub only_selected_stay : (before : List Plain) (pool : SealedPool) (trace : List ℕ) (table : List (List ℕ × ℕ)) → ((name : List ℕ) → place_paired_with_name name table ≡ selected_place pool trace name) → (names : List (Bor (List ℕ)))
-    → flat_map (still_needed_lines_of_name (candidates_at pool trace)) (filter (was_installed before) (map (λ n. n.now) (filter (λ (n : Bor (List ℕ)). is_some (place_paired_with_name n.now table)) names)))
-    ≡ flat_map (still_needed_lines_of_name (candidates_at pool trace)) (filter (was_installed before) (map (λ n. n.now) names))
+    → flat_map (lines_on_name_that_stays (candidates_at pool trace)) (filter (was_installed before) (map (λ n. n.now) (filter (λ (n : Bor (List ℕ)). is_some (place_paired_with_name n.now table)) names)))
+    ≡ flat_map (lines_on_name_that_stays (candidates_at pool trace)) (filter (was_installed before) (map (λ n. n.now) names))
 only_selected_stay before pool trace table leads [] = refl
 only_selected_stay before pool trace table leads (x ∷ names) = go (is_some (place_paired_with_name x.now table)) refl (only_selected_stay before pool trace table leads names)
   where
     line : List ℕ → List ℕ
-    line = still_needed_lines_of_name (candidates_at pool trace)
+    line = lines_on_name_that_stays (candidates_at pool trace)
 
     few : List (Bor (List ℕ))
     few = filter (λ (n : Bor (List ℕ)). is_some (place_paired_with_name n.now table)) names

@@ -6,7 +6,7 @@ use Rattle.change_files.specs.PlanLists.{sorted_distinct_names}
 use Rattle.dep_core.specs.Dependency.{Dependency, dependency_from_parts}
 use Rattle.solve_core.specs.candidate_core.Candidates.{Candidate, candidate_from_parts}
 use Rattle.package_changes.specs.Changes.{change_of_name, changes_of}
-use Rattle.package_changes.specs.Report.{still_needed_lines}
+use Rattle.package_changes.specs.Report.{lines_on_names_that_stay}
 use Rattle.report_core.specs.Reports.{Install, Purge, Reinstall, Replace, Upgrade}
 use Rattle.version_core.specs.Order.{is_version, tokens, version_cmp}
 use Rattle.version_core.specs.Token.{later_component_lexeme, next_lexeme, number_lexeme}
@@ -36,7 +36,7 @@ nothing_changes : changes_of (record { before = a_and_b; selected = both_selecte
 unfolding changes_of change_of_name sorted_distinct_names
 nothing_changes = refl
 
-b_stays : still_needed_lines a_and_b both_selected (codes "b" ∷ []) ≡ codes "b stays; required by: a\n"
+b_stays : lines_on_names_that_stay a_and_b both_selected (codes "b" ∷ []) ≡ codes "b stays; required by: a\n"
 unfolding sorted_distinct_names
 b_stays = refl
 
@@ -45,7 +45,7 @@ both_go : changes_of (record { before = a_and_b; selected = []; again = [] }) �
 unfolding changes_of change_of_name sorted_distinct_names
 both_go = refl
 
-none_stays : still_needed_lines a_and_b [] (codes "a" ∷ []) ≡ []
+none_stays : lines_on_names_that_stay a_and_b [] (codes "a" ∷ []) ≡ []
 unfolding sorted_distinct_names
 none_stays = refl
 
@@ -54,7 +54,7 @@ b_comes : changes_of (record { before = []; selected = candidate_of (Some 1) (co
 unfolding changes_of change_of_name sorted_distinct_names
 b_comes = refl
 
-what_comes_does_not_stay : still_needed_lines [] (candidate_of (Some 1) (codes "b") (codes "1") [] ∷ []) (codes "b" ∷ []) ≡ []
+what_comes_does_not_stay : lines_on_names_that_stay [] (candidate_of (Some 1) (codes "b") (codes "1") [] ∷ []) (codes "b" ∷ []) ≡ []
 unfolding sorted_distinct_names
 what_comes_does_not_stay = refl
 

@@ -10,7 +10,7 @@ use Rattle.report_core.specs.Reports.{Change}
 use Rattle.package_changes.specs.Changes.{Replacement, change_between, is_candidate_named, names_before_and_selected}
 
 -- a replacement in which the selected candidates are given by their places in the list of all candidates
-pub record PlacedReplacement : Type 0 where
+pub record ReplacementWithCandidatePlaces : Type 0 where
   -- the packages that are installed before the change
   pub before : List Plain
   -- all candidates, with the new world
@@ -25,7 +25,7 @@ abbrev pub candidates_at : SealedPool → List ℕ → List Candidate
 candidates_at pool places = filter_map (candidate_at pool) places
 
 -- a replacement with the candidates themselves instead of their places
-abbrev pub replacement_of : PlacedReplacement → Replacement
+abbrev pub replacement_of : ReplacementWithCandidatePlaces → Replacement
 replacement_of p =
     record { before = p.before; selected = candidates_at p.pool p.trace; again = p.again }
 
@@ -54,13 +54,13 @@ placed_change_with before pool again name old new =
 
 -- the change of the package with this name, with its places among the packages before and among the candidates; None if
 -- the package is kept
-unfoldable pub placed_change_of : PlacedReplacement → List ℕ → Option PlacedChange
+unfoldable pub placed_change_of : ReplacementWithCandidatePlaces → List ℕ → Option PlacedChange
 placed_change_of p name =
     placed_change_with p.before p.pool p.again name
     (position_from (is_package_named name) 0 p.before) (selected_place p.pool p.trace name)
 
 -- the changes with their places, in byte order of names
-unfoldable pub placed_changes_of : PlacedReplacement → List PlacedChange
+unfoldable pub placed_changes_of : ReplacementWithCandidatePlaces → List PlacedChange
 placed_changes_of p = filter_map (placed_change_of p) (names_before_and_selected (replacement_of p))
 
 -- ---- each name of a package before or of a selected candidate
@@ -90,13 +90,13 @@ placed_name_with before pool again name old new = record {
 
 -- what happens to the package with this name, even if it is kept, with its places among the packages before and among
 -- the candidates
-unfoldable pub placed_name_of : PlacedReplacement → List ℕ → PlacedName
+unfoldable pub placed_name_of : ReplacementWithCandidatePlaces → List ℕ → PlacedName
 placed_name_of p name =
     placed_name_with p.before p.pool p.again name
     (position_from (is_package_named name) 0 p.before) (selected_place p.pool p.trace name)
 
 -- each name of a package before or of a selected candidate, with its change, in byte order of the names
-unfoldable pub placed_names_of : PlacedReplacement → List PlacedName
+unfoldable pub placed_names_of : ReplacementWithCandidatePlaces → List PlacedName
 placed_names_of p = map (placed_name_of p) (names_before_and_selected (replacement_of p))
 
 -- the package before the change at the old place of a name, if there is one

@@ -34,8 +34,8 @@ names_needing_candidate selected needed =
     (filter (is_candidate_needed_by_other needed) selected))
 
 -- the lines that say that the package `name` is kept: one for each selected candidate with this name, at most one
-abbrev pub still_needed_lines_of_name : List Candidate → List ℕ → List ℕ
-still_needed_lines_of_name selected name =
+abbrev pub lines_on_name_that_stays : List Candidate → List ℕ → List ℕ
+lines_on_name_that_stays selected name =
     flat_map (λ (c : Candidate). report_line (still_needed_text name (names_needing_candidate selected c)))
     (filter (is_candidate_named name) selected)
 
@@ -45,9 +45,9 @@ was_installed before name = list_any (is_package_named name) before
 
 -- The lines on those of the names `to_remove` that were installed before and are still selected, in byte order, each
 -- once: they say that the package is kept, and which packages need it.
-abbrev pub still_needed_lines : List Plain → List Candidate → List (List ℕ) → List ℕ
-still_needed_lines before selected to_remove =
-    flat_map (still_needed_lines_of_name selected)
+abbrev pub lines_on_names_that_stay : List Plain → List Candidate → List (List ℕ) → List ℕ
+lines_on_names_that_stay before selected to_remove =
+    flat_map (lines_on_name_that_stays selected)
     (filter (was_installed before) (sorted_distinct_names to_remove))
 
 -- ---- the report
@@ -62,5 +62,6 @@ selected_sum_line selected =
 -- of the names `to_remove`, and the sum
 unfoldable pub simulated_report : Replacement → List (List ℕ) → List ℕ
 simulated_report r to_remove =
-    change_lines (changes_of r) ++ still_needed_lines r.before r.selected to_remove ++ selected_sum_line
+    change_lines (changes_of r) ++ lines_on_names_that_stay r.before r.selected to_remove
+    ++ selected_sum_line
     r.selected

@@ -2,7 +2,7 @@
 //! `stays.rt` use them. Only the order has a rule in a document: `docs/commands.md`, "`add` and
 //! `del`", reports packages in byte order of their names. The definition `sorted_distinct_names` is
 //! in `change_files`.
-ghost use Rattle.change_files.specs.PlanLists.{sorted_distinct_names, without_adjacent_repeats};
+ghost use Rattle.change_files.specs.PlanLists.{sorted_distinct_names, names_with_adjacent_repeats_merged};
 ghost use Rattle.base_core.specs.ByteOrder.{bytes_cmp};
 ghost use Rattle.base_core.specs.Sorted.{sorted_by};
 ghost use Rattle.std.specs.Prelude.{◌≡◌, map, IfOk};
@@ -34,7 +34,7 @@ fn sort_names(names: &mut Vec<&[u8]>) -> Result<(), AllocError>
 /// Drops each name that is equal to the name before it.
 fn drop_repeats(names: &mut Vec<&[u8]>)
     ensures { map (λ n. n.now) names.new.items
-        ≡ without_adjacent_repeats (map (λ n. n.now) names.old.items) }
+        ≡ names_with_adjacent_repeats_merged (map (λ n. n.now) names.old.items) }
 {
     names.dedup();
 }

@@ -6,7 +6,7 @@ ghost use Rattle.change_files.specs.db_core.Seen.{packages_of};
 ghost use Rattle.package_changes.specs.Changes.{is_candidate_named};
 ghost use Rattle.package_changes.specs.Placed.{candidates_at};
 ghost use Rattle.package_changes.specs.SelectedNames.{place_paired_with_name};
-ghost use Rattle.package_changes.specs.Report.{is_candidate_needed_by_other, names_needing_candidate, still_needed_lines_of_name, still_needed_lines, was_installed};
+ghost use Rattle.package_changes.specs.Report.{is_candidate_needed_by_other, names_needing_candidate, lines_on_name_that_stays, lines_on_names_that_stay, was_installed};
 ghost use Rattle.solve_core.specs.candidate_core.Candidates.{Candidate};
 ghost use Rattle.solve_core.specs.candidate_core.Rank.{candidate_at};
 ghost use Rattle.report_core.specs.Reports.{report_line, with_spaces_before, still_needed_text};
@@ -32,7 +32,7 @@ pub fn push_stay_lines(
     trace: &Trace,
     to_remove: &Words,
 ) -> Result<(), AllocError>
-    ensures { OnOk result (report.new ≡ report.old ++ still_needed_lines (packages_of db.now)
+    ensures { OnOk result (report.new ≡ report.old ++ lines_on_names_that_stay (packages_of db.now)
         (candidates_at pool.now trace.now) to_remove.now) }
 {
     let names = names_of_words(alloc, to_remove)?;
@@ -72,7 +72,7 @@ fn push_lines_of_names(
 ) -> Result<(), AllocError>
     // The lines of the names that were installed are appended.
     ensures { OnOk result (report.new ≡ report.old
-        ++ flat_map (still_needed_lines_of_name (candidates_at pool.now trace.now))
+        ++ flat_map (lines_on_name_that_stays (candidates_at pool.now trace.now))
         (filter (was_installed (packages_of db.now)) (map (λ n. n.now) names.now))) }
 {
     for name in names {
@@ -93,7 +93,7 @@ fn push_lines_of_name(
     // The lines of this name are appended, if it was installed.
     ensures { OnOk result (report.new ≡ report.old
         ++ (if was_installed (packages_of db.now) name.now
-        then still_needed_lines_of_name (candidates_at pool.now trace.now) name.now else [])) }
+        then lines_on_name_that_stays (candidates_at pool.now trace.now) name.now else [])) }
 {
     if was_installed(db, name) {
         push_selected_lines(alloc, report, pool, trace, name)?;
@@ -117,7 +117,7 @@ fn push_selected_lines(
     name: &[u8],
 ) -> Result<(), AllocError>
     ensures { OnOk result (report.new
-        ≡ report.old ++ still_needed_lines_of_name (candidates_at pool.now trace.now) name.now) }
+        ≡ report.old ++ lines_on_name_that_stays (candidates_at pool.now trace.now) name.now) }
 {
     for i in 0..trace.len() {
         push_line_of(alloc, report, pool, trace, trace.get(i), name)?;

@@ -10,7 +10,7 @@ use Rattle.std.proofs.lemmas.List.Sorted.{IsPermutation-append_right, IsPermutat
 use Rattle.std.proofs.lemmas.List.Sums.{suffix_len_is}
 use Rattle.std.proofs.lemmas.Map.Text.{is_eq-slice_cmp}
 use Rattle.std.proofs.lemmas.Slice.Eq.{bytes_eq-Decides}
-use Rattle.package_files.specs.Folders.{FolderListing, prefixes_before_slashes, all_folders_above, folder_of, folder_listings_of, folders_above, is_slash, folder_listing_of, tree_names_in_package_folder, path_relative_to, with_folder_inserted, with_folder_inserted_by_cmp_with_first, with_folders_inserted}
+use Rattle.package_files.specs.Folders.{FolderListing, prefixes_before_slashes, all_folders_above, folder_of, folder_listings_by_tree_names, folders_above, is_slash, folder_listing_by_tree_names, tree_names_in_package_folder, path_relative_to, with_folder_inserted, with_folder_inserted_by_cmp_with_first, sorted_folders_with_names_inserted}
 use Rattle.package_files.proofs.FolderLemmas.{cmp, placed_sorted, turned}
 use Rattle.package_files.proofs.PlaceLemmas.{differs}
 
@@ -99,17 +99,17 @@ one_from x z (y ∷ ys) h = by (cmp x y) (one_from x z ys) h
     by Equal f g = inr g
     by Greater f g = further f (either z y (with_folder_inserted x ys) g)
 
-all_there : (so_far names : List (List ℕ)) (z : List ℕ) → Contains so_far z ⊎ Contains names z → Contains (with_folders_inserted so_far names) z
+all_there : (so_far names : List (List ℕ)) (z : List ℕ) → Contains so_far z ⊎ Contains names z → Contains (sorted_folders_with_names_inserted so_far names) z
 all_there so_far [] z (inl h) = h
 all_there so_far [] z (inr h) = absurd (none_in z h)
 all_there so_far (x ∷ xs) z (inl h) = all_there (with_folder_inserted x so_far) xs z (inl (old_there x z so_far h))
 all_there so_far (x ∷ xs) z (inr h) = by (all_there (with_folder_inserted x so_far) xs z) (either z x xs h)
   where
-    by : (Contains (with_folder_inserted x so_far) z ⊎ Contains xs z → Contains (with_folders_inserted (with_folder_inserted x so_far) xs) z) → (x ≡ z) ⊎ Contains xs z → Contains (with_folders_inserted (with_folder_inserted x so_far) xs) z
+    by : (Contains (with_folder_inserted x so_far) z ⊎ Contains xs z → Contains (sorted_folders_with_names_inserted (with_folder_inserted x so_far) xs) z) → (x ≡ z) ⊎ Contains xs z → Contains (sorted_folders_with_names_inserted (with_folder_inserted x so_far) xs) z
     by f (inl e) = f (inl (subst (Contains (with_folder_inserted x so_far)) e (new_there x so_far)))
     by f (inr t) = f (inr t)
 
-all_from : (so_far names : List (List ℕ)) (z : List ℕ) → Contains (with_folders_inserted so_far names) z → Contains so_far z ⊎ Contains names z
+all_from : (so_far names : List (List ℕ)) (z : List ℕ) → Contains (sorted_folders_with_names_inserted so_far names) z → Contains so_far z ⊎ Contains names z
 all_from so_far [] z h = inl h
 all_from so_far (x ∷ xs) z h = by (all_from (with_folder_inserted x so_far) xs z h)
   where
@@ -121,7 +121,7 @@ all_from so_far (x ∷ xs) z h = by (all_from (with_folder_inserted x so_far) xs
     by (inl t) = first (one_from x z so_far t)
     by (inr t) = inr (there z x xs t)
 
-all_sorted : (so_far names : List (List ℕ)) → IsStrictlySortedBy cmp so_far → IsStrictlySortedBy cmp (with_folders_inserted so_far names)
+all_sorted : (so_far names : List (List ℕ)) → IsStrictlySortedBy cmp so_far → IsStrictlySortedBy cmp (sorted_folders_with_names_inserted so_far names)
 all_sorted so_far [] h = h
 all_sorted so_far (x ∷ xs) h = all_sorted (with_folder_inserted x so_far) xs (placed_sorted x so_far h)
 
@@ -254,13 +254,13 @@ module _ (key : List ℕ → List ℕ) where
 
 -- ---- the folders of a package
 
-files_in : (dir : List ℕ) (names ks : List (List ℕ)) → flat_map (λ (f : FolderListing). f.files) (map (folder_listing_of dir names) ks) ≡ parts (λ n. folder_of (path_relative_to dir n)) names ks
+files_in : (dir : List ℕ) (names ks : List (List ℕ)) → flat_map (λ (f : FolderListing). f.files) (map (folder_listing_by_tree_names dir names) ks) ≡ parts (λ n. folder_of (path_relative_to dir n)) names ks
 unfolding parts has
 files_in dir names [] = refl
 files_in dir names (k ∷ ks) = ap (λ l. tree_names_in_package_folder dir names k ++ l) (files_in dir names ks)
 
-pub each_in_one : (dir : List ℕ) (names : List (List ℕ)) → IsPermutation names (flat_map (λ (f : FolderListing). f.files) (folder_listings_of dir names))
-unfolding folder_listings_of
+pub each_in_one : (dir : List ℕ) (names : List (List ℕ)) → IsPermutation names (flat_map (λ (f : FolderListing). f.files) (folder_listings_by_tree_names dir names))
+unfolding folder_listings_by_tree_names
 each_in_one dir names =
     let paths = map (path_relative_to dir) names in
     let key : List ℕ → List ℕ = λ n. folder_of (path_relative_to dir n) in
@@ -268,11 +268,11 @@ each_in_one dir names =
     (parted key names (all_folders_above paths) (rising paths)
     (λ n t. folder_there paths (path_relative_to dir n) (key n) (mapped (path_relative_to dir) n names t) (in_folder (path_relative_to dir n))))
 
-names_are : (dir : List ℕ) (names ks : List (List ℕ)) → map (λ (f : FolderListing). f.name) (map (folder_listing_of dir names) ks) ≡ ks
+names_are : (dir : List ℕ) (names ks : List (List ℕ)) → map (λ (f : FolderListing). f.name) (map (folder_listing_by_tree_names dir names) ks) ≡ ks
 names_are dir names [] = refl
 names_are dir names (k ∷ ks) = ap (λ l. k ∷ l) (names_are dir names ks)
 
-pub folders_rise : (dir : List ℕ) (names : List (List ℕ)) → IsStrictlySortedBy cmp (map (λ (f : FolderListing). f.name) (folder_listings_of dir names))
-unfolding folder_listings_of
+pub folders_rise : (dir : List ℕ) (names : List (List ℕ)) → IsStrictlySortedBy cmp (map (λ (f : FolderListing). f.name) (folder_listings_by_tree_names dir names))
+unfolding folder_listings_by_tree_names
 folders_rise dir names =
     subst (IsStrictlySortedBy cmp) (sym (names_are dir names (all_folders_above (map (path_relative_to dir) names)))) (rising (map (path_relative_to dir) names))

@@ -10,7 +10,7 @@ use Rattle.std.proofs.lemmas.Cmp.{nat_list_cmp_total}
 use borrow.Author.Tests.{ne_eqb}
 use Rattle.std.specs.declared.cmp.Ordering.{Ordering}
 use Rattle.std.specs.declared.cmp.Ordering.TheVariants.{Less, Equal, Greater}
-use Rattle.package_files.specs.Folders.{is_slash, prefixes_extended_by_first_byte, prefixes_before_slashes, with_folder_inserted_by_cmp_with_first, with_folder_inserted, with_folders_inserted}
+use Rattle.package_files.specs.Folders.{is_slash, prefixes_before_slashes_of_byte_and_rest, prefixes_before_slashes, with_folder_inserted_by_cmp_with_first, with_folder_inserted, sorted_folders_with_names_inserted}
 
 abbrev pub cmp : List ℕ → List ℕ → Ordering
 cmp = slice_cmp nat_cmp
@@ -122,7 +122,7 @@ placed_sorted x (y ∷ ys) h = by (cmp x y) refl (placed_sorted x ys h.1)
 
 -- ---- the folders over a path
 
-pub all_placed_append : (so_far xs ys : List (List ℕ)) → with_folders_inserted so_far (xs ++ ys) ≡ with_folders_inserted (with_folders_inserted so_far xs) ys
+pub all_placed_append : (so_far xs ys : List (List ℕ)) → sorted_folders_with_names_inserted so_far (xs ++ ys) ≡ sorted_folders_with_names_inserted (sorted_folders_with_names_inserted so_far xs) ys
 all_placed_append so_far [] ys = refl
 all_placed_append so_far (x ∷ xs) ys = all_placed_append (with_folder_inserted x so_far) xs ys
 
@@ -133,7 +133,7 @@ map_append : (f : List ℕ → List ℕ) (xs ys : List (List ℕ)) → map f (xs
 map_append f [] ys = refl
 map_append f (x ∷ xs) ys = ap (λ (l : List (List ℕ)). f x ∷ l) (map_append f xs ys)
 
-with_more : (a b : ℕ) (path : List ℕ) (l : List (List ℕ)) → prefixes_extended_by_first_byte a (l ++ at_byte b path) ≡ prefixes_extended_by_first_byte a l ++ at_byte b (a ∷ path)
+with_more : (a b : ℕ) (path : List ℕ) (l : List (List ℕ)) → prefixes_before_slashes_of_byte_and_rest a (l ++ at_byte b path) ≡ prefixes_before_slashes_of_byte_and_rest a l ++ at_byte b (a ∷ path)
 with_more a b path l = by (is_slash a) (is_slash b)
   where
     by : (s t : Bool) → (if s then [] ∷ map (λ folder. a ∷ folder) (l ++ (if t then path ∷ [] else [])) else map (λ folder. a ∷ folder) (l ++ (if t then path ∷ [] else [])))
@@ -146,27 +146,27 @@ with_more a b path l = by (is_slash a) (is_slash b)
 -- a path that goes on with one byte
 pub slashes_more : (path : List ℕ) (b : ℕ) → prefixes_before_slashes (path ++ b ∷ []) ≡ prefixes_before_slashes path ++ at_byte b path
 slashes_more [] b = refl
-slashes_more (a ∷ rest) b = ap (prefixes_extended_by_first_byte a) (slashes_more rest b) ∙ with_more a b rest (prefixes_before_slashes rest)
+slashes_more (a ∷ rest) b = ap (prefixes_before_slashes_of_byte_and_rest a) (slashes_more rest b) ∙ with_more a b rest (prefixes_before_slashes rest)
 
 path_more : (path : List ℕ) (i : ℕ) → i < length path → prefixes_before_slashes (take (i + 1) path) ≡ prefixes_before_slashes (take i path) ++ at_byte (get_or path i 0) (take i path)
 path_more path i lt = ap prefixes_before_slashes (take_more path i 0 lt) ∙ slashes_more (take i path) (get_or path i 0)
 
 abbrev over : List (List ℕ) → List ℕ → ℕ → List (List ℕ)
-over start path i = with_folders_inserted start (prefixes_before_slashes (take i path))
+over start path i = sorted_folders_with_names_inserted start (prefixes_before_slashes (take i path))
 
-over_next : (start : List (List ℕ)) (path : List ℕ) (i : ℕ) → i < length path → over start path (i + 1) ≡ with_folders_inserted (over start path i) (at_byte (get_or path i 0) (take i path))
-over_next start path i lt = ap (with_folders_inserted start) (path_more path i lt) ∙ all_placed_append start (prefixes_before_slashes (take i path)) (at_byte (get_or path i 0) (take i path))
+over_next : (start : List (List ℕ)) (path : List ℕ) (i : ℕ) → i < length path → over start path (i + 1) ≡ sorted_folders_with_names_inserted (over start path i) (at_byte (get_or path i 0) (take i path))
+over_next start path i lt = ap (sorted_folders_with_names_inserted start) (path_more path i lt) ∙ all_placed_append start (prefixes_before_slashes (take i path)) (at_byte (get_or path i 0) (take i path))
 
 -- the byte at i is a slash, or another byte
 pub over_slash : (start before later : List (List ℕ)) (path : List ℕ) (i : ℕ) → i < length path → get_or path i 0 ≡ 47
     → before ≡ over start path i → later ≡ with_folder_inserted (take i path) before → later ≡ over start path (i + 1)
 over_slash start before later path i lt e so_far added =
-    added ∙ ap (with_folder_inserted (take i path)) so_far ∙ sym (over_next start path i lt ∙ ap (λ (b : ℕ). with_folders_inserted (over start path i) (at_byte b (take i path))) e)
+    added ∙ ap (with_folder_inserted (take i path)) so_far ∙ sym (over_next start path i lt ∙ ap (λ (b : ℕ). sorted_folders_with_names_inserted (over start path i) (at_byte b (take i path))) e)
 
 pub over_other : (start before later : List (List ℕ)) (path : List ℕ) (i : ℕ) → i < length path → (get_or path i 0 ≡ 47 → ⊥)
     → before ≡ over start path i → later ≡ before → later ≡ over start path (i + 1)
 over_other start before later path i lt ne so_far same =
-    same ∙ so_far ∙ sym (over_next start path i lt ∙ ap (λ (t : Bool). with_folders_inserted (over start path i) (if t then take i path ∷ [] else [])) (ne_eqb _ _ ne))
+    same ∙ so_far ∙ sym (over_next start path i lt ∙ ap (λ (t : Bool). sorted_folders_with_names_inserted (over start path i) (if t then take i path ∷ [] else [])) (ne_eqb _ _ ne))
 
 -- what a byte that is no slash answers
 pub not_slash : (b : ℕ) → (b ≡ 47 → ⊥) → not (is_slash b) ≡ true

@@ -11,7 +11,7 @@ use Rattle.std.proofs.lemmas.List.Concat.{flat_map-append}
 use Rattle.std.proofs.lemmas.Option.{get_or_from_slice_get, slice_get_within}
 use Rattle.std.proofs.lemmas.Slice.Eq.{bytes_eq-Decides}
 use borrow.Author.Tests.{eq-eqb}
-use Rattle.package_files.specs.Folders.{all_folders_above, prefixes_before_slashes, folder_of, folders_above, is_slash, path_relative_to, prefixes_extended_by_first_byte, with_folder_inserted, with_folders_inserted}
+use Rattle.package_files.specs.Folders.{all_folders_above, prefixes_before_slashes, folder_of, folders_above, is_slash, path_relative_to, prefixes_before_slashes_of_byte_and_rest, with_folder_inserted, sorted_folders_with_names_inserted}
 use Rattle.package_files.specs.BorrowedNames.{IsIndexOf}
 use Rattle.package_files.proofs.FolderLemmas.{all_placed_append, cmp, placed_as, turned}
 use Rattle.package_files.proofs.PlaceLemmas.{Tri, tri}
@@ -41,18 +41,18 @@ folder_kept x (y ∷ ys) s h = by (folder_kept x ys s.1) (either x y ys h)
     by further (inr t) =
         placed_as Greater x y ys (turned y x Less (of_all (λ z. cmp y z ≡ Less) x ys s.0 t)) ∙ ap (λ (l : List (List ℕ)). y ∷ l) (further t)
 
-folders_kept : (ys names : List (List ℕ)) → IsStrictlySortedBy cmp ys → ((z : List ℕ) → Contains names z → Contains ys z) → with_folders_inserted ys names ≡ ys
+folders_kept : (ys names : List (List ℕ)) → IsStrictlySortedBy cmp ys → ((z : List ℕ) → Contains names z → Contains ys z) → sorted_folders_with_names_inserted ys names ≡ ys
 folders_kept ys [] s h = refl
 folders_kept ys (x ∷ xs) s h =
-    ap (λ (l : List (List ℕ)). with_folders_inserted l xs) (folder_kept x ys s (h x (here x xs)))
+    ap (λ (l : List (List ℕ)). sorted_folders_with_names_inserted l xs) (folder_kept x ys s (h x (here x xs)))
     ∙ folders_kept ys xs s (λ z t. h z (there z x xs t))
 
 -- ---- the folders over a path that begins with a byte
 
-root_first : (b : ℕ) (folders : List (List ℕ)) → is_slash b ≡ true → Contains (prefixes_extended_by_first_byte b folders) []
+root_first : (b : ℕ) (folders : List (List ℕ)) → is_slash b ≡ true → Contains (prefixes_before_slashes_of_byte_and_rest b folders) []
 root_first b folders e = subst (λ (c : Bool). Contains (if c then [] ∷ map (λ folder. b ∷ folder) folders else map (λ folder. b ∷ folder) folders) []) (sym e) (here [] (map (λ folder. b ∷ folder) folders))
 
-further_in : (b : ℕ) (folder : List ℕ) (folders : List (List ℕ)) → Contains folders folder → Contains (prefixes_extended_by_first_byte b folders) (b ∷ folder)
+further_in : (b : ℕ) (folder : List ℕ) (folders : List (List ℕ)) → Contains folders folder → Contains (prefixes_before_slashes_of_byte_and_rest b folders) (b ∷ folder)
 further_in b folder folders h = by (is_slash b) (mapped (λ f. b ∷ f) folder folders h)
   where
     by : (c : Bool) → Contains (map (λ f. b ∷ f) folders) (b ∷ folder) → Contains (if c then [] ∷ map (λ f. b ∷ f) folders else map (λ f. b ∷ f) folders) (b ∷ folder)
@@ -70,7 +70,7 @@ from_further b (f ∷ fs) z h = by (from_further b fs z) (either z (b ∷ f) (ma
     by more (inl e) = (f, here f fs, e)
     by more (inr t) = let w = more t in (w.0, there w.0 f fs w.1, w.2)
 
-root_or_further : (b : ℕ) (folders : List (List ℕ)) (z : List ℕ) → Contains (prefixes_extended_by_first_byte b folders) z → ((is_slash b ≡ true) × ([] ≡ z)) ⊎ Further b folders z
+root_or_further : (b : ℕ) (folders : List (List ℕ)) (z : List ℕ) → Contains (prefixes_before_slashes_of_byte_and_rest b folders) z → ((is_slash b ≡ true) × ([] ≡ z)) ⊎ Further b folders z
 root_or_further b folders z h = by (is_slash b) refl h
   where
     by : (c : Bool) → is_slash b ≡ c → Contains (if c then [] ∷ map (λ f. b ∷ f) folders else map (λ f. b ∷ f) folders) z → ((is_slash b ≡ true) × ([] ≡ z)) ⊎ Further b folders z
@@ -166,22 +166,22 @@ abbrev names_upto : List ℕ → List (List ℕ) → ℕ → List (List ℕ)
 names_upto dir names i = all_folders_above (map (path_relative_to dir) (take i names))
 
 next_names : (dir : List ℕ) (names : List (List ℕ)) (i : ℕ) (name : List ℕ) → slice_get names i ≡ Some name
-    → names_upto dir names (i + 1) ≡ with_folders_inserted (names_upto dir names i) (folders_above (path_relative_to dir name))
+    → names_upto dir names (i + 1) ≡ sorted_folders_with_names_inserted (names_upto dir names i) (folders_above (path_relative_to dir name))
 next_names dir names i name at =
     let paths = map (path_relative_to dir) (take i names) in
     let more : map (path_relative_to dir) (take (i + 1) names) ≡ paths ++ path_relative_to dir name ∷ [] =
     map_more (path_relative_to dir) names i [] (slice_get_within names i name at)
     ∙ ap (λ n. paths ++ path_relative_to dir n ∷ []) (get_or_from_slice_get names i name [] at) in
     ap all_folders_above more
-    ∙ ap (with_folders_inserted []) (flat_map-append folders_above paths (path_relative_to dir name ∷ []))
+    ∙ ap (sorted_folders_with_names_inserted []) (flat_map-append folders_above paths (path_relative_to dir name ∷ []))
     ∙ all_placed_append [] (flat_map folders_above paths) (folders_above (path_relative_to dir name) ++ [])
-    ∙ ap (with_folders_inserted (all_folders_above paths)) (append-nil (folders_above (path_relative_to dir name)))
+    ∙ ap (sorted_folders_with_names_inserted (all_folders_above paths)) (append-nil (folders_above (path_relative_to dir name)))
 
 pub added_next : (dir : List ℕ) (names before later : List (List ℕ)) (i : ℕ) (name path : List ℕ) → slice_get names i ≡ Some name → path ≡ path_relative_to dir name
-    → before ≡ names_upto dir names i → later ≡ with_folders_inserted before (folders_above path) → later ≡ names_upto dir names (i + 1)
+    → before ≡ names_upto dir names i → later ≡ sorted_folders_with_names_inserted before (folders_above path) → later ≡ names_upto dir names (i + 1)
 added_next dir names before later i name path at is so_far added =
-    added ∙ ap (λ l. with_folders_inserted l (folders_above path)) so_far
-    ∙ ap (λ p. with_folders_inserted (names_upto dir names i) (folders_above p)) is ∙ sym (next_names dir names i name at)
+    added ∙ ap (λ l. sorted_folders_with_names_inserted l (folders_above path)) so_far
+    ∙ ap (λ p. sorted_folders_with_names_inserted (names_upto dir names i) (folders_above p)) is ∙ sym (next_names dir names i name at)
 
 pub kept_next : (dir : List ℕ) (names before later : List (List ℕ)) (i : ℕ) (name path folder : List ℕ) (o : Option ℕ) → slice_get names i ≡ Some name → path ≡ path_relative_to dir name
     → before ≡ names_upto dir names i → folder ≡ folder_of path → IsIndexOf folder before o → is_some o ≡ true → later ≡ before → later ≡ names_upto dir names (i + 1)

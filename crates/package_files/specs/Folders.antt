@@ -21,15 +21,15 @@ last_part_of path = after_last is_slash path
 
 -- the texts before each slash of a text that begins with the byte `b`. `folders` are the texts before
 -- each slash of the rest of this text. If `b` is a slash, the first of them is empty
-abbrev pub prefixes_extended_by_first_byte : ℕ → List (List ℕ) → List (List ℕ)
-prefixes_extended_by_first_byte b folders =
+abbrev pub prefixes_before_slashes_of_byte_and_rest : ℕ → List (List ℕ) → List (List ℕ)
+prefixes_before_slashes_of_byte_and_rest b folders =
     if is_slash b then [] ∷ map (λ folder. b ∷ folder) folders
     else map (λ folder. b ∷ folder) folders
 
 -- the texts before each slash of a text
 abbrev pub prefixes_before_slashes : List ℕ → List (List ℕ)
 prefixes_before_slashes [] = []
-prefixes_before_slashes (b ∷ bs) = prefixes_extended_by_first_byte b (prefixes_before_slashes bs)
+prefixes_before_slashes (b ∷ bs) = prefixes_before_slashes_of_byte_and_rest b (prefixes_before_slashes bs)
 
 -- the folders that contain a path, at any depth: the root, and the text before each slash
 abbrev pub folders_above : List ℕ → List (List ℕ)
@@ -54,13 +54,14 @@ with_folder_inserted name (x ∷ xs) =
     (with_folder_inserted name xs)
 
 -- the sorted list `so_far` with the names of the other list inserted, one by one
-abbrev pub with_folders_inserted : List (List ℕ) → List (List ℕ) → List (List ℕ)
-with_folders_inserted so_far [] = so_far
-with_folders_inserted so_far (name ∷ names) = with_folders_inserted (with_folder_inserted name so_far) names
+abbrev pub sorted_folders_with_names_inserted : List (List ℕ) → List (List ℕ) → List (List ℕ)
+sorted_folders_with_names_inserted so_far [] = so_far
+sorted_folders_with_names_inserted so_far (name ∷ names) =
+    sorted_folders_with_names_inserted (with_folder_inserted name so_far) names
 
 -- the names of a list, put into byte order one by one, each once
 abbrev pub sorted_names_without_repeats : List (List ℕ) → List (List ℕ)
-sorted_names_without_repeats names = with_folders_inserted [] names
+sorted_names_without_repeats names = sorted_folders_with_names_inserted [] names
 
 -- ---- the folders of a package
 
@@ -89,12 +90,12 @@ tree_names_in_package_folder dir names folder =
 
 -- the listing of a folder of the package: its name `folder`, and the names of its files among `names`,
 -- which are listed below `dir` of the tree
-abbrev pub folder_listing_of : List ℕ → List (List ℕ) → List ℕ → FolderListing
-folder_listing_of dir names folder =
+abbrev pub folder_listing_by_tree_names : List ℕ → List (List ℕ) → List ℕ → FolderListing
+folder_listing_by_tree_names dir names folder =
     record { name = folder; files = tree_names_in_package_folder dir names folder }
 
 -- the listings of all folders of a package, given the names of files that are listed below the folder
 -- `dir` of the tree
-unfoldable pub folder_listings_of : List ℕ → List (List ℕ) → List FolderListing
-folder_listings_of dir names =
-    map (folder_listing_of dir names) (all_folders_above (map (path_relative_to dir) names))
+unfoldable pub folder_listings_by_tree_names : List ℕ → List (List ℕ) → List FolderListing
+folder_listings_by_tree_names dir names =
+    map (folder_listing_by_tree_names dir names) (all_folders_above (map (path_relative_to dir) names))

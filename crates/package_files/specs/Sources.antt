@@ -10,8 +10,8 @@ use Rattle.command_core.specs.declared.values.OptionValue.{OptionValue}
 use Rattle.make_info.specs.Reads.{Reads}
 use Rattle.make_info.specs.declared.fault.MakeFault.{MakeFault}
 use Rattle.make_info.specs.declared.fault.MakeFault.TheVariants.{FileMissing}
-use Rattle.package_files.specs.Folders.{last_part_of, FolderListing, folder_listings_of}
-use Rattle.package_files.specs.Package.{Source, SourceFolder, Script}
+use Rattle.package_files.specs.Folders.{last_part_of, FolderListing, folder_listings_by_tree_names}
+use Rattle.package_files.specs.Package.{SourceFile, SourceFolder, Script}
 
 -- the bytes that a read found, or, if it found no file, the error that names the argument at this place
 -- of the command line
@@ -40,9 +40,9 @@ texts_of values = map (λ (v : OptionValue). v.text) values
 
 -- the names are names below the folder that the first of these values of `-F` gives, in byte order and
 -- each once. Without a value nothing is stated
-abbrev pub AreNamesBelowFirstFolder : List OptionValue → List (List ℕ) → Type 0
-AreNamesBelowFirstFolder [] names = Unit {0}
-AreNamesBelowFirstFolder (folder ∷ others) names =
+abbrev pub AreSortedNamesBelowFirstFolder : List OptionValue → List (List ℕ) → Type 0
+AreSortedNamesBelowFirstFolder [] names = Unit {0}
+AreSortedNamesBelowFirstFolder (folder ∷ others) names =
     AreSortedNamesBelowFolder (without_dot_slash folder.text) names
 
 -- ---- scripts
@@ -66,26 +66,28 @@ scripts_from_read read n values = results_from_read (λ v. 1) (script_at read) n
 -- ---- files
 
 -- the source file with these bytes; its name is the last part of `name`, its name in the tree
-abbrev pub source_of_read : List ℕ → List ℕ → Source
-source_of_read name bytes = record { name = last_part_of name; bytes = bytes }
+abbrev pub source_file_named_by_last_part : List ℕ → List ℕ → SourceFile
+source_file_named_by_last_part name bytes = record { name = last_part_of name; bytes = bytes }
 
 -- the source file under this name in the tree, by the read with the number `n`; if it is absent,
 -- the argument at `place` is reported
-abbrev pub source_file_read_at : ℕ → Reads → ℕ → List ℕ → Result Source MakeFault
-source_file_read_at place read n name =
-    and_then (found_bytes_or_missing place (read n name)) (λ bytes. Ok (source_of_read name bytes))
+abbrev pub source_file_at_place_by_read : ℕ → Reads → ℕ → List ℕ → Result SourceFile MakeFault
+source_file_at_place_by_read place read n name =
+    and_then (found_bytes_or_missing place (read n name))
+    (λ bytes. Ok (source_file_named_by_last_part name bytes))
 
 -- the source files under these names in the tree, which are read one after the other; the first read has
 -- the number `n`. If a file is absent, the argument `-F` at `place` is reported
-abbrev pub sources_at_place_from_read : ℕ → Reads → ℕ → List (List ℕ) → Result (List Source) MakeFault
-sources_at_place_from_read place read n names =
-    results_from_read (λ name. 1) (source_file_read_at place read) n names
+abbrev pub source_files_at_place_from_read : ℕ → Reads → ℕ → List (List ℕ)
+    → Result (List SourceFile) MakeFault
+source_files_at_place_from_read place read n names =
+    results_from_read (λ name. 1) (source_file_at_place_by_read place read) n names
 
 -- the source folder of a listing, with all its files, which are read one after the other; the first read
 -- has the number `n`. If a file is absent, the argument `-F` at `place` is reported
-abbrev pub source_folder_read_at : ℕ → Reads → ℕ → FolderListing → Result SourceFolder MakeFault
-source_folder_read_at place read n folder =
-    and_then (sources_at_place_from_read place read n folder.files)
+abbrev pub source_folder_at_place_by_read : ℕ → Reads → ℕ → FolderListing → Result SourceFolder MakeFault
+source_folder_at_place_by_read place read n folder =
+    and_then (source_files_at_place_from_read place read n folder.files)
     (λ files. Ok (record { name = folder.name; files = files }))
 
 -- the source folders of these listings, with all their files, which are read one after the other; the
@@ -94,12 +96,13 @@ abbrev pub source_folders_at_place_from_read :
     ℕ → Reads → ℕ → List FolderListing → Result (List SourceFolder) MakeFault
 source_folders_at_place_from_read place read n folders =
     results_from_read (λ (folder : FolderListing). length folder.files)
-    (source_folder_read_at place read) n folders
+    (source_folder_at_place_by_read place read) n folders
 
 -- the source folders of a package, given the values of `-F`, and the names listed below the folder of the
 -- first value. Without `-F` there are no folders. The first read has the number `n`
-abbrev pub source_folders_of_first_option :
+abbrev pub source_folders_of_first_option_only :
     Reads → ℕ → List OptionValue → List (List ℕ) → Result (List SourceFolder) MakeFault
-source_folders_of_first_option read n [] names = Ok []
-source_folders_of_first_option read n (v ∷ vs) names =
-    source_folders_at_place_from_read v.place read n (folder_listings_of (without_dot_slash v.text) names)
+source_folders_of_first_option_only read n [] names = Ok []
+source_folders_of_first_option_only read n (v ∷ vs) names =
+    source_folders_at_place_from_read v.place read n
+    (folder_listings_by_tree_names (without_dot_slash v.text) names)

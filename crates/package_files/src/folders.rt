@@ -3,7 +3,7 @@
 //! It also lists each folder below DIR that has a file at any depth".
 ghost use Rattle.std.specs.Prelude.{◌≡◌, ◌<◌, ◌≤◌, ◌+◌, ◌-◌, not, [], length, drop, map, replicate, slice_get, OnOk, IfOk};
 ghost use Rattle.std.specs.List.{suffix_len};
-ghost use Rattle.package_files.specs.Folders.{is_slash, folder_of, last_part_of, folders_above, with_folders_inserted, with_folder_inserted, path_relative_to, all_folders_above, tree_names_in_package_folder};
+ghost use Rattle.package_files.specs.Folders.{is_slash, folder_of, last_part_of, folders_above, sorted_folders_with_names_inserted, with_folder_inserted, path_relative_to, all_folders_above, tree_names_in_package_folder};
 ghost use Rattle.package_files.specs.BorrowedNames.{IsIndexOf, names_borrowed};
 
 use base_core::{Name, Names};
@@ -45,7 +45,8 @@ impl<'a> FolderNames<'a> {
 
     /// Adds the folders that contain a path, at any depth: the root, and the text before each `/`.
     pub(crate) fn add_over(&mut self, path: &'a [u8]) -> Result<(), AllocError>
-        ensures { OnOk result (self.new ≡ with_folders_inserted self.old (folders_above path.now)) }
+        ensures { OnOk result (self.new
+            ≡ sorted_folders_with_names_inserted self.old (folders_above path.now)) }
     {
         self.add(&path[..0])?;
         for (i, b) in path.iter().enumerate() {

@@ -9,11 +9,11 @@ ghost use Rattle.base_core.specs.Calls.{IfObservable};
 ghost use Rattle.base_core.specs.Tree.{files_of};
 ghost use Rattle.package_files.specs.Blocks.{HasBlockFront, contents_front};
 ghost use Rattle.package_files.specs.BorrowedNames.{listings_of};
-ghost use Rattle.package_files.specs.Folders.{folder_listings_of};
+ghost use Rattle.package_files.specs.Folders.{folder_listings_by_tree_names};
 ghost use Rattle.package_files.specs.Package.{has_contents};
 ghost use Rattle.package_files.specs.Packed.{IsPackedFile, ArePackedFiles, IsPackedFolder, IsPacking};
 ghost use Rattle.package_files.specs.Runs.{AgreesOrIsFault, HoldsOfSomeReadsOfTree};
-ghost use Rattle.package_files.specs.Sources.{found_bytes_or_missing, source_file_read_at, sources_at_place_from_read, source_folder_read_at, source_folders_at_place_from_read};
+ghost use Rattle.package_files.specs.Sources.{found_bytes_or_missing, source_file_at_place_by_read, source_files_at_place_from_read, source_folder_at_place_by_read, source_folders_at_place_from_read};
 ghost use Rattle.std.specs.Option.{option_map};
 ghost use Rattle.std.specs.Prelude.{◌≡◌, ◌++◌, ◌≤◌, ◌-◌, length, take, drop, replicate, OnOk, IfOk, IfSome, [], ◌∷◌, ℕ, map, true, false};
 
@@ -121,7 +121,7 @@ pub fn pack_names<'a, T: Tree>(
     // observable, the reads find its files.
     ensures read { (n : ℕ) → HoldsOfSomeReadsOfTree (T.history tree.old) (λ read.
         AgreesOrIsFault IsPacking result (source_folders_at_place_from_read place read n
-        (folder_listings_of dir.now names.now))) }
+        (folder_listings_by_tree_names dir.now names.now))) }
 {
     let folders = all_folders_above(alloc, dir, names)?;
     let files = names_in_folders(alloc, dir, names, &folders)?;
@@ -196,7 +196,7 @@ fn pack_folder<'a, T: Tree>(
     // observable, the reads find its files.
     ensures read { (n : ℕ) → HoldsOfSomeReadsOfTree (T.history tree.old) (λ read.
         AgreesOrIsFault (IsPackedFolder position blocks.old.items blocks.new.items) result
-        (source_folder_read_at place read n (record {
+        (source_folder_at_place_by_read place read n (record {
           name = name.now;
           files = map (λ name.
               name.now) names.now;
@@ -223,7 +223,7 @@ fn pack_files<'a, T: Tree>(
     // observable, the reads find its files.
     ensures read { (n : ℕ) → HoldsOfSomeReadsOfTree (T.history tree.old) (λ read.
         AgreesOrIsFault (ArePackedFiles folder blocks.old.items blocks.new.items) result
-        (sources_at_place_from_read place read n (map (λ name. name.now) names.now))) }
+        (source_files_at_place_from_read place read n (map (λ name. name.now) names.now))) }
 {
     let mut files = Vec::new(alloc);
     for i in 0..names.len() {
@@ -259,7 +259,7 @@ fn pack_file<'a, T: Tree>(
     ensures read { (n : ℕ) → HoldsOfSomeReadsOfTree (T.history tree.old) (λ read.
         AgreesOrIsFault
         (IsPackedFile position.0 position.1 blocks.old.items blocks.new.items) result
-        (source_file_read_at place read n name.now)) }
+        (source_file_at_place_by_read place read n name.now)) }
 {
     // The offsets at which the block of the file and the file's bytes begin.
     let start = blocks.len();

@@ -12,8 +12,8 @@ use Rattle.dep_core.specs.Dependency.{Dependency}
 use Rattle.star_patterns.specs.Fills.{MatchesByFillingStars}
 use Rattle.star_patterns.specs.Patterns.{is_whole_text_matched, matches_some_part}
 use Rattle.query_core.specs.Asked.{IsOwnOrProvidedName, IsNameMatchedBySomePattern, HasPartMatchedBySomePattern, ProvidesName}
-use Rattle.query_core.specs.List.{is_list_candidate, is_whole_name_matched}
-use Rattle.query_core.specs.Search.{own_and_provided_names, is_part_of_name_matched, is_search_candidate, provided_names}
+use Rattle.query_core.specs.List.{is_list_candidate, is_whole_name_matched_by_some_pattern}
+use Rattle.query_core.specs.Search.{own_and_provided_names, is_part_of_name_matched_by_some_pattern, is_search_candidate, provided_names}
 use Rattle.query_core.proofs.Parts.{found_in_part, part_found}
 use Rattle.query_core.proofs.Runs.{is_in_at, passes_at}
 
@@ -27,15 +27,15 @@ empty [] h = refl
 empty (o ∷ patterns) h = let bad : suc (length patterns) ≡ 0 = (Decides-eqb (suc (length patterns)) 0).0 h in absurd (omega (arith, bad))
 
 module _ (law : (pattern text : List ℕ) → (is_whole_text_matched pattern text ≡ true) ↔ MatchesByFillingStars pattern text) where
-  name_asked : (patterns : List Operand) (name : List ℕ) → is_whole_name_matched patterns name ≡ true → IsNameMatchedBySomePattern patterns name
+  name_asked : (patterns : List Operand) (name : List ℕ) → is_whole_name_matched_by_some_pattern patterns name ≡ true → IsNameMatchedBySomePattern patterns name
   name_asked patterns name h =
       let found = passes_at (λ (o : Operand). is_whole_text_matched o.text name) patterns h in
       record { pattern = found.1.0; given = is_in_at patterns found.0 found.1.0 found.1.1.0; filled = (law found.1.0.text name).0 found.1.1.1 }
 
-  asked_name : (patterns : List Operand) (name : List ℕ) → IsNameMatchedBySomePattern patterns name → is_whole_name_matched patterns name ≡ true
+  asked_name : (patterns : List Operand) (name : List ℕ) → IsNameMatchedBySomePattern patterns name → is_whole_name_matched_by_some_pattern patterns name ≡ true
   asked_name patterns name asked = any_in (λ (o : Operand). is_whole_text_matched o.text name) patterns asked.pattern asked.given ((law asked.pattern.text name).1 asked.filled)
 
-  part_asked : (patterns : List Operand) (name : List ℕ) → is_part_of_name_matched patterns name ≡ true → HasPartMatchedBySomePattern patterns name
+  part_asked : (patterns : List Operand) (name : List ℕ) → is_part_of_name_matched_by_some_pattern patterns name ≡ true → HasPartMatchedBySomePattern patterns name
   part_asked patterns name h =
       let found = passes_at (λ (o : Operand). matches_some_part o.text name) patterns h in
       let part = part_found found.1.0.text name found.1.1.1 in
@@ -49,7 +49,7 @@ module _ (law : (pattern text : List ℕ) → (is_whole_text_matched pattern tex
         filled = (law found.1.0.text part.part).0 part.matched;
       }
 
-  asked_part : (patterns : List Operand) (name : List ℕ) → HasPartMatchedBySomePattern patterns name → is_part_of_name_matched patterns name ≡ true
+  asked_part : (patterns : List Operand) (name : List ℕ) → HasPartMatchedBySomePattern patterns name → is_part_of_name_matched_by_some_pattern patterns name ≡ true
   asked_part patterns name asked =
       any_in (λ (o : Operand). matches_some_part o.text name) patterns asked.pattern asked.given
       (found_in_part asked.pattern.text asked.before asked.part asked.after name asked.name_is ((law asked.pattern.text asked.part).1 asked.filled))
@@ -57,14 +57,14 @@ module _ (law : (pattern text : List ℕ) → (is_whole_text_matched pattern tex
   pub listed_if_asked : (patterns : List Operand) (installed_only : Bool) (c : Candidate) → (is_list_candidate patterns installed_only c ≡ true) ↔ (((patterns ≡ []) ⊎ IsNameMatchedBySomePattern patterns c.name) × (installed_only ≡ true → c.installed ≡ true))
   listed_if_asked patterns installed_only c = (
     (λ h.
-        let both = and_parts (length patterns == 0 || is_whole_name_matched patterns c.name) (not installed_only || c.installed) h in (
-          (elim (or_cases (length patterns == 0) (is_whole_name_matched patterns c.name) both.0) [ inl e ↦ inl (empty patterns e) | inr e ↦ inr (name_asked patterns c.name e) ]),
+        let both = and_parts (length patterns == 0 || is_whole_name_matched_by_some_pattern patterns c.name) (not installed_only || c.installed) h in (
+          (elim (or_cases (length patterns == 0) (is_whole_name_matched_by_some_pattern patterns c.name) both.0) [ inl e ↦ inl (empty patterns e) | inr e ↦ inr (name_asked patterns c.name e) ]),
           implied installed_only c.installed both.1,
         )),
     (λ h.
-        let first : (length patterns == 0 || is_whole_name_matched patterns c.name) ≡ true = elim h.0 [
-          | inl e ↦ or_left (length patterns == 0) (is_whole_name_matched patterns c.name) (ap (λ (ps : List Operand). length ps == 0) e)
-          | inr asked ↦ or_right (length patterns == 0) (is_whole_name_matched patterns c.name) (asked_name patterns c.name asked)
+        let first : (length patterns == 0 || is_whole_name_matched_by_some_pattern patterns c.name) ≡ true = elim h.0 [
+          | inl e ↦ or_left (length patterns == 0) (is_whole_name_matched_by_some_pattern patterns c.name) (ap (λ (ps : List Operand). length ps == 0) e)
+          | inr asked ↦ or_right (length patterns == 0) (is_whole_name_matched_by_some_pattern patterns c.name) (asked_name patterns c.name asked)
         ] in
         rw first (implies installed_only c.installed h.1)),
   )
@@ -98,9 +98,9 @@ module _ (law : (pattern text : List ℕ) → (is_whole_text_matched pattern tex
   pub searched_if_asked : (patterns : List Operand) (c : Candidate) → (is_search_candidate patterns c ≡ true) ↔ ((is_some c.repository ≡ true) × ((name : List ℕ) × (IsOwnOrProvidedName c name × HasPartMatchedBySomePattern patterns name)))
   searched_if_asked patterns c = (
     (λ h.
-        let both = and_parts (is_some c.repository) (list_any (is_part_of_name_matched patterns) (own_and_provided_names c)) h in
-        let found = passes_at (is_part_of_name_matched patterns) (own_and_provided_names c) both.1 in
+        let both = and_parts (is_some c.repository) (list_any (is_part_of_name_matched_by_some_pattern patterns) (own_and_provided_names c)) h in
+        let found = passes_at (is_part_of_name_matched_by_some_pattern patterns) (own_and_provided_names c) both.1 in
         let name : List ℕ = found.1.0 in
         (both.0, (name, (has_name c name (is_in_at (own_and_provided_names c) found.0 name found.1.1.0), part_asked patterns name found.1.1.1)))),
-    (λ h. rw h.0 (any_in (is_part_of_name_matched patterns) (own_and_provided_names c) h.1.0 (name_in c h.1.0 h.1.1.0) (asked_part patterns h.1.0 h.1.1.1))),
+    (λ h. rw h.0 (any_in (is_part_of_name_matched_by_some_pattern patterns) (own_and_provided_names c) h.1.0 (name_in c h.1.0 h.1.1.0) (asked_part patterns h.1.0 h.1.1.1))),
   )

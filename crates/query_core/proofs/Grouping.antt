@@ -27,8 +27,8 @@ use Rattle.pool_core.specs.option_ranks.declared.rank.VersionKey.{VersionKey}
 use Rattle.pool_core.proofs.option_ranks.CountedRanks.{here_is}
 use Rattle.pool_core.proofs.option_ranks.MovedMembers.{member_of_all, moved_member}
 use Rattle.pool_core.proofs.option_ranks.RankedOptions.{place_of}
-use Rattle.query_core.specs.Order.{name_and_version_cmp, candidate_places_cmp, sorted_places_passing}
-use Rattle.query_core.specs.Policy.{has_own_name_and_version_text, has_own_name, is_of_repository, sorted_distinct_versions_of_name, versions_without_earlier_repeats}
+use Rattle.query_core.specs.Order.{name_then_greater_version_first_cmp, candidate_places_cmp, sorted_places_passing}
+use Rattle.query_core.specs.Policy.{has_own_name_and_version_text, has_own_name, is_of_repository, sorted_distinct_versions_of_name, versions_except_those_repeated_later}
 use Rattle.query_core.specs.QueryRanking.{AreInQueryOrder, IsQueryRanking, have_same_version}
 use Rattle.query_core.specs.VersionPlaces.{ListsPlacesOf, VersionPlaces}
 use Rattle.query_core.proofs.Gathered.{candidates_of}
@@ -40,7 +40,7 @@ version_of r = r.version.version
 
 -- ---- the order of candidates
 
-equal_parts : (a b : Candidate) → name_and_version_cmp a b ≡ Equal → a.version ≡ b.version
+equal_parts : (a b : Candidate) → name_then_greater_version_first_cmp a b ≡ Equal → a.version ≡ b.version
 equal_parts a b h =
     texts_same a.version b.version
     (last_decides (greater_version_first_cmp a.version b.version) (option_cmp bytes_cmp a.version b.version) (last_decides (bytes_cmp a.name b.name) (ordering_then (greater_version_first_cmp a.version b.version) (option_cmp bytes_cmp a.version b.version)) h))
@@ -51,22 +51,22 @@ less_first Equal r h = refl
 less_first Greater r h = refl
 
 module _ (versions : IsTotalOrder version_cmp) where
-  equal_when : (a b : Candidate) → a.name ≡ b.name → a.version ≡ b.version → name_and_version_cmp a b ≡ Equal
+  equal_when : (a b : Candidate) → a.name ≡ b.name → a.version ≡ b.version → name_then_greater_version_first_cmp a b ≡ Equal
   equal_when a b e f =
       ap (λ (n : List ℕ). ordering_then (bytes_cmp a.name n) (ordering_then (greater_version_first_cmp a.version b.version) (option_cmp bytes_cmp a.version b.version))) (sym e)
       ∙ (ap (λ (v : Option (List ℕ)). ordering_then (bytes_cmp a.name a.name) (ordering_then (greater_version_first_cmp a.version v) (option_cmp bytes_cmp a.version v))) (sym f)
       ∙ tied_itself (candidates_total versions) a)
 
   -- of three in order, if the outer two have one name and version, the one between has the version
-  between : (s e x : Candidate) → is_lt (name_and_version_cmp e s) ≡ false → is_lt (name_and_version_cmp x e) ≡ false → s.name ≡ x.name → s.version ≡ x.version → s.version ≡ e.version
-  between s e x first second names same = by (candidates_total versions) (name_and_version_cmp e s) refl
+  between : (s e x : Candidate) → is_lt (name_then_greater_version_first_cmp e s) ≡ false → is_lt (name_then_greater_version_first_cmp x e) ≡ false → s.name ≡ x.name → s.version ≡ x.version → s.version ≡ e.version
+  between s e x first second names same = by (candidates_total versions) (name_then_greater_version_first_cmp e s) refl
     where
-      by : IsTotalOrder name_and_version_cmp → (o : Ordering) → o ≡ name_and_version_cmp e s → s.version ≡ e.version
+      by : IsTotalOrder name_then_greater_version_first_cmp → (o : Ordering) → o ≡ name_then_greater_version_first_cmp e s → s.version ≡ e.version
       by total Less h = let bad : true ≡ false = ap is_lt h ∙ first in absurd (cc)
       by total Equal h = sym (equal_parts e s (sym h))
       by total Greater h =
-          let less : name_and_version_cmp s e ≡ Less = total.antisymm s e ∙ ap ordering_reverse (sym h) in
-          let moved : name_and_version_cmp x e ≡ name_and_version_cmp s e = sym (total.congr s x e (equal_when s x names same)) in
+          let less : name_then_greater_version_first_cmp s e ≡ Less = total.antisymm s e ∙ ap ordering_reverse (sym h) in
+          let moved : name_then_greater_version_first_cmp x e ≡ name_then_greater_version_first_cmp s e = sym (total.congr s x e (equal_when s x names same)) in
           let bad : true ≡ false = sym (ap is_lt (moved ∙ less)) ∙ second in
           absurd (cc)
 
@@ -90,9 +90,9 @@ first_candidate cs (q ∷ rs) r c h e = let s : q ≡ r = cc in rw (ap (λ (a : 
 
 module _ (versions : IsTotalOrder version_cmp) (cs : List Candidate) (name : List ℕ) (rs : List Ranking) (read : All (IsQueryRanking cs) rs) (places : map place_of rs ≡ sorted_places_passing (has_own_name name) cs) where
   -- what is printed of the name are the versions of the rankings
-  pub versions_are : sorted_distinct_versions_of_name cs name ≡ versions_without_earlier_repeats (map version_of rs)
+  pub versions_are : sorted_distinct_versions_of_name cs name ≡ versions_except_those_repeated_later (map version_of rs)
   versions_are =
-      ap versions_without_earlier_repeats
+      ap versions_except_those_repeated_later
       (ap (λ (ps : List ℕ). map (λ (c : Candidate). c.version) (filter_map (slice_get cs) ps)) (sym places)
       ∙ (ap (map (λ (c : Candidate). c.version)) (found_at_places cs rs) ∙ versions_found cs rs read))
 
@@ -115,7 +115,7 @@ module _ (versions : IsTotalOrder version_cmp) (cs : List Candidate) (name : Lis
       let is : here.0 ≡ c = cc in
       ap version_of here.1.1 ∙ ap (λ (d : Candidate). d.version) is
 
-  not_before : (i j : ℕ) (a b : Ranking) (x y : Candidate) → i ≤ j → slice_get rs i ≡ Some a → slice_get rs j ≡ Some b → slice_get cs a.place ≡ Some x → slice_get cs b.place ≡ Some y → is_lt (name_and_version_cmp y x) ≡ false
+  not_before : (i j : ℕ) (a b : Ranking) (x y : Candidate) → i ≤ j → slice_get rs i ≡ Some a → slice_get rs j ≡ Some b → slice_get cs a.place ≡ Some x → slice_get cs b.place ≡ Some y → is_lt (name_then_greater_version_first_cmp y x) ≡ false
   not_before i j a b x y low h g e f =
       let ps : List ℕ = map place_of rs in
       let total = query_total versions cs in
@@ -125,10 +125,10 @@ module _ (versions : IsTotalOrder version_cmp) (cs : List Candidate) (name : Lis
       let high : j < length ps = below_length ps j b.place at_j in
       let far : is_lt (candidate_places_cmp cs (get_or ps j 0) (get_or ps i 0)) ≡ false = sorted_far (λ m n. is_lt (candidate_places_cmp cs m n)) (ranks_by total (λ (k : ℕ). k)) ps up i j 0 low high in
       let one : is_lt (candidate_places_cmp cs b.place a.place) ≡ false = ap (λ (n : ℕ). is_lt (candidate_places_cmp cs b.place n)) (sym (here_is ps i 0 a.place (omega (arith, low, high)) at_i)) ∙ (ap (λ (n : ℕ). is_lt (candidate_places_cmp cs n (get_or ps i 0))) (sym (here_is ps j 0 b.place high at_j)) ∙ far) in
-      let seen : is_lt (ordering_then (name_and_version_cmp y x) (nat_cmp b.place a.place)) ≡ false =
-      ap (λ (o : Option Candidate). is_lt (ordering_then (option_cmp name_and_version_cmp (Some y) o) (nat_cmp b.place a.place))) (sym e)
-      ∙ (ap (λ (o : Option Candidate). is_lt (ordering_then (option_cmp name_and_version_cmp o (slice_get cs a.place)) (nat_cmp b.place a.place))) (sym f) ∙ one) in
-      less_first (name_and_version_cmp y x) (nat_cmp b.place a.place) seen
+      let seen : is_lt (ordering_then (name_then_greater_version_first_cmp y x) (nat_cmp b.place a.place)) ≡ false =
+      ap (λ (o : Option Candidate). is_lt (ordering_then (option_cmp name_then_greater_version_first_cmp (Some y) o) (nat_cmp b.place a.place))) (sym e)
+      ∙ (ap (λ (o : Option Candidate). is_lt (ordering_then (option_cmp name_then_greater_version_first_cmp o (slice_get cs a.place)) (nat_cmp b.place a.place))) (sym f) ∙ one) in
+      less_first (name_then_greater_version_first_cmp y x) (nat_cmp b.place a.place) seen
 
   same_names : (x y : Candidate) → has_own_name name x ≡ true → has_own_name name y ≡ true → x.name ≡ y.name
   same_names x y h g = sym ((bytes_eq-Decides name x.name).0 h) ∙ (bytes_eq-Decides name y.name).0 g
@@ -175,7 +175,7 @@ module _ (versions : IsTotalOrder version_cmp) (cs : List Candidate) (name : Lis
       ]
 
       -- the version of the run is left once
-      pub next_version : versions_without_earlier_repeats (map version_of (drop start rs)) ≡ version_of s ∷ versions_without_earlier_repeats (map version_of (drop end rs))
+      pub next_version : versions_except_those_repeated_later (map version_of (drop start rs)) ≡ version_of s ∷ versions_except_those_repeated_later (map version_of (drop end rs))
       next_version =
           let n : ℕ = end - start in
           let z : start + n ≡ end = omega (arith, some) in
@@ -187,7 +187,7 @@ module _ (versions : IsTotalOrder version_cmp) (cs : List Candidate) (name : Lis
           (λ m low h.
           let found = from_mapped version_of (drop start rs) m (version_of s) h in
           none_after (start + m) found.0 (omega (arith, low)) (sym (dropped_at rs start m) ∙ found.1.0) (sym found.1.1))
-          ∙ ap (λ (vs : List (Option (List ℕ))). version_of s ∷ versions_without_earlier_repeats vs) (sym (mapped_drop version_of (drop start rs) n) ∙ ap (map version_of) (dropped_twice rs start n ∙ ap (λ (k : ℕ). drop k rs) z))
+          ∙ ap (λ (vs : List (Option (List ℕ))). version_of s ∷ versions_except_those_repeated_later vs) (sym (mapped_drop version_of (drop start rs) n) ∙ ap (map version_of) (dropped_twice rs start n ∙ ap (λ (k : ℕ). drop k rs) z))
 
       run_at : (m : ℕ) (r : Ranking) → slice_get (take (end - start) (drop start rs)) m ≡ Some r → (m < end - start) × (slice_get rs (start + m) ≡ Some r)
       run_at m r h =

@@ -26,7 +26,7 @@ use Rattle.pool_core.proofs.option_ranks.RankOrder.{versions_back}
 use Rattle.report_core.specs.QueryReports.{policy_heading}
 use Rattle.query_core.specs.Asked.{AreStrictlyInOrderBy, HasCandidateWithOwnNameAndVersion}
 use Rattle.query_core.specs.Order.{candidate_places_cmp, sorted_candidates_passing, sorted_places_passing}
-use Rattle.query_core.specs.Policy.{has_own_name, name_policy, version_policy, sorted_distinct_versions_of_name, versions_without_earlier_repeats}
+use Rattle.query_core.specs.Policy.{has_own_name, name_policy, version_policy, sorted_distinct_versions_of_name, versions_except_those_repeated_later}
 use Rattle.query_core.proofs.AskedFor.{any_in}
 use Rattle.query_core.proofs.Gathered.{each_in}
 use Rattle.query_core.proofs.QueryOrder.{last_decides, one_place, query_total, texts_same}
@@ -129,7 +129,7 @@ selected_in_order versions test cs =
 
 -- ---- versions
 
-once_in : (v : Option (List ℕ)) (vs : List (Option (List ℕ))) → IsIn v (versions_without_earlier_repeats vs) → IsIn v vs
+once_in : (v : Option (List ℕ)) (vs : List (Option (List ℕ))) → IsIn v (versions_except_those_repeated_later vs) → IsIn v vs
 once_in v [] h = h
 once_in v (w ∷ vs) h = elim (cases_Bool (list_any (is_same_version w) vs)) [
   | inl e ↦ inr (once_in v vs (rw e at h))
@@ -140,7 +140,7 @@ same_in : (v : Option (List ℕ)) (vs : List (Option (List ℕ))) → list_any (
 same_in v [] h = absurd (cc)
 same_in v (w ∷ vs) h = elim (cases_Bool (is_same_version v w)) [ inl e ↦ inl (same_version v w e) | inr e ↦ inr (same_in v vs (rw e at h)) ]
 
-in_once : (v : Option (List ℕ)) (vs : List (Option (List ℕ))) → IsIn v vs → IsIn v (versions_without_earlier_repeats vs)
+in_once : (v : Option (List ℕ)) (vs : List (Option (List ℕ))) → IsIn v vs → IsIn v (versions_except_those_repeated_later vs)
 in_once v [] h = h
 in_once v (w ∷ vs) (inl s) = elim (cases_Bool (list_any (is_same_version w) vs)) [
   | inl e ↦ rw e (in_once v vs (subst (λ (x : Option (List ℕ)). IsIn x vs) (sym s) (same_in w vs e)))
@@ -202,7 +202,7 @@ abbrev NeverBefore : List (Option (List ℕ)) → Type 0
 NeverBefore [] = Unit {0}
 NeverBefore (v ∷ vs) = ((w : Option (List ℕ)) → IsIn w vs → (version_text_cmp v w ≡ Less) ⊎ (v ≡ w)) × NeverBefore vs
 
-once_in_order : (vs : List (Option (List ℕ))) → NeverBefore vs → AreStrictlyInOrderBy version_text_cmp (versions_without_earlier_repeats vs)
+once_in_order : (vs : List (Option (List ℕ))) → NeverBefore vs → AreStrictlyInOrderBy version_text_cmp (versions_except_those_repeated_later vs)
 once_in_order [] h = tt
 once_in_order (v ∷ vs) h = elim (cases_Bool (list_any (is_same_version v) vs)) [
   | inl e ↦ rw e (once_in_order vs h.1)

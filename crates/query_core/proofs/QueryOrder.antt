@@ -29,13 +29,13 @@ use Rattle.pool_core.proofs.option_ranks.MovedMembers.{member_of_all}
 use Rattle.pool_core.proofs.option_ranks.RankOrder.{versions_back}
 use Rattle.pool_core.proofs.option_ranks.RankedOptions.{comes_before, place_of, same_by_rank}
 use Rattle.pool_core.proofs.option_ranks.RankedVersions.{HasRank, all_kept, all_ranked, places_kept}
-use Rattle.query_core.specs.Order.{name_and_version_cmp, candidate_places_cmp}
+use Rattle.query_core.specs.Order.{name_then_greater_version_first_cmp, candidate_places_cmp}
 use Rattle.query_core.specs.QueryRanking.{AreInQueryOrder, IsQueryRanking, query_ranking}
 
 -- ---- the order is total, and parts all places
 
 module _ (versions : IsTotalOrder version_cmp) where
-  pub candidates_total : IsTotalOrder name_and_version_cmp
+  pub candidates_total : IsTotalOrder name_then_greater_version_first_cmp
   candidates_total =
       then_total (on_total (λ (c : Candidate). c.name) nat_list_cmp_total)
       (then_total (on_total (λ (c : Candidate). c.version) (versions_back versions)) (on_total (λ (c : Candidate). c.version) (options_total nat_list_cmp_total)))
@@ -49,7 +49,7 @@ last_decides Equal r h = h
 last_decides Greater r h = absurd (cc)
 
 pub one_place : (cs : List Candidate) (a b : ℕ) → candidate_places_cmp cs a b ≡ Equal → a ≡ b
-one_place cs a b h = nat_cmp-Equal a b (last_decides (option_cmp name_and_version_cmp (slice_get cs a) (slice_get cs b)) (nat_cmp a b) h)
+one_place cs a b h = nat_cmp-Equal a b (last_decides (option_cmp name_then_greater_version_first_cmp (slice_get cs a) (slice_get cs b)) (nat_cmp a b) h)
 
 -- ---- the order of rankings
 

@@ -9,7 +9,7 @@ use Rattle.pool_core.proofs.SamePackage.{same_version}
 use Rattle.pool_core.specs.candidate_core.Candidates.{is_same_version}
 use Rattle.pool_core.specs.candidate_core.Options.{IsIn}
 use Rattle.pool_core.proofs.candidate_core.LoopTests.{any_at}
-use Rattle.query_core.specs.Policy.{versions_without_earlier_repeats}
+use Rattle.query_core.specs.Policy.{versions_except_those_repeated_later}
 
 pub bool_same : (a b : Bool) → (a ≡ true → b ≡ true) → (b ≡ true → a ≡ true) → a ≡ b
 bool_same true b to from = sym (to refl)
@@ -137,14 +137,14 @@ none_same v (w ∷ vs) out = elim (cases_Bool (is_same_version v w)) [
 ]
 
 -- a run of one version, which is not found after it, is left once
-pub once_run : (vs : List (Option (List ℕ))) (n : ℕ) (v : Option (List ℕ)) → 0 < n → ((m : ℕ) → m < n → slice_get vs m ≡ Some v) → ((m : ℕ) → n ≤ m → slice_get vs m ≡ Some v → ⊥) → versions_without_earlier_repeats vs ≡ v ∷ versions_without_earlier_repeats (drop n vs)
+pub once_run : (vs : List (Option (List ℕ))) (n : ℕ) (v : Option (List ℕ)) → 0 < n → ((m : ℕ) → m < n → slice_get vs m ≡ Some v) → ((m : ℕ) → n ≤ m → slice_get vs m ≡ Some v → ⊥) → versions_except_those_repeated_later vs ≡ v ∷ versions_except_those_repeated_later (drop n vs)
 once_run vs zero v some same out = absurd (omega (arith, some))
 once_run [] (suc n) v some same out = let bad = same 0 (omega arith) in absurd (cc)
 once_run (w ∷ vs) (suc zero) v some same out =
     let first = same 0 (omega arith) in
     let is : w ≡ v = cc in
     let none : list_any (is_same_version w) vs ≡ false = ap (λ (x : Option (List ℕ)). list_any (is_same_version x) vs) is ∙ none_same v vs (λ m h. out (suc m) (omega arith) h) in
-    rw none (ap (λ (x : Option (List ℕ)). x ∷ versions_without_earlier_repeats vs) is)
+    rw none (ap (λ (x : Option (List ℕ)). x ∷ versions_except_those_repeated_later vs) is)
 once_run (w ∷ vs) (suc (suc n)) v some same out =
     let first = same 0 (omega arith) in
     let is : w ≡ v = cc in

@@ -10,14 +10,16 @@ use Rattle.star_patterns.specs.Patterns.{is_whole_text_matched}
 use Rattle.query_core.specs.Order.{printed_version, sorted_candidates_passing}
 
 -- whether one of the patterns matches the whole name
-abbrev pub is_whole_name_matched : List Operand → List ℕ → Bool
-is_whole_name_matched patterns name = list_any (λ (o : Operand). is_whole_text_matched o.text name) patterns
+abbrev pub is_whole_name_matched_by_some_pattern : List Operand → List ℕ → Bool
+is_whole_name_matched_by_some_pattern patterns name =
+    list_any (λ (o : Operand). is_whole_text_matched o.text name) patterns
 
 -- whether `list` prints a candidate: a pattern matches its name, or no pattern is given; and it is installed, or
 -- `installed_only` is false
 abbrev pub is_list_candidate : List Operand → Bool → Candidate → Bool
 is_list_candidate patterns installed_only c =
-    (length patterns == 0 || is_whole_name_matched patterns c.name) && (not installed_only || c.installed)
+    (length patterns == 0 || is_whole_name_matched_by_some_pattern patterns c.name)
+    && (not installed_only || c.installed)
 
 -- the line that `list` prints of a candidate
 abbrev pub list_line_of_candidate : Candidate → List ℕ

@@ -16,8 +16,8 @@ printed_version version = unwrap_or version []
 
 -- the order of two candidates. The name that is less in byte order comes first, then the greater version. Of equal
 -- versions, the text that is less in byte order comes first
-abbrev pub name_and_version_cmp : Candidate → Candidate → Ordering
-name_and_version_cmp =
+abbrev pub name_then_greater_version_first_cmp : Candidate → Candidate → Ordering
+name_then_greater_version_first_cmp =
     then_cmp (on (λ (c : Candidate). c.name) bytes_cmp)
     (then_cmp (on (λ (c : Candidate). c.version) greater_version_first_cmp)
     (on (λ (c : Candidate). c.version) (option_cmp bytes_cmp)))
@@ -26,7 +26,7 @@ name_and_version_cmp =
 -- the earlier place comes first
 abbrev pub candidate_places_cmp : List Candidate → ℕ → ℕ → Ordering
 candidate_places_cmp candidates =
-    then_cmp (on (slice_get candidates) (option_cmp name_and_version_cmp)) nat_cmp
+    then_cmp (on (slice_get candidates) (option_cmp name_then_greater_version_first_cmp)) nat_cmp
 
 -- the places, counted from 0, of the candidates that pass a test, in the order of queries
 abbrev pub sorted_places_passing : (Candidate → Bool) → List Candidate → List ℕ

@@ -16,16 +16,16 @@ abbrev pub has_own_name : List ℕ → Candidate → Bool
 has_own_name name c = bytes_eq name c.name
 
 -- the versions, with each text only once: of versions with the same text, the last one is left
-abbrev pub versions_without_earlier_repeats : List (Option (List ℕ)) → List (Option (List ℕ))
-versions_without_earlier_repeats [] = []
-versions_without_earlier_repeats (version ∷ versions) =
-    if list_any (is_same_version version) versions then versions_without_earlier_repeats versions
-    else version ∷ versions_without_earlier_repeats versions
+abbrev pub versions_except_those_repeated_later : List (Option (List ℕ)) → List (Option (List ℕ))
+versions_except_those_repeated_later [] = []
+versions_except_those_repeated_later (version ∷ versions) =
+    if list_any (is_same_version version) versions then versions_except_those_repeated_later versions
+    else version ∷ versions_except_those_repeated_later versions
 
 -- the versions of the candidates that have this name of their own, in the order of queries, each text once
 abbrev pub sorted_distinct_versions_of_name : List Candidate → List ℕ → List (Option (List ℕ))
 sorted_distinct_versions_of_name candidates name =
-    versions_without_earlier_repeats
+    versions_except_those_repeated_later
     (map (λ (c : Candidate). c.version) (sorted_candidates_passing (has_own_name name) candidates))
 
 -- ---- where a version is

@@ -18,13 +18,15 @@ abbrev pub own_and_provided_names : Candidate → List (List ℕ)
 own_and_provided_names c = c.name ∷ provided_names c.provides
 
 -- whether one of the patterns matches some part of a name
-abbrev pub is_part_of_name_matched : List Operand → List ℕ → Bool
-is_part_of_name_matched patterns name = list_any (λ (o : Operand). matches_some_part o.text name) patterns
+abbrev pub is_part_of_name_matched_by_some_pattern : List Operand → List ℕ → Bool
+is_part_of_name_matched_by_some_pattern patterns name =
+    list_any (λ (o : Operand). matches_some_part o.text name) patterns
 
 -- whether `search` prints a candidate: it is from a repository, and a pattern matches some part of one of its names
 abbrev pub is_search_candidate : List Operand → Candidate → Bool
 is_search_candidate patterns c =
-    is_some c.repository && list_any (is_part_of_name_matched patterns) (own_and_provided_names c)
+    is_some c.repository && list_any (is_part_of_name_matched_by_some_pattern patterns)
+    (own_and_provided_names c)
 
 -- what `search` prints: the lines of the candidates that the patterns find, in the order of queries
 abbrev pub search_report : List Candidate → List Operand → List ℕ

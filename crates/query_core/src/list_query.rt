@@ -1,6 +1,6 @@
 //! What `list` prints (apk(8)). The rule is in `docs/commands.md`, "`list`".
 ghost use Rattle.pool_core.specs.candidate_core.Options.{places_passing_counted_from};
-ghost use Rattle.query_core.specs.List.{is_list_candidate, is_whole_name_matched, list_report};
+ghost use Rattle.query_core.specs.List.{is_list_candidate, is_whole_name_matched_by_some_pattern, list_report};
 ghost use Rattle.std.specs.Prelude.{◌≡◌, IfOk};
 
 use crate::candidates::{LineForm, place_of, push_if, report};
@@ -64,12 +64,12 @@ fn is_list_candidate(details: &Details<'_>, patterns: &Operands, installed_only:
     if patterns.is_empty() {
         return true;
     }
-    is_whole_name_matched(patterns, details.name())
+    is_whole_name_matched_by_some_pattern(patterns, details.name())
 }
 
 // Whether one of the patterns matches the whole name.
-fn is_whole_name_matched(patterns: &Operands, name: &[u8]) -> bool
-    ensures { result ≡ is_whole_name_matched patterns.now name.now }
+fn is_whole_name_matched_by_some_pattern(patterns: &Operands, name: &[u8]) -> bool
+    ensures { result ≡ is_whole_name_matched_by_some_pattern patterns.now name.now }
 {
     for i in 0..patterns.len() {
         if star_patterns::matches(patterns.get(i).text.as_bytes(), name) {

@@ -2,7 +2,7 @@
 ghost use Rattle.pool_core.specs.candidate_core.Options.{places_passing_counted_from};
 ghost use Rattle.dep_core.specs.Meets.{dependency};
 ghost use Rattle.query_core.specs.EntryFound.{is_provides_entry_found};
-ghost use Rattle.query_core.specs.Search.{is_part_of_name_matched, is_search_candidate, provided_names, search_report};
+ghost use Rattle.query_core.specs.Search.{is_part_of_name_matched_by_some_pattern, is_search_candidate, provided_names, search_report};
 ghost use Rattle.std.specs.List.{list_any};
 ghost use Rattle.std.specs.Prelude.{◌≡◌, IfOk};
 
@@ -53,7 +53,7 @@ fn is_search_candidate(details: &Details<'_>, patterns: &Operands) -> bool
     if details.repo().is_none() {
         return false;
     }
-    if is_part_of_name_matched(patterns, details.name()) {
+    if is_part_of_name_matched_by_some_pattern(patterns, details.name()) {
         return true;
     }
     is_provided_name_found(patterns, &details.provides())
@@ -61,7 +61,7 @@ fn is_search_candidate(details: &Details<'_>, patterns: &Operands) -> bool
 
 // Whether one of the patterns matches some part of a name that these entries of provides have.
 fn is_provided_name_found(patterns: &Operands, provides: &Deps<'_>) -> bool
-    ensures { result ≡ list_any (is_part_of_name_matched patterns.now)
+    ensures { result ≡ list_any (is_part_of_name_matched_by_some_pattern patterns.now)
         (provided_names provides.now) }
 {
     for i in 0..provides.len() {
@@ -80,12 +80,12 @@ fn is_provides_entry_found(patterns: &Operands, entry: &Dep<'_>) -> bool
     if entry.conflict {
         return false;
     }
-    is_part_of_name_matched(patterns, entry.name)
+    is_part_of_name_matched_by_some_pattern(patterns, entry.name)
 }
 
 // Whether one of the patterns matches some part of a name.
-fn is_part_of_name_matched(patterns: &Operands, name: &[u8]) -> bool
-    ensures { result ≡ is_part_of_name_matched patterns.now name.now }
+fn is_part_of_name_matched_by_some_pattern(patterns: &Operands, name: &[u8]) -> bool
+    ensures { result ≡ is_part_of_name_matched_by_some_pattern patterns.now name.now }
 {
     for i in 0..patterns.len() {
         if star_patterns::matches_within(patterns.get(i).text.as_bytes(), name) {

@@ -7,18 +7,18 @@ use Rattle.adb_view.specs.Plain.{Plain}
 use Rattle.outcome.specs.adb_write.Canonical.{ByteAndValueCounts, counts_after_values, empty_layout, exceeds_a_limit, overflow_of, payload_or_overflow}
 use Rattle.base_core.specs.Files.{Files}
 use Rattle.outcome.specs.change_files.FileChange.{FileChange}
-use Rattle.outcome.specs.change_files.PlanLists.{first_reserved_added_path}
+use Rattle.outcome.specs.change_files.PlanLists.{first_reserved_added_path_in_byte_order}
 use Rattle.outcome.proofs.change_files.InOrder.{from_order}
 use Rattle.outcome.specs.change_inputs.Chains.{and_then}
 use Rattle.outcome.specs.change_inputs.Inputs.{Inputs}
-use Rattle.outcome.specs.change_outcome.ChangeOutcome.{ChangeDone, ChangeWishes, IsFirstClashIfMembersFound, IsFirstClashOfChange, intent_of_change, change_done, members_after_change, change_or_refusal, change_with_members, file_change, member_name_at_place, database_and_world_after_change, touched_paths, unless_clash, unless_contested, or_result_too_large, unless_overflow, unless_reserved_path, change_done_unless_too_large}
+use Rattle.outcome.specs.change_outcome.ChangeOutcome.{ChangeDone, ChangeWishes, IsFirstClashUnlessMembersRefused, IsFirstClashOfChange, intent_of_change, change_done, members_after_change, change_or_refusal, change_with_members, packages_before_and_after_with_purge, member_name_at_place, database_and_world_after_change, touched_paths, unless_clash, unless_contested, or_result_too_large, unless_overflow, unless_reserved_path, change_done_unless_too_large}
 use Rattle.outcome.specs.change_outcome.MembersAfter.{MemberFound}
 use Rattle.outcome.specs.change_outcome.PackageFiles.{has_script_with_number}
 use Rattle.report_core.specs.Numbers.{TRIGGER_SCRIPT}
 use Rattle.outcome.specs.change_outcome.Triggers.{folders_of_paths, has_due_trigger, is_trigger_due, is_folder_matched_by_pattern, watches_folder, trigger_patterns_of_package, unless_trigger_due}
 use Rattle.outcome.specs.db_core.Members.{Member, member_name}
-use Rattle.outcome.specs.db_write.NewDatabase.{database_file_unless_too_large, database_of, database_value}
-use Rattle.outcome.specs.file_owners.Owners.{first_contested_path_of_members, owned_flags_of}
+use Rattle.outcome.specs.db_write.NewDatabase.{database_file_of_payload_unless_too_large, database_of, database_value}
+use Rattle.outcome.specs.file_owners.Owners.{first_contested_member_path_in_byte_order, owned_flags_of}
 use Rattle.outcome.specs.journal_intent.IntentValue.{intent_of_lists, value_of_intent}
 use Rattle.outcome.proofs.journal_intent.Rooted.{payload_large}
 use Rattle.outcome.specs.make_info.Reads.{Reads}
@@ -28,7 +28,7 @@ use Rattle.outcome.specs.path_claims.Claims.{ContestedPath}
 use Rattle.outcome.specs.path_clashes.Clash.{NamePair}
 use Rattle.report_core.specs.declared.refusal.Refusal.{Refusal}
 use Rattle.report_core.specs.declared.refusal.Refusal.TheVariants.{Owned, PathClash, Reserved, ResultTooLarge, TriggerNeeded}
-use Rattle.refusal_laws.specs.ChangeFaults.{IsFaultOfChange, IsFaultOfFiles, IsResultTooLarge, IsTooLarge, IsTriggerDueAndNotSkipped, HasPatternOfTouchedFolder}
+use Rattle.refusal_laws.specs.ChangeFaults.{IsFaultOfChange, IsFaultOfFiles, IsDatabaseOrIntentTooLarge, IsTooLarge, IsTriggerDueAndNotSkipped, HasPatternOfTouchedFolder}
 use Rattle.refusal_laws.proofs.Lists.{and_then_err, any_in, found_in, in_names, mapped_in}
 use Rattle.refusal_laws.proofs.PackageFaults.{members_fault}
 use Rattle.refusal_laws.proofs.Paths.{contested_is, first_reserved_is}
@@ -42,7 +42,7 @@ database_err : (members : List Member) (flags : List Bool) (counts : ByteAndValu
 unfolding database_of
 database_err members flags counts e = by_written (payload_or_overflow (database_value members flags)) refl e
   where
-    by_written : (w : Result (List ℕ) ByteAndValueCounts) → payload_or_overflow (database_value members flags) ≡ w → database_file_unless_too_large w ≡ Err counts → payload_or_overflow (database_value members flags) ≡ Err counts
+    by_written : (w : Result (List ℕ) ByteAndValueCounts) → payload_or_overflow (database_value members flags) ≡ w → database_file_of_payload_unless_too_large w ≡ Err counts → payload_or_overflow (database_value members flags) ≡ Err counts
     by_written (Ok payload) is e = absurd (cc (e))
     by_written (Err first) is e = let same : first ≡ counts = cc in is ∙ ap (λ (c : ByteAndValueCounts). Err c) same
 
@@ -109,7 +109,7 @@ module _ (inputs : Inputs) (r : Replacement) (wishes : ChangeWishes) (files : Fi
   IsSo refusal = IsFaultOfFiles inputs wishes files found refusal
 
   abbrev change : FileChange
-  change = file_change inputs wishes found
+  change = packages_before_and_after_with_purge inputs wishes found
 
   -- it tells of counts
   pub large_told : (refusal : Refusal) → change_done_unless_too_large inputs r wishes found files ≡ Err refusal → (bytes : ℕ) × (values : ℕ) × (ResultTooLarge bytes values ≡ refusal)
@@ -123,7 +123,7 @@ module _ (inputs : Inputs) (r : Replacement) (wishes : ChangeWishes) (files : Fi
             (over.0.0, over.0.1, over.2))
       ]
 
-  result_fault : (bytes values : ℕ) (refusal : Refusal) → IsResultTooLarge inputs change files bytes values → ResultTooLarge bytes values ≡ refusal → IsSo refusal
+  result_fault : (bytes values : ℕ) (refusal : Refusal) → IsDatabaseOrIntentTooLarge inputs change files bytes values → ResultTooLarge bytes values ≡ refusal → IsSo refusal
   result_fault bytes values refusal is same = subst IsSo same is
 
   large_fault : (refusal : Refusal) → change_done_unless_too_large inputs r wishes found files ≡ Err refusal → IsSo refusal
@@ -151,22 +151,22 @@ module _ (inputs : Inputs) (r : Replacement) (wishes : ChangeWishes) (files : Fi
   abbrev after_owners : Result ChangeDone Refusal
   after_owners = and_then (unless_trigger_due wishes.no_scripts (touched_paths change files) change.members) (λ is_allowed. change_done_unless_too_large inputs r wishes found files)
 
-  owned_fault : (o : Option ContestedPath) (refusal : Refusal) → first_contested_path_of_members change.members ≡ o → unless_contested change.members o after_owners ≡ Err refusal → IsSo refusal
+  owned_fault : (o : Option ContestedPath) (refusal : Refusal) → first_contested_member_path_in_byte_order change.members ≡ o → unless_contested change.members o after_owners ≡ Err refusal → IsSo refusal
   owned_fault None refusal is e = trigger_fault refusal e
   owned_fault (Some c) refusal is e =
       let same : Owned c.path (member_name_at_place change.members c.rivals.first) (member_name_at_place change.members c.rivals.second) ≡ refusal = cc in
       subst IsSo same (contested_is change.members c is)
 
-  clash_fault : (o : Option NamePair) (refusal : Refusal) → IsFirstClashIfMembersFound inputs wishes files (Ok found) o → unless_clash o (unless_contested change.members (first_contested_path_of_members change.members) after_owners) ≡ Err refusal → IsSo refusal
-  clash_fault None refusal is e = owned_fault (first_contested_path_of_members change.members) refusal refl e
+  clash_fault : (o : Option NamePair) (refusal : Refusal) → IsFirstClashUnlessMembersRefused inputs wishes files (Ok found) o → unless_clash o (unless_contested change.members (first_contested_member_path_in_byte_order change.members) after_owners) ≡ Err refusal → IsSo refusal
+  clash_fault None refusal is e = owned_fault (first_contested_member_path_in_byte_order change.members) refusal refl e
   clash_fault (Some pair) refusal is e =
       let same : PathClash pair.path pair.other ≡ refusal = cc in
       subst IsSo same is
 
-  pub files_fault : (clash : Option NamePair) (refusal : Refusal) → IsFirstClashIfMembersFound inputs wishes files (Ok found) clash → change_with_members inputs r wishes clash files found ≡ Err refusal → IsFaultOfFiles inputs wishes files found refusal
-  files_fault clash refusal is e = by_path (first_reserved_added_path change.members) refl e
+  pub files_fault : (clash : Option NamePair) (refusal : Refusal) → IsFirstClashUnlessMembersRefused inputs wishes files (Ok found) clash → change_with_members inputs r wishes clash files found ≡ Err refusal → IsFaultOfFiles inputs wishes files found refusal
+  files_fault clash refusal is e = by_path (first_reserved_added_path_in_byte_order change.members) refl e
     where
-      by_path : (o : Option (List ℕ)) → first_reserved_added_path change.members ≡ o → unless_reserved_path o (unless_clash clash (unless_contested change.members (first_contested_path_of_members change.members) after_owners)) ≡ Err refusal → IsSo refusal
+      by_path : (o : Option (List ℕ)) → first_reserved_added_path_in_byte_order change.members ≡ o → unless_reserved_path o (unless_clash clash (unless_contested change.members (first_contested_member_path_in_byte_order change.members) after_owners)) ≡ Err refusal → IsSo refusal
       by_path None none e = clash_fault clash refusal is e
       by_path (Some path) first e =
           let same : Reserved path ≡ refusal = cc in
@@ -180,5 +180,5 @@ unfolding change_or_refusal
 change_fault inputs r wishes read clash files refusal e is =
     elim (and_then_err (members_after_change inputs r wishes read) (change_with_members inputs r wishes clash files) refusal e) [
       | inl first ↦ inl (members_fault inputs r wishes read refusal first)
-      | inr next ↦ inr (next.0, next.1, files_fault inputs r wishes files next.0 clash refusal (subst (λ (m : Result (List MemberFound) Refusal). IsFirstClashIfMembersFound inputs wishes files m clash) next.1 is) next.2)
+      | inr next ↦ inr (next.0, next.1, files_fault inputs r wishes files next.0 clash refusal (subst (λ (m : Result (List MemberFound) Refusal). IsFirstClashUnlessMembersRefused inputs wishes files m clash) next.1 is) next.2)
     ]

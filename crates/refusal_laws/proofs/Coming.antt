@@ -19,8 +19,8 @@ use Rattle.report_core.specs.Numbers.{HASHES_FIELD, NAME_FIELD, VERSION_FIELD}
 use Rattle.report_core.specs.Reports.{Change}
 use Rattle.report_core.specs.declared.refusal.Refusal.{Refusal}
 use Rattle.report_core.specs.declared.refusal.Refusal.TheVariants.{PackageBad, PackageDiffers, PackageMissing, ScriptNeeded}
-use Rattle.refusal_laws.specs.AddedPackages.{IsSoundFileOfCandidate, IsAddedAsSelected, IsFileReadForAddedPackage, package_file_found_by_read, selected_candidate_of_name}
-use Rattle.refusal_laws.specs.PackageFaults.{IsAddedOrRemoved, IsFirstFieldThatDiffers}
+use Rattle.refusal_laws.specs.AddedPackages.{IsSoundFileWithIdNameAndVersionOf, IsAddedAsSelected, IsFileReadForAddedPackage, package_file_found_by_read, selected_candidate_of_name}
+use Rattle.refusal_laws.specs.PackageFaults.{IsAddedOrRemoved, IsFirstOfIdNameVersionThatDiffers}
 use Rattle.refusal_laws.specs.ChangeFaults.{IsFaultOfPackage}
 use Rattle.refusal_laws.proofs.Lists.{found_in}
 
@@ -30,7 +30,7 @@ abbrev pub differs : Candidate → ℕ → List ℕ → List ℕ → Refusal
 differs c field wanted found = PackageDiffers c.name (candidate_version_text c) field wanted found
 
 abbrev pub IsTold : Candidate → AddedPackage → Refusal → Type 0
-IsTold c pkg refusal = (field : ℕ) × (wanted : List ℕ) × (found : List ℕ) × IsFirstFieldThatDiffers c pkg field wanted found × (differs c field wanted found ≡ refusal)
+IsTold c pkg refusal = (field : ℕ) × (wanted : List ℕ) × (found : List ℕ) × IsFirstOfIdNameVersionThatDiffers c pkg field wanted found × (differs c field wanted found ≡ refusal)
 
 abbrev kept_package : Result AddedPackage Refusal → Result AddedPackage Refusal
 kept_package r = r
@@ -81,10 +81,10 @@ module _ (c : Candidate) (pkg : AddedPackage) where
         sym ((bytes_eq-Decides (candidate_version_text c) (package_version_text pkg.value)).0 w),
       )
 
-pub found_ok : (c : Candidate) (file : List ℕ) (pkg : AddedPackage) → added_package_or_refusal c (Some file) ≡ Ok pkg → IsSoundFileOfCandidate c file × (pkg ≡ package_in_file file)
+pub found_ok : (c : Candidate) (file : List ℕ) (pkg : AddedPackage) → added_package_or_refusal c (Some file) ≡ Ok pkg → IsSoundFileWithIdNameAndVersionOf c file × (pkg ≡ package_in_file file)
 found_ok c file pkg e = by_fault (package_fault file) refl e
   where
-    by_fault : (fault : Option Cause) → package_fault file ≡ fault → package_unless_bad_or_different c fault (package_in_file file) ≡ Ok pkg → IsSoundFileOfCandidate c file × (pkg ≡ package_in_file file)
+    by_fault : (fault : Option Cause) → package_fault file ≡ fault → package_unless_bad_or_different c fault (package_in_file file) ≡ Ok pkg → IsSoundFileWithIdNameAndVersionOf c file × (pkg ≡ package_in_file file)
     by_fault None sound e =
         let ok = different_ok c (package_in_file file) pkg e in
         (record { sound = sound; id = ok.1; name = ok.2; version = ok.3 }, ok.0)

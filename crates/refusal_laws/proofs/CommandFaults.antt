@@ -23,8 +23,8 @@ use Rattle.outcome.specs.candidate_core.Rank.{SealedPool, UpgradedNames, sealed_
 use Rattle.outcome.specs.candidate_core.declared.candidate_list.TheConstants.{MOST_CANDIDATES}
 use Rattle.report_core.specs.declared.refusal.Refusal.{Refusal}
 use Rattle.report_core.specs.declared.refusal.Refusal.TheVariants.{NotInstalled, TooMany, Unsatisfied}
-use Rattle.refusal_laws.specs.CommandFaults.{IsFaultOfUnsimulatedChangeOfChosen, IsFaultOfCommandWithChosenCandidates, IsFaultOfSelection, IsNameUnknownToApplet}
-use Rattle.refusal_laws.specs.InputFaults.{IsCountReportedAsTooMany}
+use Rattle.refusal_laws.specs.CommandFaults.{IsFaultOfUnsimulatedChangeByCandidatePlaces, IsFaultOfCommandByCandidatePlaces, IsFaultOfSelection, IsNameUnknownToDelUpgradeOrFix}
+use Rattle.refusal_laws.specs.InputFaults.{AreTooManyAndCountIsLimitPlusOne}
 use Rattle.refusal_laws.proofs.ChangeFaults.{change_fault}
 use Rattle.refusal_laws.proofs.InputFaults.{input_fault}
 use Rattle.refusal_laws.proofs.Lists.{and_then_err}
@@ -37,13 +37,13 @@ kept_done r = r
 abbrev kept_pool : Result SealedPool Refusal → Result SealedPool Refusal
 kept_pool r = r
 
-pub pool_fault : (inputs : Inputs) (upgraded : UpgradedNames) (refusal : Refusal) → root_pool inputs upgraded ≡ Err refusal → (count : ℕ) × IsCountReportedAsTooMany inputs count × (TooMany count ≡ refusal)
+pub pool_fault : (inputs : Inputs) (upgraded : UpgradedNames) (refusal : Refusal) → root_pool inputs upgraded ≡ Err refusal → (count : ℕ) × AreTooManyAndCountIsLimitPlusOne inputs count × (TooMany count ≡ refusal)
 unfolding root_pool
 pool_fault inputs upgraded refusal e = by_count (nat_lt MOST_CANDIDATES (length (candidates_of inputs))) refl e
   where
     by_count : (b : Bool) → nat_lt MOST_CANDIDATES (length (candidates_of inputs)) ≡ b
         → kept_pool (if b then Err (TooMany (MOST_CANDIDATES + 1)) else Ok (sealed_pool_from_parts (candidates_of inputs) inputs.root.new_world upgraded)) ≡ Err refusal
-        → (count : ℕ) × IsCountReportedAsTooMany inputs count × (TooMany count ≡ refusal)
+        → (count : ℕ) × AreTooManyAndCountIsLimitPlusOne inputs count × (TooMany count ≡ refusal)
     by_count true more e = (MOST_CANDIDATES + 1, record { more = ltb-true MOST_CANDIDATES (length (candidates_of inputs)) more; told = refl }, (let same : TooMany (MOST_CANDIDATES + 1) ≡ refusal = cc in same))
     by_count false more e = absurd (cc (e))
 
@@ -59,7 +59,7 @@ unknown_in is_known (o ∷ operands) place e = by_test (is_known o.text) refl e 
     by_test false k e more = (o, inl refl, (let same : o.place ≡ place = cc in same), k)
 
 unknown_fault : (applet : Applet) (inputs : Inputs) (operands : List Operand) (place : ℕ) → unknown_operand_place applet inputs operands ≡ Some place
-    → (o : Operand) × IsIn o operands × (o.place ≡ place) × IsNameUnknownToApplet applet inputs o.text
+    → (o : Operand) × IsIn o operands × (o.place ≡ place) × IsNameUnknownToDelUpgradeOrFix applet inputs o.text
 unknown_fault Del inputs operands place e =
     let found = unknown_in (is_name_in_world_or_installed inputs) operands place e in
     (found.0, found.1, found.2, or_parts (has_dependency_named found.0.text inputs.root.world) (is_installed_name inputs found.0.text) found.3)
@@ -102,16 +102,16 @@ module _ (command : CommandLine) (read : Reads) (chosen : Option (List ℕ)) (ch
   -- ---- the change
 
   done_or_refused : (files : Files) (clash : Option NamePair) (s : InputsAndReplacement) (refusal : Refusal) → selected_from_reads_by_choice command read chosen ≡ Ok s → IsFirstClashUnlessRefused command read files (Ok s) clash
-      → change_of_selected command read files clash s ≡ Err refusal → IsFaultOfUnsimulatedChangeOfChosen command read files chosen refusal
+      → change_of_selected command read files clash s ≡ Err refusal → IsFaultOfUnsimulatedChangeByCandidatePlaces command read files chosen refusal
   done_or_refused files clash s refusal is clashes e = by_flag command.flags.simulate refl e
     where
       by_flag : (b : Bool) → command.flags.simulate ≡ b
-          → kept_done (if b then Ok (simulated_change s.replacement (wishes_of command) files) else change_or_refusal s.inputs s.replacement (wishes_of command) read clash files) ≡ Err refusal → IsFaultOfUnsimulatedChangeOfChosen command read files chosen refusal
+          → kept_done (if b then Ok (simulated_change s.replacement (wishes_of command) files) else change_or_refusal s.inputs s.replacement (wishes_of command) read clash files) ≡ Err refusal → IsFaultOfUnsimulatedChangeByCandidatePlaces command read files chosen refusal
       by_flag true on e = absurd (cc (e))
       by_flag false off e =
           (s, is, off, change_fault s.inputs s.replacement (wishes_of command) read clash files refusal e (subst (λ b. IsFirstClashUnlessSimulated b (wishes_of command) read files s clash) off clashes))
 
-  pub command_fault : (files : Files) (clash : Option NamePair) (refusal : Refusal) → IsFirstClashOfCommand command read files chosen clash → change_of_command command read files chosen clash ≡ Err refusal → IsFaultOfCommandWithChosenCandidates command read files chosen refusal
+  pub command_fault : (files : Files) (clash : Option NamePair) (refusal : Refusal) → IsFirstClashOfCommand command read files chosen clash → change_of_command command read files chosen clash ≡ Err refusal → IsFaultOfCommandByCandidatePlaces command read files chosen refusal
   unfolding change_of_command
   command_fault files clash refusal clashes e =
       elim (and_then_err (selected_from_reads_by_choice command read chosen) (change_of_selected command read files clash) refusal e) [

@@ -14,7 +14,7 @@ use Rattle.outcome.proofs.change_files.InOrder.{in_left, in_order, order_rises}
 use Rattle.outcome.specs.change_inputs.Chains.{and_then}
 use Rattle.outcome.specs.change_inputs.Inputs.{Inputs, first_index_read_number}
 use Rattle.outcome.specs.change_outcome.ChangeOutcome.{ChangeWishes, members_after_change}
-use Rattle.outcome.specs.change_outcome.MembersAfter.{MemberFound, added_package_by_path, added_member_found, members_after, member_of_name_after, member_of_name_by_change, member_of_name_by_selected, member_of_added_name, member_of_removed_name, members_of_names_after}
+use Rattle.outcome.specs.change_outcome.MembersAfter.{MemberFound, added_package_by_path, added_member_found, members_after, member_of_name_after, member_of_name_by_change, member_of_name_by_selected, added_member_unless_script_needed, no_member_unless_removal_needs_script, members_of_names_after}
 use Rattle.outcome.specs.change_outcome.PackageFiles.{AddedPackage, first_script_number_of_package, package_file_path_of_candidate, added_package_or_refusal, package_in_file, scripts_of_change, unless_script_number, package_unless_bad_or_different, unless_script_needed}
 use Rattle.outcome.specs.db_core.Packages.{is_package_named}
 use Rattle.outcome.specs.file_owners.Replaces.{package_version_text}
@@ -29,9 +29,9 @@ use Rattle.report_core.specs.Reports.{Change}
 use Rattle.report_core.specs.declared.refusal.Refusal.{Refusal}
 use Rattle.report_core.specs.declared.refusal.Refusal.TheVariants.{PackageBad, PackageDiffers, PackageMissing, ScriptNeeded}
 use Rattle.refusal_laws.specs.ChangeFaults.{IsFaultOfPackage}
-use Rattle.refusal_laws.specs.AddedPackages.{IsSoundFileOfCandidate, IsFileReadForAddedPackage, selected_candidate_of_name}
-use Rattle.refusal_laws.specs.FirstPackage.{IsRefusalOfFirstFaultyPackage, refused_name}
-use Rattle.refusal_laws.specs.PackageFaults.{IsAddedOrRemoved, IsFirstFieldThatDiffers}
+use Rattle.refusal_laws.specs.AddedPackages.{IsSoundFileWithIdNameAndVersionOf, IsFileReadForAddedPackage, selected_candidate_of_name}
+use Rattle.refusal_laws.specs.FirstPackage.{HasNoEarlierFaultyPackageOrOtherFault, refused_name}
+use Rattle.refusal_laws.specs.PackageFaults.{IsAddedOrRemoved, IsFirstOfIdNameVersionThatDiffers}
 use Rattle.refusal_laws.proofs.Coming.{by_fields, different_err, path_is, script_err}
 use Rattle.refusal_laws.proofs.FoundPackages.{member_name_at_place}
 use Rattle.refusal_laws.proofs.Lists.{and_then_err, found_in, in_mapped}
@@ -57,7 +57,7 @@ script_is : {A : Type 0} (no_scripts : Bool) (name : List ℕ) (pkg : Plain) (nu
 script_is no_scripts name pkg numbers a script asked first = ap (λ b. unless_script_needed b name pkg numbers a) asked ∙ ap (λ o. unless_script_number name o a) first
 
 -- what passes all tests is found
-found_so : (c : Candidate) (file : List ℕ) → IsSoundFileOfCandidate c file → added_package_or_refusal c (Some file) ≡ Ok (package_in_file file)
+found_so : (c : Candidate) (file : List ℕ) → IsSoundFileWithIdNameAndVersionOf c file → added_package_or_refusal c (Some file) ≡ Ok (package_in_file file)
 found_so c file is =
     ap (λ o. package_unless_bad_or_different c o (package_in_file file)) is.sound
     ∙ (λ i. by_fields c (package_in_file file) (is.id i) ((bytes_eq-Decides c.name (package_name (package_in_file file).value)).1 (sym is.name) i)
@@ -82,14 +82,14 @@ module _ (inputs : Inputs) (r : Replacement) (wishes : ChangeWishes) (read : Rea
   told_name : (n : ℕ) (name : List ℕ) (refusal : Refusal) → of_name n name ≡ Err refusal → refused_name refusal ≡ name
   told_name n name refusal e = by_change (change_of_name r name) (find (is_package_named name) r.before) (find (is_candidate_named name) r.selected) (λ c is. candidate_named name r.selected c is) e
     where
-      comes : (change : Change) (c : Candidate) → c.name ≡ name → member_of_added_name read inputs.root.repositories wishes.no_scripts n name change c ≡ Err refusal → refused_name refusal ≡ name
+      comes : (change : Change) (c : Candidate) → c.name ≡ name → added_member_unless_script_needed read inputs.root.repositories wishes.no_scripts n name change c ≡ Err refusal → refused_name refusal ≡ name
       comes change c named e =
           elim (and_then_err (added_package_by_path read n c (package_file_path_of_candidate inputs.root.repositories c)) (with_scripts name change) refusal e) [
             | inl first ↦ found_name c _ refusal (sym (path_is read n c (package_file_path_of_candidate inputs.root.repositories c)) ∙ first) ∙ named
             | inr next ↦ script_name wishes.no_scripts name next.0.value (scripts_of_change change) (Some (added_member_found next.0)) refusal next.2
           ]
 
-      goes : (change : Change) (before : Option Plain) → member_of_removed_name wishes.no_scripts name change before ≡ Err refusal → refused_name refusal ≡ name
+      goes : (change : Change) (before : Option Plain) → no_member_unless_removal_needs_script wishes.no_scripts name change before ≡ Err refusal → refused_name refusal ≡ name
       goes change None e = absurd (cc (e))
       goes change (Some pkg) e = script_name wishes.no_scripts name pkg (scripts_of_change change) None refusal e
 
@@ -148,7 +148,7 @@ module _ (inputs : Inputs) (r : Replacement) (wishes : ChangeWishes) (read : Rea
     pub told : of_name (first_read + place) (refused_name refusal) ≡ Err refusal
 
   comes_is : (n : ℕ) (name : List ℕ) (change : Change) (c : Candidate) → change_of_name r name ≡ Some change → selected_candidate_of_name r name ≡ Some c
-      → of_name n name ≡ member_of_added_name read inputs.root.repositories wishes.no_scripts n name change c
+      → of_name n name ≡ added_member_unless_script_needed read inputs.root.repositories wishes.no_scripts n name change c
   comes_is n name change c becomes selected =
       ap (λ ch. member_of_name_by_change read inputs.root.repositories wishes.no_scripts n name ch (find (is_package_named name) r.before) (find (is_candidate_named name) r.selected)) becomes
       ∙ ap (λ s. member_of_name_by_selected read inputs.root.repositories wishes.no_scripts n name change (find (is_package_named name) r.before) s) selected
@@ -162,10 +162,10 @@ module _ (inputs : Inputs) (r : Replacement) (wishes : ChangeWishes) (read : Rea
   named name version file is = candidate_named name r.selected is.candidate is.selected
 
   different_told : (name version file : List ℕ) (is : IsFileReadForAddedPackage inputs r read name version (Some file)) (field : ℕ) (wanted found : List ℕ) → package_fault file ≡ None
-      → IsFirstFieldThatDiffers is.candidate (package_in_file file) field wanted found → added_package_or_refusal is.candidate (Some file) ≡ Err (PackageDiffers name version field wanted found)
+      → IsFirstOfIdNameVersionThatDiffers is.candidate (package_in_file file) field wanted found → added_package_or_refusal is.candidate (Some file) ≡ Err (PackageDiffers name version field wanted found)
   different_told name version file is field wanted found sound other = ap (λ o. package_unless_bad_or_different is.candidate o (package_in_file file)) sound ∙ by other
     where
-      by : IsFirstFieldThatDiffers is.candidate (package_in_file file) field wanted found
+      by : IsFirstOfIdNameVersionThatDiffers is.candidate (package_in_file file) field wanted found
           → by_fields is.candidate (package_in_file file) (is_same_id is.candidate.id (package_in_file file).id) (bytes_eq is.candidate.name (package_name (package_in_file file).value)) (bytes_eq (candidate_version_text is.candidate) (package_version_text (package_in_file file).value)) ≡ Err (PackageDiffers name version field wanted found)
       by (inl (field_is, (wanted_is, found_is, off))) =
           ap (λ a. by_fields is.candidate (package_in_file file) a (bytes_eq is.candidate.name (package_name (package_in_file file).value)) (bytes_eq (candidate_version_text is.candidate) (package_version_text (package_in_file file).value))) ((λ i. is_same_id (sym wanted_is i) (sym found_is i)) ∙ off)
@@ -205,7 +205,7 @@ module _ (inputs : Inputs) (r : Replacement) (wishes : ChangeWishes) (read : Rea
         told =
             ap (λ ch. member_of_name_by_change read inputs.root.repositories wishes.no_scripts (first_read + place.0) name ch (find (is_package_named name) r.before) (find (is_candidate_named name) r.selected)) becomes
             ∙ (ap (λ s. member_of_name_by_selected read inputs.root.repositories wishes.no_scripts (first_read + place.0) name change (find (is_package_named name) r.before) s) going.unselected
-            ∙ (ap (λ b. member_of_removed_name wishes.no_scripts name change b) going.before
+            ∙ (ap (λ b. no_member_unless_removal_needs_script wishes.no_scripts name change b) going.before
             ∙ script_is wishes.no_scripts name pkg (scripts_of_change change) None script asked first));
       }
 
@@ -280,7 +280,7 @@ module _ (inputs : Inputs) (r : Replacement) (wishes : ChangeWishes) (read : Rea
             ∙ (ap (precedes at.name) (name ∙ told_here) ∙ precedes_itself at.name))))
             (λ more. (same_place other told (omega arith)).1) (cases_lt at.place told.place)) (cases_lt told.place at.place)
 
-  pub first_refused : (refusal : Refusal) → members_after_change inputs r wishes read ≡ Err refusal → IsRefusalOfFirstFaultyPackage inputs r wishes read refusal
+  pub first_refused : (refusal : Refusal) → members_after_change inputs r wishes read ≡ Err refusal → HasNoEarlierFaultyPackageOrOtherFault inputs r wishes read refusal
   unfolding members_after
   first_refused refusal e =
       let at = refused_in first_read (names_before_and_selected r) refusal e in

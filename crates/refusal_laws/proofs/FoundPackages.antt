@@ -11,7 +11,7 @@ use Rattle.outcome.proofs.change_files.InOrder.{in_left, in_order}
 use Rattle.outcome.specs.change_inputs.Chains.{and_then}
 use Rattle.outcome.specs.change_inputs.Inputs.{Inputs, first_index_read_number}
 use Rattle.outcome.specs.change_outcome.ChangeOutcome.{ChangeWishes, members_after_change}
-use Rattle.outcome.specs.change_outcome.MembersAfter.{MemberFound, added_package_by_path, added_member_found, members_after, member_of_name_after, member_of_name_by_change, member_of_name_by_selected, member_of_added_name, member_of_removed_name, members_of_names_after}
+use Rattle.outcome.specs.change_outcome.MembersAfter.{MemberFound, added_package_by_path, added_member_found, members_after, member_of_name_after, member_of_name_by_change, member_of_name_by_selected, added_member_unless_script_needed, no_member_unless_removal_needs_script, members_of_names_after}
 use Rattle.outcome.specs.change_outcome.PackageFiles.{AddedPackage, first_script_number_of_package, package_file_path_of_candidate, added_package_or_refusal, package_in_file, scripts_of_change, unless_script_number, package_unless_bad_or_different, unless_script_needed}
 use Rattle.outcome.specs.db_core.Packages.{is_package_named}
 use Rattle.outcome.specs.make_info.Reads.{Reads}
@@ -22,8 +22,8 @@ use Rattle.report_core.specs.Reports.{Change}
 use Rattle.report_core.specs.declared.refusal.Refusal.{Refusal}
 use Rattle.report_core.specs.declared.refusal.Refusal.TheVariants.{PackageBad, PackageDiffers, PackageMissing, ScriptNeeded}
 use Rattle.refusal_laws.specs.ChangeFaults.{IsFaultOfPackage}
-use Rattle.refusal_laws.specs.AddedPackages.{IsSoundFileOfCandidate, IsFileReadForAddedPackage, selected_candidate_of_name}
-use Rattle.refusal_laws.specs.PackageFaults.{IsAddedOrRemoved, IsFirstFieldThatDiffers}
+use Rattle.refusal_laws.specs.AddedPackages.{IsSoundFileWithIdNameAndVersionOf, IsFileReadForAddedPackage, selected_candidate_of_name}
+use Rattle.refusal_laws.specs.PackageFaults.{IsAddedOrRemoved, IsFirstOfIdNameVersionThatDiffers}
 use Rattle.refusal_laws.proofs.Coming.{found_ok, path_is}
 use Rattle.refusal_laws.proofs.Lists.{and_then_ok, found_in, in_mapped}
 
@@ -36,7 +36,7 @@ member_name_at_place (x ∷ xs) q (inr more) = let other = member_name_at_place 
 
 -- ---- files
 
-not_other : (c : Candidate) (file : List ℕ) (field : ℕ) (wanted found : List ℕ) → IsSoundFileOfCandidate c file → IsFirstFieldThatDiffers c (package_in_file file) field wanted found → ⊥
+not_other : (c : Candidate) (file : List ℕ) (field : ℕ) (wanted found : List ℕ) → IsSoundFileWithIdNameAndVersionOf c file → IsFirstOfIdNameVersionThatDiffers c (package_in_file file) field wanted found → ⊥
 not_other c file field wanted found agrees (inl other) =
     true≢false (sym agrees.id ∙ (ap (λ w. is_same_id w (package_in_file file).id) (sym other.1.0) ∙ (ap (is_same_id wanted) (sym other.1.1) ∙ other.1.2)))
 not_other c file field wanted found agrees (inr (inl other)) = other.2.2 (other.2.0 ∙ (sym agrees.name ∙ sym other.2.1))
@@ -91,7 +91,7 @@ module _ (inputs : Inputs) (r : Replacement) (wishes : ChangeWishes) (read : Rea
   -- ---- one that comes
 
   comes_so : (place : ℕ) (name : List ℕ) (change : Change) (c : Candidate) → slice_get (names_before_and_selected r) place ≡ Some name → change_of_name r name ≡ Some change → selected_candidate_of_name r name ≡ Some c
-      → (o : Option MemberFound) × (member_of_added_name read inputs.root.repositories wishes.no_scripts (first_read + place) name change c ≡ Ok o)
+      → (o : Option MemberFound) × (added_member_unless_script_needed read inputs.root.repositories wishes.no_scripts (first_read + place) name change c ≡ Ok o)
   comes_so place name change c at becomes selected =
       let o = found_at place name at in (
         o.0,
@@ -137,7 +137,7 @@ module _ (inputs : Inputs) (r : Replacement) (wishes : ChangeWishes) (read : Rea
       let place = member_name_at_place (names_before_and_selected r) (package_name pkg) among in
       let o = found_at place.0 name (place.1 ∙ ap (λ (q : List ℕ). Some q) named) in
       no_script wishes.no_scripts name pkg (scripts_of_change change) None o.0 script asked first
-      (ap (λ b. member_of_removed_name wishes.no_scripts name change b) (sym going.before)
+      (ap (λ b. no_member_unless_removal_needs_script wishes.no_scripts name change b) (sym going.before)
       ∙ (ap (λ s. member_of_name_by_selected read inputs.root.repositories wishes.no_scripts (first_read + place.0) name change (find (is_package_named name) r.before) s) (sym going.unselected)
       ∙ (ap (λ ch. member_of_name_by_change read inputs.root.repositories wishes.no_scripts (first_read + place.0) name ch (find (is_package_named name) r.before) (find (is_candidate_named name) r.selected)) (sym becomes) ∙ o.1)))
 

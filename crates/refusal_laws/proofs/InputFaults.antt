@@ -8,7 +8,7 @@ use Rattle.base_core.specs.declared.cause.Cause.{Cause}
 use Rattle.outcome.specs.change_inputs.Chains.{and_then, with_error_as_refusal, unless_cause}
 use Rattle.outcome.specs.change_inputs.Database.{Database, payload_database, root_database}
 use Rattle.outcome.specs.change_inputs.Indexes.{file_or_index_missing, index_files_from, index_in_file, indexes_in_files}
-use Rattle.outcome.specs.change_inputs.Inputs.{Root, database_read_number, first_index_read_number, index_reads_from, indexes_of, inputs_from_parts, inputs_of, root_from_parts, root_for, text_database_read_number, world_read_number}
+use Rattle.outcome.specs.change_inputs.Inputs.{Root, database_read_number, first_index_read_number, index_reads_from, indexes_of, inputs_from_parts, inputs_of, root_with_new_world_of_command, root_for, text_database_read_number, world_read_number}
 use Rattle.outcome.specs.change_inputs.Repositories.{repositories_if_untrusted_allowed, root_repositories}
 use Rattle.outcome.specs.change_inputs.World.{root_world, found_text_or_empty}
 use Rattle.command_core.specs.Command.{CommandLine}
@@ -110,7 +110,7 @@ module _ (command : CommandLine) (read : Reads) where
 
   abbrev pub world_then : Database → List Dependency → Result Root Refusal
   world_then database world =
-      and_then (root_repositories command.flags.allow_untrusted (repositories_file_text read)) (λ repositories. Ok (root_from_parts command database (found_text_or_empty (read world_read_number world_name)) world repositories))
+      and_then (root_repositories command.flags.allow_untrusted (repositories_file_text read)) (λ repositories. Ok (root_with_new_world_of_command command database (found_text_or_empty (read world_read_number world_name)) world repositories))
 
   root_fault : (refusal : Refusal) → root_for command read ≡ Err refusal → IsSo refusal
   root_fault refusal e =
@@ -120,9 +120,9 @@ module _ (command : CommandLine) (read : Reads) where
         | inr next ↦ elim (and_then_err (root_world (found_text_or_empty (read world_read_number world_name))) (world_then next.0) refusal next.2) [
           | inl second ↦ world_fault refusal second
           | inr third ↦ elim (and_then_err (root_repositories command.flags.allow_untrusted (repositories_file_text read)) (λ repositories.
-              Ok (root_from_parts command next.0 (found_text_or_empty (read world_read_number world_name)) third.0 repositories)) refusal third.2) [
+              Ok (root_with_new_world_of_command command next.0 (found_text_or_empty (read world_read_number world_name)) third.0 repositories)) refusal third.2) [
                 | inl last ↦ repositories_fault refusal last
-                | inr done ↦ absurd (no_refusal (root_from_parts command next.0 (found_text_or_empty (read world_read_number world_name)) third.0 done.0) refusal done.2)
+                | inr done ↦ absurd (no_refusal (root_with_new_world_of_command command next.0 (found_text_or_empty (read world_read_number world_name)) third.0 done.0) refusal done.2)
               ]
         ]
       ]
@@ -132,8 +132,8 @@ module _ (command : CommandLine) (read : Reads) where
       let database = and_then_ok (root_database command.flags.initdb (read database_read_number database_name) (read text_database_read_number text_database_name)) (λ database.
       and_then (root_world (found_text_or_empty (read world_read_number world_name))) (world_then database)) root e in
       let world = and_then_ok (root_world (found_text_or_empty (read world_read_number world_name))) (world_then database.0) root database.2 in
-      let listed = and_then_ok (root_repositories command.flags.allow_untrusted (repositories_file_text read)) (λ repositories. Ok (root_from_parts command database.0 (found_text_or_empty (read world_read_number world_name)) world.0 repositories)) root world.2 in
-      let same : root_from_parts command database.0 (found_text_or_empty (read world_read_number world_name)) world.0 listed.0 ≡ root = (let last = listed.2 in cc) in
+      let listed = and_then_ok (root_repositories command.flags.allow_untrusted (repositories_file_text read)) (λ repositories. Ok (root_with_new_world_of_command command database.0 (found_text_or_empty (read world_read_number world_name)) world.0 repositories)) root world.2 in
+      let same : root_with_new_world_of_command command database.0 (found_text_or_empty (read world_read_number world_name)) world.0 listed.0 ≡ root = (let last = listed.2 in cc) in
       repositories_ok listed.0 listed.1 ∙ ap (λ (x : Root). Ok x.repositories) same
 
   -- ---- the indexes

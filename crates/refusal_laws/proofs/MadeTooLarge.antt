@@ -13,10 +13,10 @@ use Rattle.outcome.specs.make_info.Information.{FieldWithValue, information, inf
 use Rattle.outcome.specs.make_info.Reads.{Reads}
 use Rattle.outcome.specs.make_info.declared.fault.MakeFault.{MakeFault}
 use Rattle.outcome.specs.make_info.declared.fault.MakeFault.TheVariants.{TooLarge}
-use Rattle.outcome.specs.package_files.Folders.{FolderListing, folder_listings_of}
+use Rattle.outcome.specs.package_files.Folders.{FolderListing, folder_listings_by_tree_names}
 use Rattle.outcome.specs.make_package.Making.{container_unless_too_large, made_package, or_info_bad, package_container, package_of_parts}
-use Rattle.outcome.specs.package_files.Package.{Script, Source, SourceFolder, contents_of_folders, installed_size, value_of_package}
-use Rattle.outcome.specs.package_files.Sources.{results_from_read, source_file_read_at, source_folder_read_at, source_folders_of_first_option, found_bytes_or_missing, and_then, script_at, script_with, scripts_from_read, source_of_read, sources_at_place_from_read, texts_of, values_of_letter}
+use Rattle.outcome.specs.package_files.Package.{Script, SourceFile, SourceFolder, contents_of_folders, installed_size, value_of_package}
+use Rattle.outcome.specs.package_files.Sources.{results_from_read, source_file_at_place_by_read, source_folder_at_place_by_read, source_folders_of_first_option_only, found_bytes_or_missing, and_then, script_at, script_with, scripts_from_read, source_file_named_by_last_part, source_files_at_place_from_read, texts_of, values_of_letter}
 use Rattle.outcome.specs.pkg_core.Contents.{Contents}
 use Rattle.refusal_laws.specs.MadeTooLarge.{IsPackageToBeMadeTooLarge}
 use Rattle.refusal_laws.proofs.ChangeFaults.{too_large}
@@ -52,23 +52,23 @@ module _ (bytes values : ℕ) where
   script_never : (read : Reads) (n : ℕ) (v : OptionValue) → IsNever (script_at read n v)
   script_never read n v e = found_never v.place (read n (without_dot_slash (script_file v.text))) (λ b. script_with (script_type v.text) b) e
 
-  folder_never : (place : ℕ) (read : Reads) (n : ℕ) (folder : FolderListing) → IsNever (source_folder_read_at place read n folder)
+  folder_never : (place : ℕ) (read : Reads) (n : ℕ) (folder : FolderListing) → IsNever (source_folder_at_place_by_read place read n folder)
   folder_never place read n folder e =
-      elim (success_err (sources_at_place_from_read place read n folder.files) (λ files. with_files files) (TooLarge bytes values) e) [
-        | inl first ↦ each_never (λ name. 1) (source_file_read_at place read) (λ m name f. found_never place (read m name) (λ b. source_of_read name b) f) n folder.files first
+      elim (success_err (source_files_at_place_from_read place read n folder.files) (λ files. with_files files) (TooLarge bytes values) e) [
+        | inl first ↦ each_never (λ name. 1) (source_file_at_place_by_read place read) (λ m name f. found_never place (read m name) (λ b. source_file_named_by_last_part name b) f) n folder.files first
         | inr last ↦ no_fault (source_folder last.0) (TooLarge bytes values) last.2
       ]
     where
-      source_folder : List Source → SourceFolder
+      source_folder : List SourceFile → SourceFolder
       source_folder files = record { name = folder.name; files = files }
 
-      with_files : List Source → Result SourceFolder MakeFault
+      with_files : List SourceFile → Result SourceFolder MakeFault
       with_files files = Ok (source_folder files)
 
-  folders_never : (read : Reads) (n : ℕ) (vs : List OptionValue) (names : List (List ℕ)) → IsNever (source_folders_of_first_option read n vs names)
+  folders_never : (read : Reads) (n : ℕ) (vs : List OptionValue) (names : List (List ℕ)) → IsNever (source_folders_of_first_option_only read n vs names)
   folders_never read n [] names e = cc (e)
   folders_never read n (v ∷ vs) names e =
-      each_never (λ (folder : FolderListing). length folder.files) (source_folder_read_at v.place read) (folder_never v.place read) n (folder_listings_of (without_dot_slash v.text) names) e
+      each_never (λ (folder : FolderListing). length folder.files) (source_folder_at_place_by_read v.place read) (folder_never v.place read) n (folder_listings_by_tree_names (without_dot_slash v.text) names) e
 
   info_never : (r : Result (List FieldWithValue) ℕ) → IsNever (or_info_bad r)
   info_never (Ok items) e = cc (e)
@@ -95,7 +95,7 @@ module _ (bytes values : ℕ) where
         | inl first ↦ absurd (each_never (λ v. 1) (script_at read) (script_never read) 0 (values_of_letter SCRIPT command.values) first)
         | inr one ↦ elim (success_err (or_info_bad (information command)) (then_about one.0) (TooLarge bytes values) one.2) [
           | inl second ↦ absurd (info_never (information command) second)
-          | inr two ↦ elim (success_err (source_folders_of_first_option read (length one.0) (values_of_letter FILES command.values) names) (package_of_parts command one.0 two.0) (TooLarge bytes values) two.2) [
+          | inr two ↦ elim (success_err (source_folders_of_first_option_only read (length one.0) (values_of_letter FILES command.values) names) (package_of_parts command one.0 two.0) (TooLarge bytes values) two.2) [
             | inl third ↦ absurd (folders_never read (length one.0) (values_of_letter FILES command.values) names third)
             | inr three ↦ record {
               packed = package_with_contents_from_parts (value_of one.0 two.0 three.0) (contents_of_folders 1 three.0);
@@ -110,7 +110,7 @@ module _ (bytes values : ℕ) where
       scripts = scripts_from_read read 0 (values_of_letter SCRIPT command.values)
 
       then_about : List Script → List FieldWithValue → Result (List ℕ) MakeFault
-      then_about found about = and_then (source_folders_of_first_option read (length found) (values_of_letter FILES command.values) names) (package_of_parts command found about)
+      then_about found about = and_then (source_folders_of_first_option_only read (length found) (values_of_letter FILES command.values) names) (package_of_parts command found about)
 
       then_scripts : List Script → Result (List ℕ) MakeFault
       then_scripts found = and_then (or_info_bad (information command)) (then_about found)
@@ -120,11 +120,11 @@ module _ (bytes values : ℕ) where
           value_of_package (information_value_with_installed_size about (installed_size folders)) folders found (texts_of (values_of_letter TRIGGER command.values)) (replaces_priority about)
 
       packed_is : (found : List Script) (about : List FieldWithValue) (folders : List SourceFolder) → scripts ≡ Ok found → or_info_bad (information command) ≡ Ok about
-          → source_folders_of_first_option read (length found) (values_of_letter FILES command.values) names ≡ Ok folders → package_with_contents_of_command command names read ≡ Ok (package_with_contents_from_parts (value_of found about folders) (contents_of_folders 1 folders))
+          → source_folders_of_first_option_only read (length found) (values_of_letter FILES command.values) names ≡ Ok folders → package_with_contents_of_command command names read ≡ Ok (package_with_contents_from_parts (value_of found about folders) (contents_of_folders 1 folders))
       packed_is found about folders s a f =
           ap (λ (x : Result (List Script) MakeFault). and_then x (λ scripts.
           and_then (or_info_bad (information command)) (λ about.
-          and_then (source_folders_of_first_option read (length scripts) (values_of_letter FILES command.values) names) (packed_of_parts command scripts about)))) s
+          and_then (source_folders_of_first_option_only read (length scripts) (values_of_letter FILES command.values) names) (packed_of_parts command scripts about)))) s
           ∙ (ap (λ (x : Result (List FieldWithValue) MakeFault). and_then x (λ about.
-          and_then (source_folders_of_first_option read (length found) (values_of_letter FILES command.values) names) (packed_of_parts command found about))) a
+          and_then (source_folders_of_first_option_only read (length found) (values_of_letter FILES command.values) names) (packed_of_parts command found about))) a
           ∙ ap (λ (x : Result (List SourceFolder) MakeFault). and_then x (packed_of_parts command found about)) f)

@@ -13,7 +13,7 @@ use Rattle.outcome.specs.engine_core.Wishes.{place_of_first_unknown_operand, is_
 use Rattle.outcome.specs.candidate_core.Rank.{SealedPool}
 use Rattle.report_core.specs.declared.refusal.Refusal.{Refusal}
 use Rattle.report_core.specs.declared.refusal.Refusal.TheVariants.{NotInstalled, Unsatisfied}
-use Rattle.refusal_laws.specs.CommandFaults.{IsNameUnknownToApplet}
+use Rattle.refusal_laws.specs.CommandFaults.{IsNameUnknownToDelUpgradeOrFix}
 use Rattle.refusal_laws.specs.OperandsKnown.{AreKnownOperands, HasPassedTestsBeforeSelectionRefusal, IsFirstUnknown}
 use Rattle.refusal_laws.proofs.CommandFaults.{pool_fault}
 use Rattle.refusal_laws.proofs.Lists.{and_then_err}
@@ -64,16 +64,16 @@ first_failing is_known (o ∷ operands) place e = by_test (is_known o.text) refl
 
 -- ---- by the command
 
-known_to : (command : CommandLine) (inputs : Inputs) (applet : Applet) (is_known : List ℕ → Bool) → ((name : List ℕ) → is_known name ≡ true → IsNameUnknownToApplet applet inputs name → ⊥) → applet ≡ command.applet
+known_to : (command : CommandLine) (inputs : Inputs) (applet : Applet) (is_known : List ℕ → Bool) → ((name : List ℕ) → is_known name ≡ true → IsNameUnknownToDelUpgradeOrFix applet inputs name → ⊥) → applet ≡ command.applet
     → (operands : List Operand) → ArePassing is_known operands → AreKnownOperands command inputs operands
 known_to command inputs applet is_known known same operands pass o inside unknown =
-    known o.text (pass o inside) (subst (λ (a : Applet). IsNameUnknownToApplet a inputs o.text) (sym same) unknown)
+    known o.text (pass o inside) (subst (λ (a : Applet). IsNameUnknownToDelUpgradeOrFix a inputs o.text) (sym same) unknown)
 
-del_knows : (inputs : Inputs) (name : List ℕ) → is_name_in_world_or_installed inputs name ≡ true → IsNameUnknownToApplet Del inputs name → ⊥
+del_knows : (inputs : Inputs) (name : List ℕ) → is_name_in_world_or_installed inputs name ≡ true → IsNameUnknownToDelUpgradeOrFix Del inputs name → ⊥
 del_knows inputs name known (world, installed) = true≢false (sym known ∙ (λ i. world i || installed i))
 
 module _ (command : CommandLine) (inputs : Inputs) where
-  first_by : (applet : Applet) (is_known : List ℕ → Bool) (place : ℕ) → ((name : List ℕ) → is_known name ≡ true → IsNameUnknownToApplet applet inputs name → ⊥) → applet ≡ command.applet
+  first_by : (applet : Applet) (is_known : List ℕ → Bool) (place : ℕ) → ((name : List ℕ) → is_known name ≡ true → IsNameUnknownToDelUpgradeOrFix applet inputs name → ⊥) → applet ≡ command.applet
       → place_of_first_unknown_operand is_known command.operands ≡ Some place → IsFirstUnknown command inputs place
   first_by applet is_known place known same e =
       let f = first_failing is_known command.operands place e in
@@ -90,7 +90,7 @@ module _ (command : CommandLine) (inputs : Inputs) where
   no_place Upgrade same e =
       known_to command inputs Upgrade (is_installed_name inputs) (λ name known off. true≢false (sym known ∙ off)) same command.operands (all_passing (is_installed_name inputs) command.operands e)
   no_place Fix same e = known_to command inputs Fix (is_installed_name inputs) (λ name known off. true≢false (sym known ∙ off)) same command.operands (all_passing (is_installed_name inputs) command.operands e)
-  no_place applet same e = λ o inside unknown. subst (λ (a : Applet). IsNameUnknownToApplet a inputs o.text) (sym same) unknown
+  no_place applet same e = λ o inside unknown. subst (λ (a : Applet). IsNameUnknownToDelUpgradeOrFix a inputs o.text) (sym same) unknown
 
   passed : (pool : SealedPool) → pool_of_inputs command inputs ≡ Ok pool → (place : Option ℕ) → unknown_operand_place command.applet inputs command.operands ≡ place → (chosen : Option (List ℕ)) (refusal : Refusal)
       → unless_unknown_operand place (selected_from_pool_by_choice command inputs pool chosen) ≡ Err refusal → HasPassedTestsBeforeSelectionRefusal command inputs refusal

@@ -6,7 +6,7 @@ use Rattle.adb_view.specs.Plain.{Plain}
 use Rattle.outcome.specs.change_inputs.Chains.{and_then}
 use Rattle.outcome.specs.change_inputs.Inputs.{Inputs, first_index_read_number}
 use Rattle.outcome.specs.change_outcome.ChangeOutcome.{ChangeWishes, members_after_change}
-use Rattle.outcome.specs.change_outcome.MembersAfter.{MemberFound, added_package_by_path, added_member_found, members_after, member_of_name_after, member_of_name_by_change, member_of_name_by_selected, member_of_added_name, member_of_removed_name, members_of_names_after}
+use Rattle.outcome.specs.change_outcome.MembersAfter.{MemberFound, added_package_by_path, added_member_found, members_after, member_of_name_after, member_of_name_by_change, member_of_name_by_selected, added_member_unless_script_needed, no_member_unless_removal_needs_script, members_of_names_after}
 use Rattle.outcome.specs.change_outcome.PackageFiles.{package_file_path_of_candidate, scripts_of_change, unless_script_needed}
 use Rattle.outcome.specs.db_core.Packages.{is_package_named}
 use Rattle.outcome.specs.make_info.Reads.{Reads}
@@ -41,13 +41,13 @@ module _ (inputs : Inputs) (r : Replacement) (wishes : ChangeWishes) (read : Rea
   -- ---- one name
 
   goes_fault : (name : List ℕ) (change : Change) (before : Option Plain) (refusal : Refusal) → find (is_package_named name) r.before ≡ before → selected_candidate_of_name r name ≡ None → change_of_name r name ≡ Some change
-      → member_of_removed_name wishes.no_scripts name change before ≡ Err refusal → IsSo refusal
+      → no_member_unless_removal_needs_script wishes.no_scripts name change before ≡ Err refusal → IsSo refusal
   goes_fault name change None refusal is unselected becomes e = absurd (cc (e))
   goes_fault name change (Some pkg) refusal is unselected becomes e =
       script_fault inputs r wishes read name pkg change None refusal (inr (record { before = is; unselected = unselected })) becomes e
 
   comes_fault : (n : ℕ) (name : List ℕ) (change : Change) (c : Candidate) (refusal : Refusal) → IsNameAt inputs r n name → selected_candidate_of_name r name ≡ Some c → change_of_name r name ≡ Some change
-      → member_of_added_name read inputs.root.repositories wishes.no_scripts n name change c ≡ Err refusal → IsSo refusal
+      → added_member_unless_script_needed read inputs.root.repositories wishes.no_scripts n name change c ≡ Err refusal → IsSo refusal
   comes_fault n name change c refusal at selected becomes e =
       elim (and_then_err (added_package_by_path read n c (package_file_path_of_candidate inputs.root.repositories c)) (λ pkg.
       unless_script_needed wishes.no_scripts name pkg.value (scripts_of_change change) (Some (added_member_found pkg))) refusal e) [

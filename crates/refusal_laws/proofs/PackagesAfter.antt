@@ -11,7 +11,7 @@ use Rattle.outcome.proofs.change_files.InOrder.{in_order, in_right, order_rises}
 use Rattle.outcome.specs.change_inputs.Chains.{and_then}
 use Rattle.outcome.specs.change_inputs.Inputs.{Inputs, first_index_read_number}
 use Rattle.outcome.specs.change_outcome.ChangeOutcome.{ChangeWishes, members_after_change}
-use Rattle.outcome.specs.change_outcome.MembersAfter.{MemberFound, added_package_by_path, added_member_found, members_after, found_members, member_of_name_after, member_of_name_by_change, member_of_name_by_selected, member_of_added_name, member_of_removed_name, members_of_names_after, kept_member_found}
+use Rattle.outcome.specs.change_outcome.MembersAfter.{MemberFound, added_package_by_path, added_member_found, members_after, found_members, member_of_name_after, member_of_name_by_change, member_of_name_by_selected, added_member_unless_script_needed, no_member_unless_removal_needs_script, members_of_names_after, kept_member_found}
 use Rattle.outcome.specs.change_outcome.PackageFiles.{AddedPackage, package_file_path_of_candidate, scripts_of_change, unless_script_needed}
 use Rattle.outcome.specs.db_core.Members.{member_name}
 use Rattle.outcome.specs.db_core.Packages.{is_package_named}
@@ -80,7 +80,7 @@ module _ (inputs : Inputs) (r : Replacement) (wishes : ChangeWishes) (read : Rea
       })
 
   comes : (n : ℕ) (name : List ℕ) (change : Change) (c : Candidate) (o : Option MemberFound) → IsNameAt inputs r n name → selected_candidate_of_name r name ≡ Some c → change_of_name r name ≡ Some change
-      → member_of_added_name read inputs.root.repositories wishes.no_scripts n name change c ≡ Ok o → IfFound name o
+      → added_member_unless_script_needed read inputs.root.repositories wishes.no_scripts n name change c ≡ Ok o → IfFound name o
   comes n name change c o at selected becomes e =
       let pkg = and_then_ok (added_package_by_path read n c (package_file_path_of_candidate inputs.root.repositories c)) (λ pkg.
       unless_script_needed wishes.no_scripts name pkg.value (scripts_of_change change) (Some (added_member_found pkg))) o e in
@@ -95,7 +95,7 @@ module _ (inputs : Inputs) (r : Replacement) (wishes : ChangeWishes) (read : Rea
         is = inr (record { pkg = pkg.0; brought = is; is = refl });
       })
 
-  goes : (name : List ℕ) (change : Change) (before : Option Plain) (o : Option MemberFound) → selected_candidate_of_name r name ≡ None → member_of_removed_name wishes.no_scripts name change before ≡ Ok o → IfFound name o
+  goes : (name : List ℕ) (change : Change) (before : Option Plain) (o : Option MemberFound) → selected_candidate_of_name r name ≡ None → no_member_unless_removal_needs_script wishes.no_scripts name change before ≡ Ok o → IfFound name o
   goes name change None o none e = let same : None ≡ o = cc in subst (IfFound name) same none
   goes name change (Some pkg) o none e = subst (IfFound name) (script_ok wishes.no_scripts name pkg (scripts_of_change change) None o e) none
 

@@ -12,10 +12,10 @@ use Rattle.outcome.specs.adb_schema.Reserved.{is_reserved}
 use Rattle.base_core.proofs.Rising as Names
 use Rattle.outcome.proofs.change_files.InOrder.{from_filter, in_filter, in_sorted, from_sorted}
 use Rattle.outcome.specs.change_files.NamesAfter.{added_paths}
-use Rattle.outcome.specs.change_files.PlanLists.{first_reserved_added_path}
+use Rattle.outcome.specs.change_files.PlanLists.{first_reserved_added_path_in_byte_order}
 use Rattle.outcome.specs.change_outcome.ChangeOutcome.{member_name_at_place}
 use Rattle.outcome.specs.db_core.Members.{Listing, Member, listings_of_members, member_name}
-use Rattle.outcome.specs.file_owners.Owners.{numbered_claim_of_listing, claims_of_listings_numbered_from, claims_in, first_contested_path_of_members, member_beats, owner_of_path, takes_over_if_both_exist}
+use Rattle.outcome.specs.file_owners.Owners.{indexed_claim_of_listing, claims_of_listings_indexed_from, claims_in, first_contested_member_path_in_byte_order, member_beats, owner_of_path, takes_over_if_both_exist}
 use Rattle.outcome.specs.file_owners.Replaces.{takes_over}
 use Rattle.outcome.proofs.file_owners.Claiming.{owner_is}
 use Rattle.base_core.specs.ByteOrder.{bytes_cmp, precedes, smallest_text}
@@ -62,8 +62,8 @@ smallest_is xs x e = by_list (sorted_by bytes_cmp xs) refl (sym (smallest_first 
           λ q here. found_is_first (λ z. true) (y ∷ ys) x up e q (subst (λ zs. Names.IsIn q zs) is (in_sorted q xs here)) refl,
         )
 
-pub first_reserved_is : (members : List Member) (path : List ℕ) → first_reserved_added_path members ≡ Some path → IsFirstReservedAddedPath members path
-unfolding first_reserved_added_path
+pub first_reserved_is : (members : List Member) (path : List ℕ) → first_reserved_added_path_in_byte_order members ≡ Some path → IsFirstReservedAddedPath members path
+unfolding first_reserved_added_path_in_byte_order
 first_reserved_is members path e =
     let is = smallest_is (filter is_reserved (added_paths members)) path e in
     let passes = from_filter is_reserved (added_paths members) path is.0 in
@@ -80,8 +80,8 @@ none_smallest xs q e here = by_list (sorted_by bytes_cmp xs) (sym (smallest_firs
     by_list [] e here = here
     by_list (y ∷ ys) e here = cc (e)
 
-pub are_unreserved : (members : List Member) → first_reserved_added_path members ≡ None → AreAddedPathsUnreserved members
-unfolding first_reserved_added_path
+pub are_unreserved : (members : List Member) → first_reserved_added_path_in_byte_order members ≡ None → AreAddedPathsUnreserved members
+unfolding first_reserved_added_path_in_byte_order
 are_unreserved members none path here = by_test (is_reserved path) refl
   where
     by_test : (b : Bool) → is_reserved path ≡ b → b ≡ false
@@ -96,12 +96,12 @@ each_here P (y ∷ ys) x h (inl is) = subst P (sym is) h.0
 each_here P (y ∷ ys) x h (inr more) = each_here P ys x h.1 more
 
 -- a member that claims a path lists it
-claimant_lists : (path : List ℕ) (n : ℕ) (ls : List Listing) (y : ℕ) → IsIn y (claimants (claims_of_listings_numbered_from n ls) path) → (l : Listing) × IsIn l ls × (l.path ≡ path) × (y ≡ l.place)
+claimant_lists : (path : List ℕ) (n : ℕ) (ls : List Listing) (y : ℕ) → IsIn y (claimants (claims_of_listings_indexed_from n ls) path) → (l : Listing) × IsIn l ls × (l.path ≡ path) × (y ≡ l.place)
 claimant_lists path n [] y here = absurd here
 claimant_lists path n (l ∷ ls) y here = by_test (bytes_eq l.path path) refl here (claimant_lists path (n + 1) ls y)
   where
-    by_test : (b : Bool) → bytes_eq l.path path ≡ b → IsIn y (map (λ c. c.member) (cond b (numbered_claim_of_listing n l ∷ filter (is_claim_of_path path) (claims_of_listings_numbered_from (n + 1) ls)) (filter (is_claim_of_path path) (claims_of_listings_numbered_from (n + 1) ls))))
-        → (IsIn y (claimants (claims_of_listings_numbered_from (n + 1) ls) path) → (k : Listing) × IsIn k ls × (k.path ≡ path) × (y ≡ k.place)) → (k : Listing) × IsIn k (l ∷ ls) × (k.path ≡ path) × (y ≡ k.place)
+    by_test : (b : Bool) → bytes_eq l.path path ≡ b → IsIn y (map (λ c. c.member) (cond b (indexed_claim_of_listing n l ∷ filter (is_claim_of_path path) (claims_of_listings_indexed_from (n + 1) ls)) (filter (is_claim_of_path path) (claims_of_listings_indexed_from (n + 1) ls))))
+        → (IsIn y (claimants (claims_of_listings_indexed_from (n + 1) ls) path) → (k : Listing) × IsIn k ls × (k.path ≡ path) × (y ≡ k.place)) → (k : Listing) × IsIn k (l ∷ ls) × (k.path ≡ path) × (y ≡ k.place)
     by_test true is (inl same) more = (l, inl refl, (bytes_eq-Decides l.path path).0 is, same)
     by_test true is (inr here) more = let other = more here in (other.0, inr other.1, other.2, other.3)
     by_test false is here more = let other = more here in (other.0, inr other.1, other.2, other.3)
@@ -141,7 +141,7 @@ none_is : (o : Option ℕ) → is_none o ≡ true → o ≡ None
 none_is None e = refl
 none_is (Some x) e = absurd (true≢false (sym e))
 
-listing_claimed : (n : ℕ) (ls : List Listing) (l : Listing) → IsIn l ls → Names.IsIn l.path (map (λ c. c.path) (claims_of_listings_numbered_from n ls))
+listing_claimed : (n : ℕ) (ls : List Listing) (l : Listing) → IsIn l ls → Names.IsIn l.path (map (λ c. c.path) (claims_of_listings_indexed_from n ls))
 listing_claimed n [] l here = absurd here
 listing_claimed n (k ∷ ls) l (inl is) = inl (ap (λ (l : Listing). l.path) is)
 listing_claimed n (k ∷ ls) l (inr more) = inr (listing_claimed (n + 1) ls l more)
@@ -219,13 +219,13 @@ module _ (members : List Member) where
 
   -- ---- no contested path
 
-  some_claimant : (path : List ℕ) (n : ℕ) (ls : List Listing) → Names.IsIn path (map (λ c. c.path) (claims_of_listings_numbered_from n ls)) → (y : ℕ) × IsIn y (claimants (claims_of_listings_numbered_from n ls) path)
+  some_claimant : (path : List ℕ) (n : ℕ) (ls : List Listing) → Names.IsIn path (map (λ c. c.path) (claims_of_listings_indexed_from n ls)) → (y : ℕ) × IsIn y (claimants (claims_of_listings_indexed_from n ls) path)
   some_claimant path n [] here = absurd here
   some_claimant path n (l ∷ ls) here = by_test (bytes_eq l.path path) refl here (some_claimant path (n + 1) ls)
     where
-      by_test : (b : Bool) → bytes_eq l.path path ≡ b → Names.IsIn path (l.path ∷ map (λ c. c.path) (claims_of_listings_numbered_from (n + 1) ls))
-          → (Names.IsIn path (map (λ c. c.path) (claims_of_listings_numbered_from (n + 1) ls)) → (y : ℕ) × IsIn y (claimants (claims_of_listings_numbered_from (n + 1) ls) path))
-          → (y : ℕ) × IsIn y (map (λ c. c.member) (cond b (numbered_claim_of_listing n l ∷ filter (is_claim_of_path path) (claims_of_listings_numbered_from (n + 1) ls)) (filter (is_claim_of_path path) (claims_of_listings_numbered_from (n + 1) ls))))
+      by_test : (b : Bool) → bytes_eq l.path path ≡ b → Names.IsIn path (l.path ∷ map (λ c. c.path) (claims_of_listings_indexed_from (n + 1) ls))
+          → (Names.IsIn path (map (λ c. c.path) (claims_of_listings_indexed_from (n + 1) ls)) → (y : ℕ) × IsIn y (claimants (claims_of_listings_indexed_from (n + 1) ls) path))
+          → (y : ℕ) × IsIn y (map (λ c. c.member) (cond b (indexed_claim_of_listing n l ∷ filter (is_claim_of_path path) (claims_of_listings_indexed_from (n + 1) ls)) (filter (is_claim_of_path path) (claims_of_listings_indexed_from (n + 1) ls))))
       by_test true is here more = (l.place, inl refl)
       by_test false is (inl same) more = absurd (true≢false (sym ((bytes_eq-Decides l.path path).1 (sym same)) ∙ is))
       by_test false is (inr here) more = more here
@@ -249,8 +249,8 @@ module _ (members : List Member) where
   owned_where : (path : List ℕ) → is_none (owner_by_claims path) ≡ false → is_some (owner_of_path members path) ≡ true
   owned_where path e = owned_or_not path (λ t. true≢false (sym t ∙ e))
 
-  pub have_owners : first_contested_path_of_members members ≡ None → EachListedPathHasOwner members
-  unfolding first_contested_path_of_members first_contested_path claims_in
+  pub have_owners : first_contested_member_path_in_byte_order members ≡ None → EachListedPathHasOwner members
+  unfolding first_contested_member_path_in_byte_order first_contested_path claims_in
   have_owners e l here = by_path (first_path_without_owner (member_beats members) (claims_in members)) refl e
     where
       by_path : (o : Option (List ℕ)) → first_path_without_owner (member_beats members) (claims_in members) ≡ o → option_and_then (path_with_rivals_of_first_claimant (member_beats members) (claims_in members)) o ≡ None → is_some (owner_of_path members l.path) ≡ true
@@ -270,8 +270,8 @@ module _ (members : List Member) where
           no_rivals None e = refl
           no_rivals (Some rivals) e = absurd (cc (e))
 
-  pub contested_is : (c : ContestedPath) → first_contested_path_of_members members ≡ Some c → IsFirstContestedPath members c.path (member_name_at_place members c.rivals.first) (member_name_at_place members c.rivals.second)
-  unfolding first_contested_path_of_members first_contested_path
+  pub contested_is : (c : ContestedPath) → first_contested_member_path_in_byte_order members ≡ Some c → IsFirstContestedPath members c.path (member_name_at_place members c.rivals.first) (member_name_at_place members c.rivals.second)
+  unfolding first_contested_member_path_in_byte_order first_contested_path
   contested_is c e = by_path (first_path_without_owner (member_beats members) (claims_in members)) refl e
     where
       by_rivals : (path : List ℕ) → first_path_without_owner (member_beats members) (claims_in members) ≡ Some path → (o : Option Rivals) → first_with_unbeaten_rival (member_beats members) (claimants (claims_in members) path) ≡ o

@@ -7,7 +7,7 @@ use Rattle.base_core.specs.declared.cause.Cause.{Cause}
 use Rattle.outcome.specs.change_inputs.Chains.{and_then, with_error_as_refusal, unless_cause}
 use Rattle.outcome.specs.change_inputs.Database.{payload_database, root_database}
 use Rattle.outcome.specs.change_inputs.Indexes.{file_or_index_missing, index_files_from, index_in_file, indexes_in_files}
-use Rattle.outcome.specs.change_inputs.Inputs.{Root, database_read_number, first_index_read_number, index_reads_from, indexes_of, inputs_from_parts, inputs_of, root_from_parts, root_for, text_database_read_number, world_read_number}
+use Rattle.outcome.specs.change_inputs.Inputs.{Root, database_read_number, first_index_read_number, index_reads_from, indexes_of, inputs_from_parts, inputs_of, root_with_new_world_of_command, root_for, text_database_read_number, world_read_number}
 use Rattle.outcome.specs.change_inputs.Repositories.{repositories_if_untrusted_allowed, root_repositories}
 use Rattle.outcome.specs.change_inputs.World.{root_world, found_text_or_empty}
 use Rattle.command_core.specs.Command.{CommandLine}
@@ -21,13 +21,13 @@ use Rattle.outcome.specs.v2_core.Payload.{payload_of_text}
 use Rattle.outcome.specs.v2_core.declared.read.V2Fault.{V2Fault}
 use Rattle.outcome.specs.v2_core.declared.read.V2Fault.TheVariants.{Bad, Memory, TooLarge}
 use Rattle.refusal_laws.specs.InputFaults.{IsIndexRead, repositories_file_text}
-use Rattle.refusal_laws.specs.ReadBefore.{AreEarlierIndexesSound, HasDatabaseAndWorld, HasDatabase, HasIndexes, HasIndexesBefore, AllowsUntrusted, HasPassedInputsBeforeRefusal}
+use Rattle.refusal_laws.specs.ReadBefore.{AreEarlierIndexesSound, HasDatabaseAndWorld, HasDatabase, HasIndexes, HasIndexesBefore, AllowsUntrusted, HasPassedTestsBeforeInputRefusal}
 use Rattle.refusal_laws.proofs.InputFaults.{as_err, cause_err, no_refusal, root_listed, world_then}
 use Rattle.refusal_laws.proofs.Lists.{and_then_err, and_then_ok}
 
 module _ (command : CommandLine) (read : Reads) where
   abbrev IsSo : Refusal → Type 0
-  IsSo refusal = HasPassedInputsBeforeRefusal command read refusal
+  IsSo refusal = HasPassedTestsBeforeInputRefusal command read refusal
 
   payload_told : (payload : Result (List ℕ) V2Fault) (refusal : Refusal) → payload_database payload ≡ Err refusal → IsSo refusal
   payload_told (Ok payload) refusal e = absurd (cc (e))
@@ -64,9 +64,9 @@ module _ (command : CommandLine) (read : Reads) where
         | inr next ↦ elim (and_then_err (root_world (found_text_or_empty (read world_read_number world_name))) (world_then command read next.0) refusal next.2) [
           | inl second ↦ world_told refusal (next.0, next.1) second
           | inr third ↦ elim (and_then_err (root_repositories command.flags.allow_untrusted (repositories_file_text read)) (λ repositories.
-              Ok (root_from_parts command next.0 (found_text_or_empty (read world_read_number world_name)) third.0 repositories)) refusal third.2) [
+              Ok (root_with_new_world_of_command command next.0 (found_text_or_empty (read world_read_number world_name)) third.0 repositories)) refusal third.2) [
                 | inl last ↦ repositories_told refusal ((next.0, next.1), (third.0, third.1)) last
-                | inr done ↦ absurd (no_refusal (root_from_parts command next.0 (found_text_or_empty (read world_read_number world_name)) third.0 done.0) refusal done.2)
+                | inr done ↦ absurd (no_refusal (root_with_new_world_of_command command next.0 (found_text_or_empty (read world_read_number world_name)) third.0 done.0) refusal done.2)
               ]
         ]
       ]
@@ -100,8 +100,8 @@ module _ (command : CommandLine) (read : Reads) where
       and_then (root_world (found_text_or_empty (read world_read_number world_name))) (world_then command read database)) root e in
       let world = and_then_ok (root_world (found_text_or_empty (read world_read_number world_name))) (world_then command read database.0) root database.2 in
       let listed = and_then_ok (root_repositories command.flags.allow_untrusted (repositories_file_text read)) (λ repositories.
-      Ok (root_from_parts command database.0 (found_text_or_empty (read world_read_number world_name)) world.0 repositories)) root world.2 in
-      let same : root_from_parts command database.0 (found_text_or_empty (read world_read_number world_name)) world.0 listed.0 ≡ root = (let last = listed.2 in cc) in
+      Ok (root_with_new_world_of_command command database.0 (found_text_or_empty (read world_read_number world_name)) world.0 repositories)) root world.2 in
+      let same : root_with_new_world_of_command command database.0 (found_text_or_empty (read world_read_number world_name)) world.0 listed.0 ≡ root = (let last = listed.2 in cc) in
       leave_then listed.0 listed.1 repository others (ap (λ (x : Root). x.repositories) same ∙ is)
 
   -- ---- the indexes
@@ -270,7 +270,7 @@ module _ (command : CommandLine) (read : Reads) where
           | inr next ↦ bad_told next.0 refusal next.1 (first_bad first_index_read_number 1 root.repositories next.0 refusal next.1 next.2)
         ]
 
-  pub read_before : (refusal : Refusal) → inputs_of command read ≡ Err refusal → HasPassedInputsBeforeRefusal command read refusal
+  pub read_before : (refusal : Refusal) → inputs_of command read ≡ Err refusal → HasPassedTestsBeforeInputRefusal command read refusal
   unfolding inputs_of
   read_before refusal e =
       elim (and_then_err (root_for command read) (λ root. and_then (indexes_of read root.repositories) (λ indexes. Ok (inputs_from_parts root indexes))) refusal e) [

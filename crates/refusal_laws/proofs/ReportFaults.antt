@@ -20,7 +20,7 @@ use Rattle.root_names.specs.RootNames.{database_name, text_database_name}
 use Rattle.outcome.specs.tell_core.AuditResult.{audit_of, audit_result, manifest_report_or_refusal, manifest_result}
 use Rattle.outcome.specs.tell_core.QueryResult.{query_report_or_refusal, query_result}
 use Rattle.refusal_laws.specs.InfoFaults.{IsPackageAskedFor, IsFaultOfDatabase, IsFaultOfInfo, IsFirstNotInstalled, IsFoundInstalled}
-use Rattle.refusal_laws.specs.QueryFaults.{HasTooManyCandidates, IsFaultOfQuery}
+use Rattle.refusal_laws.specs.QueryFaults.{HasTooManyCandidates, IsFaultOfInputOrTooManyCandidates}
 use Rattle.refusal_laws.proofs.CommandFaults.{pool_fault}
 use Rattle.refusal_laws.proofs.InfoFaults.{database_fault}
 use Rattle.refusal_laws.proofs.InfoOperands.{named_there, none_named_there}
@@ -136,7 +136,7 @@ module _ (command : CommandLine) (read : Reads) where
         | inr next ↦ absurd (no_refusal _ refusal next.2)
       ]
 
-  pub query_fault : (refusal : Refusal) → query_result command read ≡ Err refusal → IsFaultOfQuery command read refusal
+  pub query_fault : (refusal : Refusal) → query_result command read ≡ Err refusal → IsFaultOfInputOrTooManyCandidates command read refusal
   query_fault refusal e =
       elim (and_then_err (inputs_of command read) (query_report_or_refusal command) refusal e) [
         | inl first ↦ inl (input_fault command read refusal first)

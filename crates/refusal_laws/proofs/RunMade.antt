@@ -11,7 +11,7 @@ use Rattle.outcome.specs.Commands.{reads_in}
 use Rattle.outcome.specs.Outcome.{Outcome, just_refusal}
 use Rattle.report_core.specs.declared.refusal.Refusal.{Refusal}
 use Rattle.report_core.specs.declared.refusal.Refusal.TheVariants.{Unsatisfied}
-use Rattle.refusal_laws.specs.RunMade.{HasFaultlessFirstPreferredSelection}
+use Rattle.refusal_laws.specs.RunMade.{HasFirstSelectionFaultlessExceptLimits}
 use Rattle.refusal_laws.proofs.CommandFaults.{kept_done}
 use Rattle.refusal_laws.proofs.PackagesAfter.{selected_ones}
 use Rattle.refusal_laws.proofs.TestsPassed.{change_made}
@@ -23,7 +23,7 @@ ended : (command : CommandLine) (files : Files) (s : InputsAndReplacement) (c : 
 ended command files s (Ok done) o end none = (done, refl)
 ended command files s (Err refusal) o end none = absurd (not_refused files o refusal end.1 none)
 
-takes_first : (command : CommandLine) (files : Files) (o : Outcome) → o.refusal ≡ None → command.flags.simulate ≡ false → TakesFirstPreferredSelection command files o → HasFaultlessFirstPreferredSelection command files
+takes_first : (command : CommandLine) (files : Files) (o : Outcome) → o.refusal ≡ None → command.flags.simulate ≡ false → TakesFirstPreferredSelection command files o → HasFirstSelectionFaultlessExceptLimits command files
 takes_first command files o none off takes =
     let s : InputsAndReplacement = takes.selected in
     let clash = subst (λ (x : Result InputsAndReplacement Refusal). IsFirstClashUnlessRefused command (reads_in files) files x takes.clash) takes.selects takes.is_clash in
@@ -46,7 +46,7 @@ takes_first command files o none off takes =
       no_fault = made.2;
     }
 
-pub first_selected : (command : CommandLine) (files : Files) (o : Outcome) → IsChangeEnd command files o → o.refusal ≡ None → command.flags.simulate ≡ false → HasFaultlessFirstPreferredSelection command files
+pub first_selected : (command : CommandLine) (files : Files) (o : Outcome) → IsChangeEnd command files o → o.refusal ≡ None → command.flags.simulate ≡ false → HasFirstSelectionFaultlessExceptLimits command files
 first_selected command files o (inl input) none off = absurd (not_refused files o input.refusal input.outcome none)
 first_selected command files o (inr (inl unsatisfied)) none off = absurd (not_refused files o Unsatisfied unsatisfied.outcome none)
 first_selected command files o (inr (inr takes)) none off = takes_first command files o none off takes

@@ -47,7 +47,7 @@ pub record IsFileReadForAddedPackage (inputs : Inputs) (r : Replacement) (read :
       inputs.root.repositories candidate ≡ file
 
 -- a file passes all tests, and the package in it has the candidate's id, name and version
-pub record IsSoundFileOfCandidate (c : Candidate) (file : List ℕ) : Type 0 where
+pub record IsSoundFileWithIdNameAndVersionOf (c : Candidate) (file : List ℕ) : Type 0 where
   -- the file passes all tests
   pub sound : package_fault file ≡ None
   -- the package in the file has the candidate's id
@@ -66,6 +66,6 @@ pub record IsAddedAsSelected (inputs : Inputs) (r : Replacement) (read : Reads) 
   pub file : List ℕ
   pub is_read : IsFileReadForAddedPackage inputs r read name version (Some file)
   -- the package in the file has the id, the name and the version of the candidate
-  pub as_selected : IsSoundFileOfCandidate is_read.candidate file
+  pub as_selected : IsSoundFileWithIdNameAndVersionOf is_read.candidate file
   -- the package is the one in the file
   pub is_package : pkg ≡ package_in_file file

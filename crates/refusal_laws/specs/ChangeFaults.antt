@@ -9,7 +9,7 @@ use Rattle.base_core.specs.Files.{Files}
 use Rattle.outcome.specs.change_files.FileChange.{FileChange}
 use Rattle.outcome.specs.change_files.NamesAfter.{added_paths, name_change}
 use Rattle.outcome.specs.change_inputs.Inputs.{Inputs}
-use Rattle.outcome.specs.change_outcome.ChangeOutcome.{ChangeWishes, intent_of_change, members_after_change, file_change, database_and_world_after_change, touched_paths}
+use Rattle.outcome.specs.change_outcome.ChangeOutcome.{ChangeWishes, intent_of_change, members_after_change, packages_before_and_after_with_purge, database_and_world_after_change, touched_paths}
 use Rattle.outcome.specs.change_outcome.MembersAfter.{MemberFound, found_members}
 use Rattle.outcome.specs.change_outcome.PackageFiles.{has_script_with_number}
 use Rattle.report_core.specs.Numbers.{TRIGGER_SCRIPT}
@@ -115,7 +115,7 @@ IsDatabaseTooLarge members bytes values =
 
 -- the new database fits the limits of the writer, and the intent of the change exceeds one at these numbers of bytes
 -- and values
-pub record IsIntentTooLarge (inputs : Inputs) (change : FileChange) (files : Files)
+pub record IsOnlyIntentTooLarge (inputs : Inputs) (change : FileChange) (files : Files)
     (bytes values : ℕ) : Type 0 where
   -- the bytes of the new database, which fits the limits
   pub database : List ℕ
@@ -126,10 +126,10 @@ pub record IsIntentTooLarge (inputs : Inputs) (change : FileChange) (files : Fil
       IsTooLarge (value_of_intent actions) bytes values)
 
 -- what a change writes exceeds a limit of the writer: the new database, or, if that fits, the intent
-abbrev pub IsResultTooLarge : Inputs → FileChange → Files → ℕ → ℕ → Type 0
-IsResultTooLarge inputs change files bytes values =
+abbrev pub IsDatabaseOrIntentTooLarge : Inputs → FileChange → Files → ℕ → ℕ → Type 0
+IsDatabaseOrIntentTooLarge inputs change files bytes values =
     IsDatabaseTooLarge change.members bytes values
-    ⊎ IsIntentTooLarge inputs change files bytes values
+    ⊎ IsOnlyIntentTooLarge inputs change files bytes values
 
 -- ---- each refusal
 
@@ -138,14 +138,15 @@ abbrev pub IsFaultOfFiles : Inputs → ChangeWishes → Files → List MemberFou
 IsFaultOfFiles inputs wishes files found (Reserved path) =
     IsFirstReservedAddedPath (found_members found) path
 IsFaultOfFiles inputs wishes files found (PathClash path other) =
-    IsFirstClash (name_change (file_change inputs wishes found) files) files
+    IsFirstClash (name_change (packages_before_and_after_with_purge inputs wishes found) files) files
     (record { path = path; other = other })
 IsFaultOfFiles inputs wishes files found (Owned path first second) =
     IsFirstContestedPath (found_members found) path first second
 IsFaultOfFiles inputs wishes files found (TriggerNeeded name) =
-    IsTriggerDueAndNotSkipped wishes (file_change inputs wishes found) files name
+    IsTriggerDueAndNotSkipped wishes (packages_before_and_after_with_purge inputs wishes found) files name
 IsFaultOfFiles inputs wishes files found (ResultTooLarge bytes values) =
-    IsResultTooLarge inputs (file_change inputs wishes found) files bytes values
+    IsDatabaseOrIntentTooLarge inputs
+    (packages_before_and_after_with_purge inputs wishes found) files bytes values
 IsFaultOfFiles inputs wishes files found other = ⊥
 
 -- a refusal is true of a package that the change adds or removes

@@ -18,18 +18,18 @@ use Rattle.report_core.specs.declared.refusal.Refusal.{Refusal}
 use Rattle.report_core.specs.declared.refusal.Refusal.TheVariants.{NotInstalled, TooMany, Unsatisfied}
 use Rattle.outcome.specs.search_tables.Selection.{IsSatisfying}
 use Rattle.refusal_laws.specs.ChangeFaults.{IsFaultOfChange}
-use Rattle.refusal_laws.specs.InputFaults.{IsCountReportedAsTooMany, IsFaultOfInput}
+use Rattle.refusal_laws.specs.InputFaults.{AreTooManyAndCountIsLimitPlusOne, IsFaultOfInput}
 
 -- ---- a selection
 
 -- a command with this applet does not know a name: `del` needs one that is in world or installed, `upgrade` and `fix`
 -- one that is installed; other commands know all names
-abbrev pub IsNameUnknownToApplet : Applet → Inputs → List ℕ → Type 0
-IsNameUnknownToApplet Del inputs name =
+abbrev pub IsNameUnknownToDelUpgradeOrFix : Applet → Inputs → List ℕ → Type 0
+IsNameUnknownToDelUpgradeOrFix Del inputs name =
     (has_dependency_named name inputs.root.world ≡ false) × (is_installed_name inputs name ≡ false)
-IsNameUnknownToApplet Upgrade inputs name = is_installed_name inputs name ≡ false
-IsNameUnknownToApplet Fix inputs name = is_installed_name inputs name ≡ false
-IsNameUnknownToApplet applet inputs name = ⊥
+IsNameUnknownToDelUpgradeOrFix Upgrade inputs name = is_installed_name inputs name ≡ false
+IsNameUnknownToDelUpgradeOrFix Fix inputs name = is_installed_name inputs name ≡ false
+IsNameUnknownToDelUpgradeOrFix applet inputs name = ⊥
 
 -- the operand at this place of the command line is a name that the command does not know
 pub record IsUnknownOperand (command : CommandLine) (inputs : Inputs) (place : ℕ) : Type 0 where
@@ -39,7 +39,7 @@ pub record IsUnknownOperand (command : CommandLine) (inputs : Inputs) (place : �
   -- the operand has this place in the command line
   pub at : operand.place ≡ place
   -- the command does not know the operand's text as a name
-  pub unknown : IsNameUnknownToApplet command.applet inputs operand.text
+  pub unknown : IsNameUnknownToDelUpgradeOrFix command.applet inputs operand.text
 
 -- no selection of the candidates satisfies the new world
 pub record IsNewWorldUnsatisfiable (command : CommandLine) (inputs : Inputs) : Type 0 where
@@ -52,7 +52,7 @@ pub record IsNewWorldUnsatisfiable (command : CommandLine) (inputs : Inputs) : T
 -- a refusal is true that is tested after the root is read and before package files are: of the number of candidates, an
 -- operand, or the new world
 abbrev pub IsFaultOfSelection : CommandLine → Inputs → Refusal → Type 0
-IsFaultOfSelection command inputs (TooMany count) = IsCountReportedAsTooMany inputs count
+IsFaultOfSelection command inputs (TooMany count) = AreTooManyAndCountIsLimitPlusOne inputs count
 IsFaultOfSelection command inputs (NotInstalled place) = IsUnknownOperand command inputs place
 IsFaultOfSelection command inputs Unsatisfied = IsNewWorldUnsatisfiable command inputs
 IsFaultOfSelection command inputs other = ⊥
@@ -67,18 +67,18 @@ IsSelectionRefused command read refusal =
 
 -- the candidates at the places `chosen` are selected, the change is not simulated, and the refusal is true of this
 -- change
-abbrev pub IsFaultOfUnsimulatedChangeOfChosen :
+abbrev pub IsFaultOfUnsimulatedChangeByCandidatePlaces :
     CommandLine → Reads → Files → Option (List ℕ) → Refusal → Type 0
-IsFaultOfUnsimulatedChangeOfChosen command read files chosen refusal =
+IsFaultOfUnsimulatedChangeByCandidatePlaces command read files chosen refusal =
     (s : InputsAndReplacement) × (selected_from_reads_by_choice command read chosen ≡ Ok s)
     × (command.flags.simulate ≡ false)
     × IsFaultOfChange s.inputs s.replacement (wishes_of command) read files refusal
 
 -- a refusal of the command is true: of an input, of the selection, or of the change. `chosen` has the places of the
 -- candidates of the first preferred selection, if there is one
-abbrev pub IsFaultOfCommandWithChosenCandidates : CommandLine → Reads → Files → Option (List ℕ) → Refusal
+abbrev pub IsFaultOfCommandByCandidatePlaces : CommandLine → Reads → Files → Option (List ℕ) → Refusal
     → Type 0
-IsFaultOfCommandWithChosenCandidates command read files chosen refusal =
+IsFaultOfCommandByCandidatePlaces command read files chosen refusal =
     IsFaultOfInput command read refusal
     ⊎ (IsSelectionRefused command read refusal
-    ⊎ IsFaultOfUnsimulatedChangeOfChosen command read files chosen refusal)
+    ⊎ IsFaultOfUnsimulatedChangeByCandidatePlaces command read files chosen refusal)

@@ -108,7 +108,7 @@ IsFaultOfInput command read other = ⊥
 -- ---- too many
 
 -- there are more candidates than the limit, and `count`, which the refusal reports, is the limit and 1
-pub record IsCountReportedAsTooMany (inputs : Inputs) (count : ℕ) : Type 0 where
+pub record AreTooManyAndCountIsLimitPlusOne (inputs : Inputs) (count : ℕ) : Type 0 where
   -- there are more candidates than the limit
   pub more : MOST_CANDIDATES < length (candidates_of inputs)
   -- the refusal reports the limit and 1, not the number of candidates

@@ -9,12 +9,12 @@ use Rattle.outcome.specs.engine_core.Selecting.{pool_of_inputs}
 use Rattle.outcome.specs.candidate_core.Rank.{SealedPool}
 use Rattle.report_core.specs.declared.refusal.Refusal.{Refusal}
 use Rattle.report_core.specs.declared.refusal.Refusal.TheVariants.{NotInstalled, Unsatisfied}
-use Rattle.refusal_laws.specs.CommandFaults.{IsNameUnknownToApplet}
+use Rattle.refusal_laws.specs.CommandFaults.{IsNameUnknownToDelUpgradeOrFix}
 
--- the command knows the name of each of these operands, as *IsNameUnknownToApplet* says for its applet
+-- the command knows the name of each of these operands, as *IsNameUnknownToDelUpgradeOrFix* says for its applet
 abbrev pub AreKnownOperands : CommandLine → Inputs → List Operand → Type 0
 AreKnownOperands command inputs operands =
-    (o : Operand) → IsIn o operands → IsNameUnknownToApplet command.applet inputs o.text → ⊥
+    (o : Operand) → IsIn o operands → IsNameUnknownToDelUpgradeOrFix command.applet inputs o.text → ⊥
 
 -- each operand of the command before the one at this place is known to the command (*IsUnknownOperand* says that this
 -- one is not)

@@ -55,8 +55,8 @@ HasOtherVersion c pkg wanted found =
 
 -- `field` is the first field in which the package in a file differs from the candidate, in the order id, name, version.
 -- `wanted` is its value in the index, and `found` that in the file
-abbrev pub IsFirstFieldThatDiffers : Candidate → AddedPackage → ℕ → List ℕ → List ℕ → Type 0
-IsFirstFieldThatDiffers c pkg field wanted found =
+abbrev pub IsFirstOfIdNameVersionThatDiffers : Candidate → AddedPackage → ℕ → List ℕ → List ℕ → Type 0
+IsFirstOfIdNameVersionThatDiffers c pkg field wanted found =
     ((field ≡ HASHES_FIELD) × HasOtherId c pkg wanted found)
     ⊎ (((field ≡ NAME_FIELD) × (is_same_id c.id pkg.id ≡ true) × HasOtherName c pkg wanted found)
     ⊎ ((field ≡ VERSION_FIELD) × (is_same_id c.id pkg.id ≡ true) × (c.name ≡ package_name pkg.value)
@@ -72,7 +72,7 @@ pub record IsFileOfOtherPackage (inputs : Inputs) (r : Replacement) (read : Read
   -- the file passes all tests
   pub sound : package_fault file ≡ None
   -- this field of the package in the file differs from the candidate's
-  pub other : IsFirstFieldThatDiffers is_read.candidate (package_in_file file) field wanted found
+  pub other : IsFirstOfIdNameVersionThatDiffers is_read.candidate (package_in_file file) field wanted found
 
 -- ---- scripts
 

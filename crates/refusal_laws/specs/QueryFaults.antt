@@ -6,7 +6,7 @@ use Rattle.command_core.specs.Command.{CommandLine}
 use Rattle.outcome.specs.make_info.Reads.{Reads}
 use Rattle.report_core.specs.declared.refusal.Refusal.{Refusal}
 use Rattle.report_core.specs.declared.refusal.Refusal.TheVariants.{TooMany}
-use Rattle.refusal_laws.specs.InputFaults.{IsCountReportedAsTooMany, IsFaultOfInput}
+use Rattle.refusal_laws.specs.InputFaults.{AreTooManyAndCountIsLimitPlusOne, IsFaultOfInput}
 
 -- the inputs are read, and a refusal reports that they have more candidates than a pool holds
 pub record HasTooManyCandidates (command : CommandLine) (read : Reads) (refusal : Refusal)
@@ -16,11 +16,11 @@ pub record HasTooManyCandidates (command : CommandLine) (read : Reads) (refusal 
   pub are_inputs : inputs_of command read ≡ Ok inputs
   -- the number that the refusal reports
   pub count : ℕ
-  pub too_many : IsCountReportedAsTooMany inputs count
+  pub too_many : AreTooManyAndCountIsLimitPlusOne inputs count
   -- the refusal is *TooMany* with this number
   pub is : refusal ≡ TooMany count
 
 -- a refusal of a query is true: of an input; or, if all inputs are read, it is that there are too many candidates
-abbrev pub IsFaultOfQuery : CommandLine → Reads → Refusal → Type 0
-IsFaultOfQuery command read refusal =
+abbrev pub IsFaultOfInputOrTooManyCandidates : CommandLine → Reads → Refusal → Type 0
+IsFaultOfInputOrTooManyCandidates command read refusal =
     IsFaultOfInput command read refusal ⊎ HasTooManyCandidates command read refusal

@@ -56,12 +56,12 @@ AreEarlierIndexesSound read number =
 -- What was read without a refusal before this refusal of an input. The order is: the database, world, the list of
 -- repositories, which `--allow-untrusted` must allow, and last their indexes. All indexes are looked up, in the order
 -- of their numbers, before the first of them is tested.
-abbrev pub HasPassedInputsBeforeRefusal : CommandLine → Reads → Refusal → Type 0
-HasPassedInputsBeforeRefusal command read (WorldBad line) = HasDatabase command read
-HasPassedInputsBeforeRefusal command read (RepositoriesBad line) = HasDatabaseAndWorld command read
-HasPassedInputsBeforeRefusal command read Untrusted = HasDatabaseAndWorld command read
-HasPassedInputsBeforeRefusal command read (IndexMissing number) =
+abbrev pub HasPassedTestsBeforeInputRefusal : CommandLine → Reads → Refusal → Type 0
+HasPassedTestsBeforeInputRefusal command read (WorldBad line) = HasDatabase command read
+HasPassedTestsBeforeInputRefusal command read (RepositoriesBad line) = HasDatabaseAndWorld command read
+HasPassedTestsBeforeInputRefusal command read Untrusted = HasDatabaseAndWorld command read
+HasPassedTestsBeforeInputRefusal command read (IndexMissing number) =
     AllowsUntrusted command read × HasIndexesBefore read number
-HasPassedInputsBeforeRefusal command read (IndexBad number cause) =
+HasPassedTestsBeforeInputRefusal command read (IndexBad number cause) =
     AllowsUntrusted command read × HasIndexes read × AreEarlierIndexesSound read number
-HasPassedInputsBeforeRefusal command read other = Unit {0}
+HasPassedTestsBeforeInputRefusal command read other = Unit {0}

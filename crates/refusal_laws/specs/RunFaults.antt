@@ -12,7 +12,7 @@ use Rattle.outcome.specs.Commands.{reads_in}
 use Rattle.outcome.specs.Work.{fault_of_intent}
 use Rattle.report_core.specs.declared.refusal.Refusal.{Refusal}
 use Rattle.report_core.specs.declared.refusal.Refusal.TheVariants.{IntentBad}
-use Rattle.refusal_laws.specs.CommandFaults.{IsFaultOfCommandWithChosenCandidates}
+use Rattle.refusal_laws.specs.CommandFaults.{IsFaultOfCommandByCandidatePlaces}
 
 -- a refusal of the command is true over the files on which it works after recovery, with the candidates of the first
 -- preferred selection
@@ -22,7 +22,7 @@ pub record IsFaultOfCommandOverFiles (command : CommandLine) (files : Files)
   pub chosen : Option (List ℕ)
   pub choice : IsPreferredChoiceUnlessRefused (pool_of_command command (reads_in files)) chosen
   -- the refusal of the command is true for these candidates
-  pub fault : IsFaultOfCommandWithChosenCandidates command (reads_in files) files chosen refusal
+  pub fault : IsFaultOfCommandByCandidatePlaces command (reads_in files) files chosen refusal
 
 -- the intent (journal entry) among these files fails a test, and the refusal reports the first such test
 pub record IsIntentRefusal (files : Files) (refusal : Refusal) : Type 0 where

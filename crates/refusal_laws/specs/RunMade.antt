@@ -2,7 +2,7 @@
 -- "Which selection is taken", and in `docs/commands.md`, "What a change does with files".
 use Rattle.std.specs.Prelude.{◌≡◌, ℕ, List, Some, Ok}
 use Rattle.base_core.specs.Files.{Files}
-use Rattle.outcome.specs.change_outcome.ChangeOutcome.{members_after_change, file_change}
+use Rattle.outcome.specs.change_outcome.ChangeOutcome.{members_after_change, packages_before_and_after_with_purge}
 use Rattle.outcome.specs.change_outcome.MembersAfter.{MemberFound}
 use Rattle.command_core.specs.Command.{CommandLine}
 use Rattle.outcome.specs.engine_core.Changed.{InputsAndReplacement, selected_from_reads_by_choice}
@@ -17,7 +17,7 @@ use Rattle.refusal_laws.specs.TestsPassed.{PassesChangeTestsExceptLimits}
 
 -- a run has taken the first preferred selection: there is one, the packages after the change are exactly the selected
 -- ones, and the files that they leave have no fault
-pub record HasFaultlessFirstPreferredSelection (command : CommandLine) (files : Files) : Type 0 where
+pub record HasFirstSelectionFaultlessExceptLimits (command : CommandLine) (files : Files) : Type 0 where
   -- the candidates of the command, under its new world
   pub pool : SealedPool
   pub is_pool : pool_of_command command (reads_in files) ≡ Ok pool
@@ -40,5 +40,5 @@ pub record HasFaultlessFirstPreferredSelection (command : CommandLine) (files : 
   -- the files that they leave pass all tests, except those of the writer's limits
   pub no_fault :
       PassesChangeTestsExceptLimits (wishes_of command)
-      (file_change selected.inputs (wishes_of command) found)
+      (packages_before_and_after_with_purge selected.inputs (wishes_of command) found)
       files

@@ -5,7 +5,7 @@
 ghost use Rattle.std.specs.Prelude.{◌≡◌, ℕ, false, true, Err, List, None, Ok, Option, Some};
 ghost use Rattle.base_core.specs.Files.{Files};
 ghost use Rattle.outcome.specs.change_inputs.Inputs.{Inputs, inputs_of};
-ghost use Rattle.outcome.specs.change_outcome.ChangeOutcome.{ChangeDone, ChangeWishes, IsFirstClashOfChange, members_after_change, change_or_refusal, file_change};
+ghost use Rattle.outcome.specs.change_outcome.ChangeOutcome.{ChangeDone, ChangeWishes, IsFirstClashOfChange, members_after_change, change_or_refusal, packages_before_and_after_with_purge};
 ghost use Rattle.outcome.specs.change_outcome.MembersAfter.{MemberFound};
 ghost use Rattle.command_core.specs.Command.{CommandLine};
 ghost use Rattle.outcome.specs.engine_core.Changed.{IsFirstClashOfCommand, change_of_command, selected_from_inputs_by_choice};
@@ -23,17 +23,17 @@ ghost use Rattle.outcome.specs.package_changes.Changes.{Replacement};
 ghost use Rattle.outcome.specs.path_clashes.Clash.{NamePair};
 ghost use Rattle.report_core.specs.declared.refusal.Refusal.{Refusal};
 ghost use Rattle.refusal_laws.specs.ChangeFaults.{IsFaultOfChange, IsFaultOfPackage};
-ghost use Rattle.refusal_laws.specs.CommandFaults.{IsFaultOfCommandWithChosenCandidates};
-ghost use Rattle.refusal_laws.specs.FirstPackage.{IsRefusalOfFirstFaultyPackage};
+ghost use Rattle.refusal_laws.specs.CommandFaults.{IsFaultOfCommandByCandidatePlaces};
+ghost use Rattle.refusal_laws.specs.FirstPackage.{HasNoEarlierFaultyPackageOrOtherFault};
 ghost use Rattle.refusal_laws.specs.InfoFaults.{AreOperandsFoundInstalled, IsFaultOfDatabase, IsFaultOfInfo, IsFaultOfOperandNotInstalled};
 ghost use Rattle.refusal_laws.specs.InputFaults.{IsFaultOfInput};
 ghost use Rattle.refusal_laws.specs.MadeTooLarge.{IsPackageToBeMadeTooLarge};
 ghost use Rattle.refusal_laws.specs.OperandsKnown.{HasPassedTestsBeforeSelectionRefusal};
 ghost use Rattle.refusal_laws.specs.PackagesAfter.{AreSelectedMembers};
-ghost use Rattle.refusal_laws.specs.QueryFaults.{IsFaultOfQuery};
-ghost use Rattle.refusal_laws.specs.ReadBefore.{HasPassedInputsBeforeRefusal};
+ghost use Rattle.refusal_laws.specs.QueryFaults.{IsFaultOfInputOrTooManyCandidates};
+ghost use Rattle.refusal_laws.specs.ReadBefore.{HasPassedTestsBeforeInputRefusal};
 ghost use Rattle.refusal_laws.specs.RunFaults.{IsFaultOfRun, IsFaultOfCommandOverFiles};
-ghost use Rattle.refusal_laws.specs.RunMade.{HasFaultlessFirstPreferredSelection};
+ghost use Rattle.refusal_laws.specs.RunMade.{HasFirstSelectionFaultlessExceptLimits};
 ghost use Rattle.refusal_laws.specs.TestsPassed.{HasPassedFileTestsBeforeRefusal, PassesChangeTestsExceptLimits};
 ghost use Rattle.outcome.specs.tell_core.AuditResult.{audit_result, manifest_result};
 ghost use Rattle.outcome.specs.tell_core.InfoResult.{info_result};
@@ -50,7 +50,8 @@ pub fn a_refused_input_has_its_fault()
         → inputs_of command read ≡ Err refusal → IsFaultOfInput command read refusal }
     // The inputs that precede the refused one in this order were read, and have no fault.
     ensures order { (command : CommandLine) (read : Reads) (refusal : Refusal)
-        → inputs_of command read ≡ Err refusal → HasPassedInputsBeforeRefusal command read refusal }
+        → inputs_of command read ≡ Err refusal
+        → HasPassedTestsBeforeInputRefusal command read refusal }
 {}
 
 /// If `info` is refused, it is for a fault of the database, or for the first operand that asks for
@@ -89,7 +90,8 @@ pub fn a_refused_manifest_has_its_fault()
 /// for more candidates than a pool holds.
 pub fn a_refused_query_has_its_fault()
     ensures { (command : CommandLine) (read : Reads) (refusal : Refusal)
-        → query_result command read ≡ Err refusal → IsFaultOfQuery command read refusal }
+        → query_result command read ≡ Err refusal
+        → IsFaultOfInputOrTooManyCandidates command read refusal }
 {}
 
 /// If a change is refused, the refusal is true: of an added or removed package, or of the files
@@ -127,7 +129,7 @@ pub fn a_refused_command_has_its_fault()
         → change_of_command command read files chosen clash ≡ Err refusal
         → IsPreferredChoiceUnlessRefused (pool_of_command command read) chosen
         → IsFirstClashOfCommand command read files chosen clash
-        → IsFaultOfCommandWithChosenCandidates command read files chosen refusal }
+        → IsFaultOfCommandByCandidatePlaces command read files chosen refusal }
 {}
 
 /// A refusal of the selection follows the tests before it. An operand is refused as not installed
@@ -148,7 +150,8 @@ pub fn a_refused_change_has_passed_the_tests_before()
         → members_after_change inputs r wishes read ≡ Ok found
         → change_or_refusal inputs r wishes read clash files ≡ Err refusal
         → IsFirstClashOfChange inputs r wishes read files clash
-        → HasPassedFileTestsBeforeRefusal wishes (file_change inputs wishes found) files refusal }
+        → HasPassedFileTestsBeforeRefusal wishes
+        (packages_before_and_after_with_purge inputs wishes found) files refusal }
 {}
 
 /// If the packages after a change are found, no added or removed package has a fault. A change that
@@ -166,7 +169,8 @@ pub fn a_change_that_is_made_has_no_fault()
         → change_or_refusal inputs r wishes read clash files ≡ Ok done
         → IsFirstClashOfChange inputs r wishes read files clash
         → (found : List MemberFound) × (members_after_change inputs r wishes read ≡ Ok found)
-        × PassesChangeTestsExceptLimits wishes (file_change inputs wishes found) files }
+        × PassesChangeTestsExceptLimits wishes
+        (packages_before_and_after_with_purge inputs wishes found) files }
 {}
 
 /// If an added or removed package is refused, it is the first one with a fault, in byte order of
@@ -174,7 +178,7 @@ pub fn a_change_that_is_made_has_no_fault()
 pub fn a_refused_package_is_the_first_with_a_fault()
     ensures { (inputs : Inputs) (r : Replacement) (wishes : ChangeWishes) (read : Reads)
         (refusal : Refusal) → members_after_change inputs r wishes read ≡ Err refusal
-        → IsRefusalOfFirstFaultyPackage inputs r wishes read refusal }
+        → HasNoEarlierFaultyPackageOrOtherFault inputs r wishes read refusal }
 {}
 
 /// The packages after a change are the selected ones. An added one is as in its file, with the
@@ -192,7 +196,7 @@ pub fn the_packages_after_a_run_are_those_of_the_first_selection()
     ensures { (command : CommandLine) (files : Files) (o : Outcome)
         → effect_of command.applet ≡ Changes → IsOutcomeOverRecoveredFiles command files o
         → o.refusal ≡ None
-        → command.flags.simulate ≡ false → HasFaultlessFirstPreferredSelection command files }
+        → command.flags.simulate ≡ false → HasFirstSelectionFaultlessExceptLimits command files }
 {
     // A law that the proof needs; it has no effect at run time.
     a_change_takes_the_first_selection_or_is_refused();

@@ -12,7 +12,7 @@ use Rattle.engine_core.specs.db_core.Members.{AreMembersInNameOrder, Member, lis
 use Rattle.engine_core.specs.db_core.OwnedListings.{HaveAtMostOneOwnerForEachPath, owned_listings}
 use Rattle.engine_core.specs.db_core.SoundMembers.{AreMembersOfSoundContainers, HaveOneOwnerPerPathAndNoneReserved}
 use Rattle.engine_core.specs.db_write.NewDatabase.{database_of, database_value, packages_in_new_database}
-use Rattle.engine_core.specs.change_files.PlanLists.{first_reserved_added_path}
+use Rattle.engine_core.specs.change_files.PlanLists.{first_reserved_added_path_in_byte_order}
 use Rattle.engine_core.specs.file_owners.Owners.{owned_flags_of}
 use Rattle.report_core.specs.declared.refusal.Refusal.TheVariants.{DatabaseBad}
 use Rattle.root_laws.specs.RootLeft.{database_of_members}
@@ -27,7 +27,7 @@ pub record WrittenLaws : Type 0 where
   pub packages : (members : List Member) (flags : List Bool) (bytes : List ℕ) → IsValidRootValueOfTable Idb (database_value members flags) → database_of members flags ≡ Ok bytes
       → entries_at 0 (root_value_of_payload Idb (payload_in bytes)) ≡ list_of (packages_in_new_database members flags)
 
-pub database_left : WrittenLaws → (members : List Member) (bytes : List ℕ) → AreMembersOfSoundContainers members → AreMembersInNameOrder members → first_reserved_added_path members ≡ None → database_of members (owned_flags_of members) ≡ Ok bytes
+pub database_left : WrittenLaws → (members : List Member) (bytes : List ℕ) → AreMembersOfSoundContainers members → AreMembersInNameOrder members → first_reserved_added_path_in_byte_order members ≡ None → database_of members (owned_flags_of members) ≡ Ok bytes
     → container_database bytes ≡ Ok (database_of_members members bytes)
 database_left laws members bytes sound order free written =
     let root : IsValidRootValueOfTable Idb (database_value members (owned_flags_of members)) =

@@ -7,7 +7,7 @@ use Rattle.base_core.specs.declared.cause.Cause.{Cause}
 use Rattle.engine_core.specs.change_inputs.Chains.{and_then, with_error_as_refusal, unless_cause}
 use Rattle.engine_core.specs.change_inputs.Database.{Database}
 use Rattle.engine_core.specs.change_inputs.Indexes.{file_or_index_missing, index_files_from, index_in_file, indexes_in_files, root_indexes}
-use Rattle.engine_core.specs.change_inputs.Inputs.{Inputs, Root, database_for, index_reads_from, first_index_read_number, indexes_of, inputs_from_parts, inputs_of, repositories_read_number, root_from_parts, root_for, world_read_number}
+use Rattle.engine_core.specs.change_inputs.Inputs.{Inputs, Root, database_for, index_reads_from, first_index_read_number, indexes_of, inputs_from_parts, inputs_of, repositories_read_number, root_with_new_world_of_command, root_for, world_read_number}
 use Rattle.engine_core.specs.change_inputs.Repositories.{repositories_if_untrusted_allowed, root_repositories}
 use Rattle.engine_core.specs.change_inputs.World.{root_world, found_text_or_empty}
 use Rattle.engine_core.specs.change_outcome.ChangeOutcome.{ChangeDone}
@@ -19,8 +19,8 @@ use Rattle.make_index.specs.make_info.Reads.{Reads}
 use Rattle.report_core.specs.declared.refusal.Refusal.{Refusal}
 use Rattle.report_core.specs.declared.refusal.Refusal.TheVariants.{IndexBad, RepositoriesBad}
 use Rattle.root_names.specs.RootNames.{repositories_name, world_name}
-use Rattle.root_laws.specs.NextInputs.{AreInputsOfRootLeft, IsRefusalOfRepositoriesOrIndex}
-use Rattle.root_laws.specs.RootLeft.{IsRootLeftByChange, ReadsDatabaseAndWorldOfFiles, database_of_members}
+use Rattle.root_laws.specs.NextInputs.{HasDatabaseAndWorldOfRootLeft, IsRefusalOfRepositoriesOrIndex}
+use Rattle.root_laws.specs.RootLeft.{IsRootLeftToLaterCommandsByChange, ReadsDatabaseAndWorldOfFiles, database_of_members}
 use Rattle.root_laws.proofs.SoundBefore.{inputs_parts}
 
 -- ---- inputs
@@ -29,8 +29,8 @@ one_answer : {A : Type 0} (r : Result A Refusal) (x y : A) → r ≡ Ok x → r 
 one_answer (Ok a) x y e h = (cc (e, h))
 one_answer (Err refusal) x y e h = absurd (cc (e))
 
-pub begins : (command later : CommandLine) (read next : Reads) (chosen : Option (List ℕ)) (done : ChangeDone) (left : IsRootLeftByChange command read chosen done) (inputs : Inputs)
-    → ReadsDatabaseAndWorldOfFiles done.files next → inputs_of later next ≡ Ok inputs → AreInputsOfRootLeft left inputs
+pub begins : (command later : CommandLine) (read next : Reads) (chosen : Option (List ℕ)) (done : ChangeDone) (left : IsRootLeftToLaterCommandsByChange command read chosen done) (inputs : Inputs)
+    → ReadsDatabaseAndWorldOfFiles done.files next → inputs_of later next ≡ Ok inputs → HasDatabaseAndWorldOfRootLeft left inputs
 begins command later read next chosen done left inputs reads e =
     let is = inputs_parts later next inputs e in
     record {
@@ -93,12 +93,12 @@ module _ (later : CommandLine) (next : Reads) (database : Database) (world : Lis
   root_fails =
       let text : List ℕ = found_text_or_empty (next world_read_number world_name) in
       let lines : List ℕ = found_text_or_empty (next repositories_read_number repositories_name) in
-      let after_world : List Dependency → Result Root Refusal = λ world. and_then (root_repositories later.flags.allow_untrusted lines) (λ repositories. Ok (root_from_parts later database text world repositories)) in
+      let after_world : List Dependency → Result Root Refusal = λ world. and_then (root_repositories later.flags.allow_untrusted lines) (λ repositories. Ok (root_with_new_world_of_command later database text world repositories)) in
       let after_database : Database → Result Root Refusal = λ database.
-      and_then (root_world text) (λ world. and_then (root_repositories later.flags.allow_untrusted lines) (λ repositories. Ok (root_from_parts later database text world repositories))) in
+      and_then (root_world text) (λ world. and_then (root_repositories later.flags.allow_untrusted lines) (λ repositories. Ok (root_with_new_world_of_command later database text world repositories))) in
       known_fails (database_for later next) after_database database has_database
       (known_fails (root_world text) after_world world has_world
-      (then_fails (root_repositories later.flags.allow_untrusted lines) (λ repositories. Ok (root_from_parts later database text world repositories)) (repositories_fail later.flags.allow_untrusted lines) (λ repositories. tt)))
+      (then_fails (root_repositories later.flags.allow_untrusted lines) (λ repositories. Ok (root_with_new_world_of_command later database text world repositories)) (repositories_fail later.flags.allow_untrusted lines) (λ repositories. tt)))
 
   inputs_fail : FailsOfRepositories (inputs_of later next)
   unfolding inputs_of
@@ -106,7 +106,7 @@ module _ (later : CommandLine) (next : Reads) (database : Database) (world : Lis
       then_fails (root_for later next) (λ root. and_then (indexes_of next root.repositories) (λ indexes. Ok (inputs_from_parts root indexes))) root_fails
       (λ root. then_fails (indexes_of next root.repositories) (λ indexes. Ok (inputs_from_parts root indexes)) (found_fail (index_reads_from next first_index_read_number root.repositories)) (λ indexes. tt))
 
-pub refused : (command later : CommandLine) (read next : Reads) (chosen : Option (List ℕ)) (done : ChangeDone) → IsRootLeftByChange command read chosen done → (refusal : Refusal)
+pub refused : (command later : CommandLine) (read next : Reads) (chosen : Option (List ℕ)) (done : ChangeDone) → IsRootLeftToLaterCommandsByChange command read chosen done → (refusal : Refusal)
     → ReadsDatabaseAndWorldOfFiles done.files next → inputs_of later next ≡ Err refusal → IsRefusalOfRepositoriesOrIndex refusal
 refused command later read next chosen done left refusal reads e =
     subst (λ (r : Result Inputs Refusal). FailsOfRepositories r) e

@@ -10,7 +10,7 @@ use Rattle.engine_core.specs.change_inputs.Inputs.{Inputs, inputs_of, text_datab
 use Rattle.engine_core.specs.change_inputs.World.{root_world, found_text_or_empty}
 use Rattle.engine_core.specs.change_outcome.Made.{IsChangeMade}
 use Rattle.engine_core.proofs.change_outcome.Made.{and_then_ok, made}
-use Rattle.engine_core.specs.change_outcome.ChangeOutcome.{ChangeDone, change_or_refusal, file_change, database_and_world_after_change}
+use Rattle.engine_core.specs.change_outcome.ChangeOutcome.{ChangeDone, change_or_refusal, packages_before_and_after_with_purge, database_and_world_after_change}
 use Rattle.engine_core.specs.change_outcome.MembersAfter.{found_package_contents, found_members}
 use Rattle.command_core.specs.Command.{CommandLine}
 use Rattle.engine_core.specs.Changed.{InputsAndReplacement, change_of_selected, change_of_command, selected_from_pool_by_choice, selected_from_reads_by_choice, selected_from_inputs_by_choice, simulated_change}
@@ -21,7 +21,7 @@ use Rattle.engine_core.specs.path_clashes.Clash.{NamePair}
 use Rattle.engine_core.specs.candidate_core.Rank.{SealedPool}
 use Rattle.report_core.specs.declared.refusal.Refusal.{Refusal}
 use Rattle.root_names.specs.RootNames.{database_name, text_database_name, world_name}
-use Rattle.root_laws.specs.RootLeft.{AreAllReadFilesBytes, IsRootLeftByChange}
+use Rattle.root_laws.specs.RootLeft.{AreAllReadFilesBytes, IsRootLeftToLaterCommandsByChange}
 use Rattle.root_laws.proofs.DatabaseLeft.{WrittenLaws, database_left}
 use Rattle.root_laws.proofs.MembersFound.{FilesMayCome, PackagesAreTested, members_ok}
 use Rattle.root_laws.proofs.NewWorld.{WorldsAreReadBack, root_world_left, world_text_left}
@@ -70,13 +70,13 @@ selected_ok command read chosen s e =
 -- ---- what is left
 
 module _ (laws : Laws) (command : CommandLine) (read : Reads) (files : Files) (chosen : Option (List ℕ)) (clash : Option NamePair) (done : ChangeDone) (bytes : AreAllReadFilesBytes read) where
-  with_made : (s : InputsAndReplacement) → selected_from_reads_by_choice command read chosen ≡ Ok s → IsChangeMade s.inputs s.replacement (wishes_of command) read clash files done → IsRootLeftByChange command read chosen done
+  with_made : (s : InputsAndReplacement) → selected_from_reads_by_choice command read chosen ≡ Ok s → IsChangeMade s.inputs s.replacement (wishes_of command) read clash files done → IsRootLeftToLaterCommandsByChange command read chosen done
   with_made s is m =
       let of = selected_ok command read chosen s is in
       let root = inputs_parts command read s.inputs of.inputs in
       let sound : AllSound s.replacement.before = subst AllSound (sym of.before) (before_sound laws.stay laws.texts command read s.inputs.root bytes root) in
       let members = members_ok laws.come laws.tested read bytes s.replacement sound s.inputs.root.repositories (wishes_of command).no_scripts m.found m.members in
-      let change : FileChange = file_change s.inputs (wishes_of command) m.found in
+      let change : FileChange = packages_before_and_after_with_purge s.inputs (wishes_of command) m.found in
       let records : DatabaseAndWorldAfter = database_and_world_after_change s.inputs m.database in
       let database_there : done.files database_name ≡ Some m.database =
       ap (λ (d : ChangeDone). d.files database_name) m.is ∙ database_after change (listing_bytes (found_package_contents m.found)) records files in
@@ -102,7 +102,7 @@ module _ (laws : Laws) (command : CommandLine) (read : Reads) (files : Files) (c
   not_simulated s true off e = absurd (cc (off))
   not_simulated s false off e = e
 
-  pub root_left : change_of_command command read files chosen clash ≡ Ok done → command.flags.simulate ≡ false → IsRootLeftByChange command read chosen done
+  pub root_left : change_of_command command read files chosen clash ≡ Ok done → command.flags.simulate ≡ false → IsRootLeftToLaterCommandsByChange command read chosen done
   unfolding change_of_command
   root_left e off =
       let s = and_then_ok (selected_from_reads_by_choice command read chosen) (change_of_selected command read files clash) done e in

@@ -11,7 +11,7 @@ use Rattle.adb_view.specs.Plain.{Plain}
 use Rattle.base_core.specs.declared.cause.Cause.{Cause}
 use Rattle.engine_core.specs.change_inputs.Chains.{and_then, unless_cause}
 use Rattle.engine_core.specs.change_inputs.Database.{Database, container_database, database_of_packages_file_and_is_text, payload_database, root_database}
-use Rattle.engine_core.specs.change_inputs.Inputs.{Inputs, Root, database_for, database_read_number, indexes_of, inputs_from_parts, inputs_of, repositories_read_number, root_from_parts, root_for, text_database_read_number, world_read_number}
+use Rattle.engine_core.specs.change_inputs.Inputs.{Inputs, Root, database_for, database_read_number, indexes_of, inputs_from_parts, inputs_of, repositories_read_number, root_with_new_world_of_command, root_for, text_database_read_number, world_read_number}
 use Rattle.engine_core.specs.change_inputs.Repositories.{root_repositories}
 use Rattle.engine_core.specs.change_inputs.World.{new_world, root_world, found_text_or_empty}
 use Rattle.engine_core.proofs.change_outcome.Made.{and_then_ok}
@@ -100,15 +100,15 @@ module _ (command : CommandLine) (read : Reads) (root : Root) (e : root_for comm
       let after_database : Database → Result Root Refusal = λ database.
       and_then (root_world text) (λ world.
       and_then (root_repositories command.flags.allow_untrusted (found_text_or_empty (read repositories_read_number repositories_name))) (λ repositories.
-      Ok (root_from_parts command database text world repositories))) in
+      Ok (root_with_new_world_of_command command database text world repositories))) in
       let database = and_then_ok (database_for command read) after_database root e in
       let after_world : List Dependency → Result Root Refusal = λ world.
       and_then (root_repositories command.flags.allow_untrusted (found_text_or_empty (read repositories_read_number repositories_name))) (λ repositories.
-      Ok (root_from_parts command database.0 text world repositories)) in
+      Ok (root_with_new_world_of_command command database.0 text world repositories)) in
       let world = and_then_ok (root_world text) after_world root database.2 in
-      let after_repositories : List Repository → Result Root Refusal = λ repositories. Ok (root_from_parts command database.0 text world.0 repositories) in
+      let after_repositories : List Repository → Result Root Refusal = λ repositories. Ok (root_with_new_world_of_command command database.0 text world.0 repositories) in
       let repositories = and_then_ok (root_repositories command.flags.allow_untrusted (found_text_or_empty (read repositories_read_number repositories_name))) after_repositories root world.2 in
-      let same : root_from_parts command database.0 text world.0 repositories.0 ≡ root = (let last = repositories.2 in cc) in
+      let same : root_with_new_world_of_command command database.0 text world.0 repositories.0 ≡ root = (let last = repositories.2 in cc) in
       record {
         database = database.1 ∙ ap (λ (x : Root). Ok x.database) same;
         world = world.1 ∙ ap (λ (x : Root). Ok x.world) same;

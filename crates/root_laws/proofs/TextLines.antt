@@ -29,8 +29,8 @@ use Rattle.engine_core.specs.v2_core.Database.{array_or_null_of_list, trimmed_ob
 use Rattle.engine_core.specs.v2_core.Records.{InfoLine, info_line_from_parts}
 use Rattle.engine_core.specs.v2_lines.Accesses.{Access, access_from_parts, access_in, before_colon, after_colon, is_uid_or_gid, is_octal, octal_number}
 use Rattle.engine_core.specs.v2_lines.InfoFields.{field_of_letter, grammar_of}
-use Rattle.engine_core.specs.v2_lines.InfoValues.{commit_values, single_number_value, single_text_value, sha1_in_text, values_under_grammar}
-use Rattle.engine_core.specs.v2_lines.Lines.{RecordLine, info_line, folder_line, folder_access_line, file_line, file_access_line, file_hash_line, other_line, file_line_if_one_part, folder_line_if_path, info_record_line, record_line_of_letter, record_line_of}
+use Rattle.engine_core.specs.v2_lines.InfoValues.{commit_values, list_of_one_number_value, list_of_one_text_value, sha1_in_text, values_under_grammar}
+use Rattle.engine_core.specs.v2_lines.Lines.{RecordLine, info_line, folder_line, folder_access_line, file_line, file_access_line, file_hash_line, other_line, file_line_if_one_part, folder_line_if_path, info_line_or_skipped_if_no_field, record_line_or_skipped_if_letter_unknown, record_line_of}
 use Rattle.engine_core.specs.v2_lines.declared.field.Grammar.{Grammar}
 use Rattle.engine_core.specs.v2_lines.declared.field.Grammar.TheVariants as Grammars
 use Rattle.engine_core.specs.v2_lines.declared.field.InfoField.{InfoField}
@@ -200,12 +200,12 @@ needs_good (part ∷ parts) = both (untagged_dependency_in part) (dependency_val
 
 values_good : (g : Grammar) (value : List ℕ) → IfSome (values_under_grammar g value) (EachIn (IsOfGrammar g))
 values_good Grammars.Sha1Text value =
-    map_some (λ b. IsFit hash_shape (blob_or_null b)) (EachIn (IsOfGrammar Grammars.Sha1Text)) single_text_value (sha1_in_text value) (λ b h. (h, tt)) (any (λ b. IsFit hash_shape (blob_or_null b)) (sha1_in_text value) hash_fit)
+    map_some (λ b. IsFit hash_shape (blob_or_null b)) (EachIn (IsOfGrammar Grammars.Sha1Text)) list_of_one_text_value (sha1_in_text value) (λ b h. (h, tt)) (any (λ b. IsFit hash_shape (blob_or_null b)) (sha1_in_text value) hash_fit)
 values_good Grammars.PackageName value = text_good (is_package_name value) value
 values_good Grammars.PackageVersion value = text_good (is_version value) value
 values_good Grammars.AnyText value = text_good true value
 values_good Grammars.Number value =
-    map_some (λ n. n < 2 ^ 64) (EachIn (IsOfGrammar Grammars.Number)) single_number_value (decimal_number value) (λ n h. (int_fit n h, tt)) (number_good value)
+    map_some (λ n. n < 2 ^ 64) (EachIn (IsOfGrammar Grammars.Number)) list_of_one_number_value (decimal_number value) (λ n h. (int_fit n h, tt)) (number_good value)
 values_good Grammars.Commit value = commit_good (hex_bytes value)
 values_good Grammars.Dependencies value = needs_good (nonempty_parts_between_spaces value)
 
@@ -242,14 +242,14 @@ IsGoodRecordLine other_line = Unit {0}
 abbrev IsGoodIfAny : Option RecordLine → Type 0
 IsGoodIfAny o = IfSome o IsGoodRecordLine
 
-info_good : (f : Option InfoField) (value : List ℕ) → IsGoodIfAny (info_record_line f value)
+info_good : (f : Option InfoField) (value : List ℕ) → IsGoodIfAny (info_line_or_skipped_if_no_field f value)
 info_good None value = tt
 info_good (Some f) value =
     map_some (EachIn (IsOfGrammar (grammar_of f))) IsGoodRecordLine (info_line f) (values_under_grammar (grammar_of f) value) (λ values h. h) (values_good (grammar_of f) value)
 
 -- what the letters F, M, R, a and Z say, and each other one
 abbrev line_by_other : ℕ → List ℕ → Option RecordLine
-line_by_other letter value = info_record_line (field_of_letter letter) value
+line_by_other letter value = info_line_or_skipped_if_no_field (field_of_letter letter) value
 
 abbrev line_by_hash : ℕ → List ℕ → Option RecordLine
 line_by_hash letter value = if letter == 90 then option_map file_hash_line (sha1_in_text value) else line_by_other letter value
@@ -263,8 +263,8 @@ line_by_file letter value = if letter == 82 then file_line_if_one_part value els
 abbrev line_by_folder_access : ℕ → List ℕ → Option RecordLine
 line_by_folder_access letter value = if letter == 77 then option_map folder_access_line (access_in value) else line_by_file letter value
 
-by_letter_good : (letter : ℕ) (value : List ℕ) → IsGoodIfAny (record_line_of_letter letter value)
-unfolding record_line_of_letter
+by_letter_good : (letter : ℕ) (value : List ℕ) → IsGoodIfAny (record_line_or_skipped_if_letter_unknown letter value)
+unfolding record_line_or_skipped_if_letter_unknown
 by_letter_good letter value =
     if_each IsGoodIfAny (letter == 70) (folder_line_if_path value) (line_by_folder_access letter value) (if_each IsGoodIfAny (is_folder_name value) (Some (folder_line value)) None tt tt)
     (if_each IsGoodIfAny (letter == 77) (option_map folder_access_line (access_in value)) (line_by_file letter value) (map_some IsGoodAccess IsGoodRecordLine folder_access_line (access_in value) (λ a h. h) (access_good value))
@@ -276,4 +276,4 @@ by_letter_good letter value =
 pub line_good : (line : List ℕ) → IsGoodIfAny (record_line_of line)
 line_good [] = tt
 line_good (letter ∷ []) = tt
-line_good (letter ∷ mark ∷ value) = if_each IsGoodIfAny (mark == 58) (record_line_of_letter letter value) None (by_letter_good letter value) tt
+line_good (letter ∷ mark ∷ value) = if_each IsGoodIfAny (mark == 58) (record_line_or_skipped_if_letter_unknown letter value) None (by_letter_good letter value) tt

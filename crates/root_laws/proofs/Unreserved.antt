@@ -12,7 +12,7 @@ use Rattle.make_index.specs.adb_fields.Paths.{path_of}
 use Rattle.make_index.specs.adb_fields.Repeated.{files_in, folders_in, list_of, name_of}
 use Rattle.make_index.specs.adb_schema.Reserved.{is_reserved}
 use Rattle.make_index.specs.adb_schema.SoundValues.{IsSoundFileInFolder, IsSoundFolder, IsSoundPackage}
-use Rattle.engine_core.specs.change_files.PlanLists.{first_reserved_added_path}
+use Rattle.engine_core.specs.change_files.PlanLists.{first_reserved_added_path_in_byte_order}
 use Rattle.engine_core.specs.db_core.Members.{Listing, Member, is_added, listings_of_member, listings_of_members_from, listings_in_folder_from_file, listings_in_folders_from, listings_of_members}
 use Rattle.engine_core.specs.db_core.OwnedListings.{HaveAtMostOneOwnerForEachPath, owned_listings}
 use Rattle.engine_core.specs.db_core.SoundMembers.{AreMembersOfSoundContainers, IsPackageOfSoundContainer, IsOfSoundDatabase, HaveOneOwnerPerPathAndNoneReserved, NoneReserved}
@@ -127,9 +127,9 @@ none_reserved [] h = tt
 none_reserved (l ∷ ls) h = (h.0, none_reserved ls h.1)
 
 -- so what they own may be listed
-pub may_be_listed : (members : List Member) (flags : List Bool) → HaveAtMostOneOwnerForEachPath (owned_listings (listings_of_members members) flags) → AreMembersOfSoundContainers members → first_reserved_added_path members ≡ None
+pub may_be_listed : (members : List Member) (flags : List Bool) → HaveAtMostOneOwnerForEachPath (owned_listings (listings_of_members members) flags) → AreMembersOfSoundContainers members → first_reserved_added_path_in_byte_order members ≡ None
     → HaveOneOwnerPerPathAndNoneReserved (owned_listings (listings_of_members members) flags)
-unfolding listings_of_members first_reserved_added_path
+unfolding listings_of_members first_reserved_added_path_in_byte_order
 may_be_listed members flags one sound free =
     record {
       one_owner = one;

@@ -10,8 +10,8 @@ ghost use Rattle.engine_core.specs.Changed.{change_of_command};
 ghost use Rattle.make_index.specs.make_info.Reads.{Reads};
 ghost use Rattle.engine_core.specs.path_clashes.Clash.{NamePair};
 ghost use Rattle.report_core.specs.declared.refusal.Refusal.{Refusal};
-ghost use Rattle.root_laws.specs.NextInputs.{AreInputsOfRootLeft, IsRefusalOfRepositoriesOrIndex};
-ghost use Rattle.root_laws.specs.RootLeft.{AreAllReadFilesBytes, IsRootLeftByChange, ReadsDatabaseAndWorldOfFiles};
+ghost use Rattle.root_laws.specs.NextInputs.{HasDatabaseAndWorldOfRootLeft, IsRefusalOfRepositoriesOrIndex};
+ghost use Rattle.root_laws.specs.RootLeft.{AreAllReadFilesBytes, IsRootLeftToLaterCommandsByChange, ReadsDatabaseAndWorldOfFiles};
 
 use adb_view::{values_have_their_shape, values_of_few_visits_have_no_fault};
 use dep_core::worlds_are_read_back;
@@ -33,7 +33,7 @@ pub fn what_a_change_leaves_is_read_by_the_next_run()
         (clash : Option NamePair) (done : ChangeDone) → AreAllReadFilesBytes read
         → change_of_command command read files chosen clash ≡ Ok done
         → command.flags.simulate ≡ false
-        → IsRootLeftByChange command read chosen done }
+        → IsRootLeftToLaterCommandsByChange command read chosen done }
 {
     // Laws that the proof needs; they have no effect at run time.
     values_of_few_visits_have_no_fault();
@@ -56,12 +56,14 @@ pub fn what_a_change_leaves_is_read_by_the_next_run()
 pub fn a_command_begins_with_what_the_last_change_left()
     // If the inputs can be read, they are those of the root that the change has left.
     ensures inputs { (command later : CommandLine) (read next : Reads) (chosen : Option (List ℕ))
-        (done : ChangeDone) (inputs : Inputs) (left : IsRootLeftByChange command read chosen done)
+        (done : ChangeDone) (inputs : Inputs)
+        (left : IsRootLeftToLaterCommandsByChange command read chosen done)
         → ReadsDatabaseAndWorldOfFiles done.files next → inputs_of later next ≡ Ok inputs
-        → AreInputsOfRootLeft left inputs }
+        → HasDatabaseAndWorldOfRootLeft left inputs }
     // If the inputs cannot be read, the refusal is one of the repositories or of an index.
     ensures refused { (command later : CommandLine) (read next : Reads) (chosen : Option (List ℕ))
-        (done : ChangeDone) (refusal : Refusal) → IsRootLeftByChange command read chosen done
+        (done : ChangeDone) (refusal : Refusal)
+        → IsRootLeftToLaterCommandsByChange command read chosen done
         → ReadsDatabaseAndWorldOfFiles done.files next → inputs_of later next ≡ Err refusal
         → IsRefusalOfRepositoriesOrIndex refusal }
 {}

@@ -1,6 +1,6 @@
 -- Along a list of runs, stops and crashes.
 use Rattle.std.proofs.Common.{◌≡◌, inl, inr, ⊎_elim, ℕ, false, List, [], ◌∷◌, Option, None, sym, subst, ◌∙◌}
-use Rattle.apk_front.specs.Moments.{IsOkRefusedOrOutputFault, IgnoresScratchNameOfOutput, IsDurableAndLeavesFiles, ignored_except_output}
+use Rattle.apk_front.specs.Moments.{IsOkRefusedOrOutputFault, IgnoresOutputScratchNameButNotIntent, IsDurableAndLeavesFiles, ignored_except_output}
 use Rattle.apk_front.specs.declared.answer.Answer.{Answer}
 use Rattle.apk_front.specs.declared.answer.Answer.TheVariants.{Ok as Done, Refused, TreeFault, OutFault, Memory}
 use Rattle.base_core.specs.Calls.{HoldsNow}
@@ -11,7 +11,7 @@ use Rattle.apk_front.specs.journal_core.Quiet.{EachCrashLeavesOld}
 use Rattle.apk_front.specs.journal_core.Recovery.{EachCrashLeavesStateOf, StateDependsOn, intent_name}
 use Rattle.apk_front.specs.outcome.Effect.{output}
 use Rattle.run_lists.specs.Events.{Crashes, Edits, Ends, RootEvent, HasNoUnfinishedRunSinceCrash, Reaches, ReachesOneCrashState, IsAllSynced, IsRunWithoutCommit, IsMomentOf, IsRunFrom, DiffersOnlyInUnsyncedBytes, PreservesOneCrashState, IsTransition, EnsuresOneCrashState, Run, Stops, Touches, ignored_after, ignored_after_answer, ignored_during_run, nothing_ignored, ignored_with_scratch, ignored_with_touched}
-use Rattle.run_lists.specs.Safety.{IsAtomic, IsSafeRun, LeavesFilesOfAnsweredOutcome}
+use Rattle.run_lists.specs.Safety.{IsAtomic, IsSafeRun, AnswersOutcomeAndLeavesItsFiles}
 use Rattle.run_lists.proofs.AtMoments.{now_at}
 use Rattle.run_lists.proofs.Ending.{Resting, ends_at_rest, ends_so}
 use Rattle.run_lists.proofs.Facts.{Facts, Ignored}
@@ -58,7 +58,7 @@ module _ (facts : Facts) (start : Ignored) (off : start intent_name ≡ false) w
   seen_durable first v (event ∷ earlier) is_durable (u, seen, leads) = led_durable event earlier u v (seen_durable first u earlier is_durable seen) leads
 
   pub seen_begins : (first v : TreeState) (events : List RootEvent) (words : List (List ℕ)) → IsDurable (StateDependsOn start) first → Reaches first events v
-      → IsDurable (StateDependsOn (ignored_with_scratch (output words) (ignored_after start events))) v × IgnoresScratchNameOfOutput (output words) (ignored_with_scratch (output words) (ignored_after start events))
+      → IsDurable (StateDependsOn (ignored_with_scratch (output words) (ignored_after start events))) v × IgnoresOutputScratchNameButNotIntent (output words) (ignored_with_scratch (output words) (ignored_after start events))
   seen_begins first v events words is_durable seen = (
     more_durable facts (output words) (ignored_after start events) v (seen_durable first v events is_durable seen),
     hides (output words) (ignored_after start events) (after_hides start off events),
@@ -101,7 +101,7 @@ module _ (facts : Facts) (ignored : Ignored) (v : TreeState) (run : Run) (is_run
   made_one ends (answers, inl commit) =
       ends_at_rest facts ignored v run is_run hidden is_durable HasOne (one_rests facts) w ends answers commit
   made_one ends (answers, inr (none, can)) =
-      let l = now_at run.now (LeavesFilesOfAnsweredOutcome ignored v run) w (answered facts ignored v run is_run hidden is_durable answers) ends in
+      let l = now_at run.now (AnswersOutcomeAndLeavesItsFiles ignored v run) w (answered facts ignored v run is_run hidden is_durable answers) ends in
       by_no_output One ignored run run.answer answers none (own_settled facts (ignored_during_run run ignored) l.outcome.files w (l.settled (inr can)))
 
   module _ (settled : EachCrashLeavesStateOf ignored (files_of v) v) where

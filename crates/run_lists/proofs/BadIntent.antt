@@ -8,7 +8,7 @@ use Rattle.base_core.specs.Tree.{TreeState, files_of}
 use Rattle.base_core.specs.declared.cause.Cause.{Cause}
 use Rattle.command_core.specs.Command.{CommandLine}
 use Rattle.apk_front.specs.journal_core.Recovery.{intent_name}
-use Rattle.apk_front.specs.outcome.Effect.{Effect, Computes, OnlyReadsFiles, AsksRoot, Makes, Changes, does_only_read, effect_of_arguments, reads_only}
+use Rattle.apk_front.specs.outcome.Effect.{Effect, Computes, OnlyReadsFiles, AsksRoot, Makes, Changes, does_neither_recover_nor_write, effect_of_arguments, do_arguments_neither_recover_nor_write}
 use Rattle.apk_front.specs.outcome.Work.{fault_of_intent, recovery_fault}
 use Rattle.apk_front.specs.words_core.Grammar.{command_of}
 use Rattle.run_lists.specs.Events.{Crashes, Edits, Ends, RootEvent, IsRunFrom, IsTransition, Run, Stops, Touches}
@@ -19,8 +19,8 @@ fault_is_found : (files : Files) → HasBadIntent files → IsSome (fault_of_int
 fault_is_found files (cause, (file, there, bad)) =
     subst (λ (o : Option Cause). IsSome o) (sym (ap fault_of_intent there ∙ bad)) refl
 
-pub only_reads : (read : Result CommandLine ℕ) (effect : Effect) → effect_of_arguments read ≡ effect → IsTrue (does_only_read effect) → IsTrue (reads_only read)
-only_reads (Ok command) effect is reads = subst (λ (e : Effect). IsTrue (does_only_read e)) (sym is) reads
+pub only_reads : (read : Result CommandLine ℕ) (effect : Effect) → effect_of_arguments read ≡ effect → IsTrue (does_neither_recover_nor_write effect) → IsTrue (do_arguments_neither_recover_nor_write read)
+only_reads (Ok command) effect is reads = subst (λ (e : Effect). IsTrue (does_neither_recover_nor_write e)) (sym is) reads
 only_reads (Err place) effect is reads = refl
 
 pub nothing_written : (v : TreeState) (run : Run) → IsRunFrom v run → HasBadIntent (files_of v) → run.now ≡ run.old

@@ -2,7 +2,7 @@
 use Rattle.std.proofs.Common.{◌≡◌, [], ◌∷◌, refl}
 use Rattle.std.specs.Prelude.{IsSome, IsTrue, is_some}
 use Rattle.apk_front.specs.Answers.{IsAnswerOfSomeOutcomeOrFailure, LeavesFiles}
-use Rattle.apk_front.specs.Moments.{IsOkRefusedOrOutputFault, AreStatesOfRecoveryOrCommittingRun, AreStatesOldOrLeadToOutcome, IsRefusedOutOfMemoryOrCommitsNothing, HasNothingToRecover, IgnoresScratchNameOfOutput, LeavesDurableStateIfCommitted, LeavesDurableFilesOnceAnswered, NamesAreDurableWithoutIntentExcept}
+use Rattle.apk_front.specs.Moments.{IsOkRefusedOrOutputFault, AreStatesAsRecoveredOrOfCommittingRun, AreStatesOldOrLeadToOutcome, IsRefusedOutOfMemoryOrCommitsNothing, HasNothingToRecover, IgnoresOutputScratchNameButNotIntent, LeavesDurableStateAndOutputIfCommitted, LeavesDurableFilesOnceAnsweredOrRefused, NamesAreDurableWithoutIntentExcept}
 use Rattle.base_core.specs.Calls.{HoldsNow, IfObservable}
 use Rattle.base_core.specs.Crash.{Since}
 use Rattle.base_core.specs.Undone.{IsDurable}
@@ -10,11 +10,11 @@ use Rattle.base_core.specs.Faults.{IsFaultCountedWithCause}
 use Rattle.base_core.specs.Tree.{TreeState, files_of}
 use Rattle.apk_front.specs.journal_core.Quiet.{StateIsUnchanged}
 use Rattle.apk_front.specs.journal_core.Recovery.{StateDependsOn, intent_name}
-use Rattle.apk_front.specs.outcome.Effect.{effect_of_arguments, output, reads_only}
+use Rattle.apk_front.specs.outcome.Effect.{effect_of_arguments, output, do_arguments_neither_recover_nor_write}
 use Rattle.apk_front.specs.outcome.Work.{recovery_fault}
 use Rattle.apk_front.specs.words_core.Grammar.{command_of}
 use Rattle.run_lists.specs.Events.{IsOutcomeFrom, IsRunFrom, Run}
-use Rattle.run_lists.specs.Safety.{IsAtomicAfterAnyEvents, IsSafeAfterAnyEvents}
+use Rattle.run_lists.specs.Safety.{IsAtomicFromOneCrashState, IsSafeAfterAnyEvents}
 use Rattle.run_lists.proofs.AtMoments.{History}
 use Rattle.run_lists.proofs.Facts.{Ignored}
 use Rattle.apk_front.specs.outcome.Words.{IsOutcome}
@@ -29,34 +29,34 @@ abbrev pub AllSafe : Type 0
 AllSafe = (v : TreeState) (run : Run) → IsRunFrom v run → IsSafeAfterAnyEvents v run
 
 abbrev pub AllAtomic : Type 0
-AllAtomic = (v : TreeState) (run : Run) → IsRunFrom v run → IsAtomicAfterAnyEvents v run
+AllAtomic = (v : TreeState) (run : Run) → IsRunFrom v run → IsAtomicFromOneCrashState v run
 
 pub called : AllSafe → AllAtomic → (run : Run)
-    → (IsTrue (reads_only (command_of run.words)) → run.now ≡ run.old)
+    → (IsTrue (do_arguments_neither_recover_nor_write (command_of run.words)) → run.now ≡ run.old)
     → IfObservable run.old (λ v. IsAnswerOfSomeOutcomeOrFailure (IsOutcome (command_of run.words) (files_of v)) (LeavesFiles run.now) (IsFaultCountedWithCause run.before run.after) run.answer run.out run.err)
     → IfObservable run.old (λ v. IsRefusedOutOfMemoryOrCommitsNothing (IsOutcomeFrom v run) run.answer → HasNothingToRecover (effect_of_arguments (command_of run.words)) v → run.now ≡ run.old)
     → IfObservable run.old (λ v. IsSome (recovery_fault (effect_of_arguments (command_of run.words)) (files_of v)) → run.now ≡ run.old)
-    → IfObservable run.old (λ v. AreStatesOfRecoveryOrCommittingRun (IsOutcomeFrom v run) (effect_of_arguments (command_of run.words)) (output run.words) v run.old run.now)
+    → IfObservable run.old (λ v. AreStatesAsRecoveredOrOfCommittingRun (IsOutcomeFrom v run) (effect_of_arguments (command_of run.words)) (output run.words) v run.old run.now)
     → IfObservable run.old (λ v. IsSome (v.names intent_name) → Since (NamesAreDurableWithoutIntentExcept (output run.words)) run.old run.now)
     → IfObservable run.old (λ v. IsRefusedOutOfMemoryOrCommitsNothing (IsOutcomeFrom v run) run.answer → (ignored : Ignored) → IsDurable (StateDependsOn ignored) v → Since (StateIsUnchanged ignored v) run.old run.now)
-    → IfObservable run.old (λ v. (ignored : Ignored) → IsDurable (StateDependsOn ignored) v → IgnoresScratchNameOfOutput (output run.words) ignored → AreStatesOldOrLeadToOutcome (IsOutcomeFrom v run) (is_some (output run.words)) ignored v run.old run.now)
-    → IfObservable run.old (λ v. (ignored : Ignored) → IsDurable (StateDependsOn ignored) v → IgnoresScratchNameOfOutput (output run.words) ignored → HoldsNow run.now (IsDurable (StateDependsOn ignored)))
-    → IfObservable run.old (λ v. (ignored : Ignored) → IsDurable (StateDependsOn ignored) v → IgnoresScratchNameOfOutput (output run.words) ignored → LeavesDurableFilesOnceAnswered (IsOutcomeFrom v run) (effect_of_arguments (command_of run.words)) ignored v run.now run.answer)
-    → IfObservable run.old (λ v. (ignored : Ignored) → IsDurable (StateDependsOn ignored) v → IgnoresScratchNameOfOutput (output run.words) ignored → IsOkRefusedOrOutputFault run.answer → LeavesDurableStateIfCommitted (IsOutcomeFrom v run) (output run.words) ignored run.now)
-    → IfObservable run.old (λ v. IsRunFrom v run × IsSafeAfterAnyEvents v run × IsAtomicAfterAnyEvents v run)
+    → IfObservable run.old (λ v. (ignored : Ignored) → IsDurable (StateDependsOn ignored) v → IgnoresOutputScratchNameButNotIntent (output run.words) ignored → AreStatesOldOrLeadToOutcome (IsOutcomeFrom v run) (is_some (output run.words)) ignored v run.old run.now)
+    → IfObservable run.old (λ v. (ignored : Ignored) → IsDurable (StateDependsOn ignored) v → IgnoresOutputScratchNameButNotIntent (output run.words) ignored → HoldsNow run.now (IsDurable (StateDependsOn ignored)))
+    → IfObservable run.old (λ v. (ignored : Ignored) → IsDurable (StateDependsOn ignored) v → IgnoresOutputScratchNameButNotIntent (output run.words) ignored → LeavesDurableFilesOnceAnsweredOrRefused (IsOutcomeFrom v run) (effect_of_arguments (command_of run.words)) ignored v run.now run.answer)
+    → IfObservable run.old (λ v. (ignored : Ignored) → IsDurable (StateDependsOn ignored) v → IgnoresOutputScratchNameButNotIntent (output run.words) ignored → IsOkRefusedOrOutputFault run.answer → LeavesDurableStateAndOutputIfCommitted (IsOutcomeFrom v run) (output run.words) ignored run.now)
+    → IfObservable run.old (λ v. IsRunFrom v run × IsSafeAfterAnyEvents v run × IsAtomicFromOneCrashState v run)
 called all_safe all_atomic run same =
     observed run.old
     (λ v. IsAnswerOfSomeOutcomeOrFailure (IsOutcome (command_of run.words) (files_of v)) (LeavesFiles run.now) (IsFaultCountedWithCause run.before run.after) run.answer run.out run.err)
     (λ v. IsRefusedOutOfMemoryOrCommitsNothing (IsOutcomeFrom v run) run.answer → HasNothingToRecover (effect_of_arguments (command_of run.words)) v → run.now ≡ run.old)
     (λ v. IsSome (recovery_fault (effect_of_arguments (command_of run.words)) (files_of v)) → run.now ≡ run.old)
-    (λ v. AreStatesOfRecoveryOrCommittingRun (IsOutcomeFrom v run) (effect_of_arguments (command_of run.words)) (output run.words) v run.old run.now)
+    (λ v. AreStatesAsRecoveredOrOfCommittingRun (IsOutcomeFrom v run) (effect_of_arguments (command_of run.words)) (output run.words) v run.old run.now)
     (λ v. IsSome (v.names intent_name) → Since (NamesAreDurableWithoutIntentExcept (output run.words)) run.old run.now)
     (λ v. IsRefusedOutOfMemoryOrCommitsNothing (IsOutcomeFrom v run) run.answer → (ignored : Ignored) → IsDurable (StateDependsOn ignored) v → Since (StateIsUnchanged ignored v) run.old run.now)
-    (λ v. (ignored : Ignored) → IsDurable (StateDependsOn ignored) v → IgnoresScratchNameOfOutput (output run.words) ignored → AreStatesOldOrLeadToOutcome (IsOutcomeFrom v run) (is_some (output run.words)) ignored v run.old run.now)
-    (λ v. (ignored : Ignored) → IsDurable (StateDependsOn ignored) v → IgnoresScratchNameOfOutput (output run.words) ignored → HoldsNow run.now (IsDurable (StateDependsOn ignored)))
-    (λ v. (ignored : Ignored) → IsDurable (StateDependsOn ignored) v → IgnoresScratchNameOfOutput (output run.words) ignored → LeavesDurableFilesOnceAnswered (IsOutcomeFrom v run) (effect_of_arguments (command_of run.words)) ignored v run.now run.answer)
-    (λ v. (ignored : Ignored) → IsDurable (StateDependsOn ignored) v → IgnoresScratchNameOfOutput (output run.words) ignored → IsOkRefusedOrOutputFault run.answer → LeavesDurableStateIfCommitted (IsOutcomeFrom v run) (output run.words) ignored run.now)
-    (λ v. IsRunFrom v run × IsSafeAfterAnyEvents v run × IsAtomicAfterAnyEvents v run)
+    (λ v. (ignored : Ignored) → IsDurable (StateDependsOn ignored) v → IgnoresOutputScratchNameButNotIntent (output run.words) ignored → AreStatesOldOrLeadToOutcome (IsOutcomeFrom v run) (is_some (output run.words)) ignored v run.old run.now)
+    (λ v. (ignored : Ignored) → IsDurable (StateDependsOn ignored) v → IgnoresOutputScratchNameButNotIntent (output run.words) ignored → HoldsNow run.now (IsDurable (StateDependsOn ignored)))
+    (λ v. (ignored : Ignored) → IsDurable (StateDependsOn ignored) v → IgnoresOutputScratchNameButNotIntent (output run.words) ignored → LeavesDurableFilesOnceAnsweredOrRefused (IsOutcomeFrom v run) (effect_of_arguments (command_of run.words)) ignored v run.now run.answer)
+    (λ v. (ignored : Ignored) → IsDurable (StateDependsOn ignored) v → IgnoresOutputScratchNameButNotIntent (output run.words) ignored → IsOkRefusedOrOutputFault run.answer → LeavesDurableStateAndOutputIfCommitted (IsOutcomeFrom v run) (output run.words) ignored run.now)
+    (λ v. IsRunFrom v run × IsSafeAfterAnyEvents v run × IsAtomicFromOneCrashState v run)
     (λ v begins stated idle bad_intent reads last left crash is_durable settled durable_state.
     let is_run : IsRunFrom v run = record {
       begins = begins;

@@ -34,7 +34,7 @@ use Rattle.apk_front.proofs.outcome.NextRoom.{intent_gone}
 use Rattle.apk_front.proofs.outcome.Recovered.{ReadSound}
 use Rattle.apk_front.specs.outcome.Changing.{change_outcome}
 use Rattle.apk_front.specs.outcome.Commands.{IsOutcomeWithoutDemo, IsOutcomeUnlessBadIntent, effect_outcome, reads_in}
-use Rattle.apk_front.specs.outcome.Effect.{Effect, Computes, OnlyReadsFiles, AsksRoot, Makes, Changes, effect_of_arguments, effect_of, reads_only}
+use Rattle.apk_front.specs.outcome.Effect.{Effect, Computes, OnlyReadsFiles, AsksRoot, Makes, Changes, effect_of_arguments, effect_of, do_arguments_neither_recover_nor_write}
 use Rattle.apk_front.specs.outcome.Given.{Given}
 use Rattle.apk_front.specs.outcome.Make.{files_with_output, index_report_line, make_outcome, outcome_unless_output_reserved}
 use Rattle.apk_front.specs.outcome.Outcome.{Outcome, commit_report, just_refusal}
@@ -158,7 +158,7 @@ module _ (gone : BringsNoIntent) (sound : ReadSound) where
   by_command (Ok command) files o Changes is works reads tells one =
       changes_none (recovery_fault (effect_of command.applet) files) command files o is refl (no_demo command.applet command files o (λ computes. works (sym is ∙ computes)) one)
 
-  module _ (reading : (words : List (List ℕ)) (files : Files) (o : Outcome) → IsTrue (reads_only (command_of words)) → IsOutcome (command_of words) files o → o.commits ≡ false)
+  module _ (reading : (words : List (List ℕ)) (files : Files) (o : Outcome) → IsTrue (do_arguments_neither_recover_nor_write (command_of words)) → IsOutcome (command_of words) files o → o.commits ≡ false)
       (telling : (words : List (List ℕ)) (files : Files) (o : Outcome) → effect_of_arguments (command_of words) ≡ AsksRoot → IsOutcome (command_of words) files o → o.commits ≡ false) where
     pub committed_none : CommitsNoIntent
     committed_none words files o one commits = by (effect_of_arguments (command_of words)) refl

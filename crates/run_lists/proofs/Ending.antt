@@ -17,7 +17,7 @@ use Rattle.apk_front.specs.outcome.Outcome.{Outcome}
 use Rattle.report_core.specs.declared.refusal.Refusal.{Refusal}
 use Rattle.apk_front.specs.words_core.Grammar.{command_of}
 use Rattle.run_lists.specs.Events.{HasOutcomeThatCommits, IsRunWithoutCommit, IsOutcomeFrom, IsRunFrom, Run, ignored_after_answer, ignored_during_run}
-use Rattle.run_lists.specs.Safety.{LeavesFilesOfAnsweredOutcome}
+use Rattle.run_lists.specs.Safety.{AnswersOutcomeAndLeavesItsFiles}
 use Rattle.run_lists.proofs.AtMoments.{now_at}
 use Rattle.run_lists.proofs.Facts.{AreMore, Facts, Ignored}
 use Rattle.run_lists.proofs.Names.{but_fewer, output_makes}
@@ -34,8 +34,8 @@ pub record Resting (Q : Ignored → TreeState → Type 0) : Type 0 where
 
 module _ (facts : Facts) (ignored : Ignored) (v : TreeState) (run : Run) (is_run : IsRunFrom v run) (hidden : ignored intent_name ≡ false) (is_durable : IsDurable (StateDependsOn ignored) v)
     (Q : Ignored → TreeState → Type 0) (resting : Resting Q) (w : TreeState) (ends : HoldsNow run.now (λ u. u ≡ w)) where
-  pub leaves : IsOkRefusedOrOutputFault run.answer → LeavesFilesOfAnsweredOutcome ignored v run w
-  leaves answers = now_at run.now (LeavesFilesOfAnsweredOutcome ignored v run) w (answered facts ignored v run is_run hidden is_durable answers) ends
+  pub leaves : IsOkRefusedOrOutputFault run.answer → AnswersOutcomeAndLeavesItsFiles ignored v run w
+  leaves answers = now_at run.now (AnswersOutcomeAndLeavesItsFiles ignored v run) w (answered facts ignored v run is_run hidden is_durable answers) ends
 
   rests_by : (answer : Answer) → IsOkRefusedOrOutputFault answer → Q (ignored_except_output (output run.words) ignored) w → Q (ignored_after_answer answer run ignored) w
   rests_by Done answers q = q
@@ -44,7 +44,7 @@ module _ (facts : Facts) (ignored : Ignored) (v : TreeState) (run : Run) (is_run
   rests_by TreeFault answers q = absurd answers
   rests_by Memory answers q = absurd answers
 
-  pub written : (l : LeavesFilesOfAnsweredOutcome ignored v run w) → l.outcome.commits ≡ true → Q (ignored_except_output (output run.words) ignored) w
+  pub written : (l : AnswersOutcomeAndLeavesItsFiles ignored v run w) → l.outcome.commits ≡ true → Q (ignored_except_output (output run.words) ignored) w
   written l commits = resting.rest (ignored_except_output (output run.words) ignored) l.outcome.files w l.reads (l.durable_state commits)
 
   -- an outcome that commits is at rest
@@ -65,12 +65,12 @@ module _ (facts : Facts) (ignored : Ignored) (v : TreeState) (run : Run) (is_run
     no_output (Some name) is outcome one none idle q =
         absurd (false≢true (sym idle ∙ facts.making run.words (files_of v) outcome (output_makes (command_of run.words) name is) one ∙ ap (λ (r : Option Refusal). not (is_some r)) none))
 
-    done_by : run.answer ≡ Done → (l : LeavesFilesOfAnsweredOutcome ignored v run w) → (b : Bool) → l.outcome.commits ≡ b → Q (ignored_except_output (output run.words) ignored) w
+    done_by : run.answer ≡ Done → (l : AnswersOutcomeAndLeavesItsFiles ignored v run w) → (b : Bool) → l.outcome.commits ≡ b → Q (ignored_except_output (output run.words) ignored) w
     done_by is l true commits = written l commits
     done_by is l false idle =
         no_output (output run.words) refl l.outcome l.is_outcome (done_not_refused l.outcome (subst (λ (a : Answer). Told a l.outcome) is l.answered)) idle (left_idle (inl (inr (l.outcome, l.is_outcome, idle))))
 
-    out_by : (l : LeavesFilesOfAnsweredOutcome ignored v run w) → (b : Bool) → l.outcome.commits ≡ b → Q ignored w
+    out_by : (l : AnswersOutcomeAndLeavesItsFiles ignored v run w) → (b : Bool) → l.outcome.commits ≡ b → Q ignored w
     out_by l true commits = resting.more (ignored_except_output (output run.words) ignored) ignored w (but_fewer (output run.words) ignored) (written l commits)
     out_by l false idle = left_idle (inl (inr (l.outcome, l.is_outcome, idle)))
 

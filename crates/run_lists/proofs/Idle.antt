@@ -10,11 +10,11 @@ use Rattle.apk_front.specs.journal_core.Quiet.{EachCrashLeavesOld, StateIsUnchan
 use Rattle.apk_front.specs.journal_core.Recovery.{StateDependsOn, is_staged, recovered_files, state_of}
 use Rattle.apk_front.specs.journal_core.Staged.{unstaged_files}
 use Rattle.apk_front.proofs.journal_core.More.{settled_more, states_same}
-use Rattle.apk_front.specs.outcome.Effect.{reads_only}
+use Rattle.apk_front.specs.outcome.Effect.{do_arguments_neither_recover_nor_write}
 use Rattle.apk_front.specs.outcome.Outcome.{Outcome}
 use Rattle.apk_front.specs.outcome.Words.{IsOutcome}
 use Rattle.apk_front.specs.words_core.Grammar.{command_of}
-use Rattle.run_lists.specs.Events.{Crashes, Edits, Ends, RootEvent, ReachesWithoutCommit, IsEventWithoutCommit, IsRunWithoutCommit, IsTransition, Run, Stops, Touches, ignored_with_all_touched, ignored_with_touched}
+use Rattle.run_lists.specs.Events.{Crashes, Edits, Ends, RootEvent, ReachesWithoutCommitOrEdit, IsEventWithoutCommitOrEdit, IsRunWithoutCommit, IsTransition, Run, Stops, Touches, ignored_with_all_touched, ignored_with_touched}
 use Rattle.run_lists.proofs.Facts.{AreMore, Ignored}
 use Rattle.run_lists.proofs.Names.{reader_output, touched_more}
 use Rattle.run_lists.proofs.OneRun.{idle_end, idle_moment, settled_on}
@@ -25,7 +25,7 @@ still_rest : (ignored : Ignored) (files : Files) (v w : TreeState) → IsDurable
 still_rest ignored files v w rest is_unchanged = record { is_durable = is_unchanged.is_durable; settled = settled_on ignored files v w rest.settled is_unchanged.quiet }
 
 module _ (crash_durable : (ignored : Ignored) (v w : TreeState) → IsAfterCrash v w → IsDurable (StateDependsOn ignored) w) (crash_quiet : (ignored : Ignored) (v w : TreeState) → IsAfterCrash v w → EachCrashLeavesOld ignored v w) where
-  led_idle : (start : Ignored) (files : Files) (earlier : List RootEvent) (v : TreeState) (event : RootEvent) (w : TreeState) → IsDurableAndLeavesFiles (ignored_with_all_touched earlier start) files v → IsEventWithoutCommit v event → IsTransition v event w → IsDurableAndLeavesFiles (ignored_with_all_touched (event ∷ earlier) start) files w
+  led_idle : (start : Ignored) (files : Files) (earlier : List RootEvent) (v : TreeState) (event : RootEvent) (w : TreeState) → IsDurableAndLeavesFiles (ignored_with_all_touched earlier start) files v → IsEventWithoutCommitOrEdit v event → IsTransition v event w → IsDurableAndLeavesFiles (ignored_with_all_touched (event ∷ earlier) start) files w
   led_idle start files earlier v (Ends run) w rest idle (is_run, ends) =
       let names = ignored_with_all_touched earlier start in
       still_rest names files v w rest (idle_end names v run is_run rest.is_durable idle w ends)
@@ -45,18 +45,18 @@ module _ (crash_durable : (ignored : Ignored) (v w : TreeState) → IsAfterCrash
         settled = settled_on names files v w (settled_more few names (touched_more theirs few) files v rest.settled) (touch_quiet theirs v w touch few);
       }
 
-  idle_from : (start : Ignored) (files : Files) (v w : TreeState) (events : List RootEvent) → IsDurableAndLeavesFiles start files v → ReachesWithoutCommit v events w → IsDurableAndLeavesFiles (ignored_with_all_touched events start) files w
+  idle_from : (start : Ignored) (files : Files) (v w : TreeState) (events : List RootEvent) → IsDurableAndLeavesFiles start files v → ReachesWithoutCommitOrEdit v events w → IsDurableAndLeavesFiles (ignored_with_all_touched events start) files w
   idle_from start files v w [] rest is = subst (IsDurableAndLeavesFiles start files) (sym is) rest
   idle_from start files v w (event ∷ earlier) rest (u, seen, idle, leads) =
       led_idle start files earlier u event w (idle_from start files v u earlier rest seen) idle leads
 
-  pub seen_idly : (ignored : Ignored) (v w : TreeState) (events : List RootEvent) → IsDurableAndLeavesFiles ignored (files_of v) v → ReachesWithoutCommit v events w → IsDurableAndLeavesFiles (ignored_with_all_touched events ignored) (files_of v) w
+  pub seen_idly : (ignored : Ignored) (v w : TreeState) (events : List RootEvent) → IsDurableAndLeavesFiles ignored (files_of v) v → ReachesWithoutCommitOrEdit v events w → IsDurableAndLeavesFiles (ignored_with_all_touched events ignored) (files_of v) w
   seen_idly ignored v w events = idle_from ignored (files_of v) v w events
 
   same_state : (few many : Ignored) (files : Files) (w : TreeState) → AreMore few many → IsCrashImage w (files_of w) → IsDurableAndLeavesFiles few files w → state_of many (files_of w) ≡ state_of many files
   same_state few many files w more left rest = states_same few many more (files_of w) files (rest.settled (files_of w) left)
 
-  pub idly_agree : ((v : TreeState) → IsCrashImage v (files_of v)) → (ignored names : Ignored) (v w u : TreeState) (events others : List RootEvent) → IsDurableAndLeavesFiles ignored (files_of v) v → ReachesWithoutCommit v events w → ReachesWithoutCommit v others u
+  pub idly_agree : ((v : TreeState) → IsCrashImage v (files_of v)) → (ignored names : Ignored) (v w u : TreeState) (events others : List RootEvent) → IsDurableAndLeavesFiles ignored (files_of v) v → ReachesWithoutCommitOrEdit v events w → ReachesWithoutCommitOrEdit v others u
       → AreMore (ignored_with_all_touched events ignored) names → AreMore (ignored_with_all_touched others ignored) names → state_of names (files_of w) ≡ state_of names (files_of u)
   idly_agree left ignored names v w u events others rest first second more others_more =
       same_state (ignored_with_all_touched events ignored) names (files_of v) w more (left w) (seen_idly ignored v w events rest first)
@@ -64,7 +64,7 @@ module _ (crash_durable : (ignored : Ignored) (v w : TreeState) → IsAfterCrash
 
 -- ---- a command that only reads
 
-pub reader_idle : ((words : List (List ℕ)) (files : Files) (o : Outcome) → IsTrue (reads_only (command_of words)) → IsOutcome (command_of words) files o → o.commits ≡ false) → (v : TreeState) (run : Run) → IsTrue (reads_only (command_of run.words)) → IsRunWithoutCommit v run
+pub reader_idle : ((words : List (List ℕ)) (files : Files) (o : Outcome) → IsTrue (do_arguments_neither_recover_nor_write (command_of words)) → IsOutcome (command_of words) files o → o.commits ≡ false) → (v : TreeState) (run : Run) → IsTrue (do_arguments_neither_recover_nor_write (command_of run.words)) → IsRunWithoutCommit v run
 reader_idle reading v run reads = inr (reader_output (command_of run.words) reads, λ commit. false≢true (sym (reading run.words (files_of v) commit.0 reads commit.1) ∙ commit.2))
 
 -- ---- the state

@@ -3,7 +3,7 @@ use Rattle.std.proofs.Common.{◌≡◌, ◌⊎◌, inl, inr, ⊎_elim, ℕ, Boo
 use Rattle.std.specs.Prelude.{IsSome}
 use Rattle.std.specs.Str.{bytes_eq}
 use Rattle.std.proofs.lemmas.Bool.{false≢true, or_from}
-use Rattle.apk_front.specs.Moments.{AreStatesOfRecoveryOrCommittingRun, IsStateDuringRecoveryOrNext, HasFilesExceptTemporaryOnes, IsStateDuringRun, NamesAreDurableWithoutIntentExcept, is_temporary_name, output_names}
+use Rattle.apk_front.specs.Moments.{AreStatesAsRecoveredOrOfCommittingRun, IsStateDuringRecoveryOrNext, HasFilesExceptTemporaryOnes, IsStateDuringRun, NamesAreDurableWithoutIntentExcept, is_temporary_name, output_names}
 use Rattle.base_core.specs.Calls.{HoldsNow}
 use Rattle.base_core.specs.Files.{Files, NameMap}
 use Rattle.base_core.specs.Tree.{File, TreeState, bytes_of_file_number, files_of}
@@ -60,7 +60,7 @@ module _ (v : TreeState) (run : Run) (m : TreeState) where
   pub located : IsRunFrom v run → IsMomentOf run m → Stands
   located is_run moment = by is_run.reads
     where
-      by : AreStatesOfRecoveryOrCommittingRun (IsOutcomeFrom v run) Act (output run.words) v run.old run.now → Stands
+      by : AreStatesAsRecoveredOrOfCommittingRun (IsOutcomeFrom v run) Act (output run.words) v run.old run.now → Stands
       by (inl since) = ⊎_elim inl (λ p. inr (inl p)) (start_or_made (IsStateDuringRecoveryOrNext Act (λ w. files_of w ≡ Work) v) run v m is_run.begins since moment)
       by (inr (o, one, commits, since)) =
           ⊎_elim inl (λ p. inr (inr (o, one, commits, p))) (start_or_made (IsStateDuringRecoveryOrNext Act (IsStateDuringRun Act (output run.words) o.files Work) v) run v m is_run.begins since moment)
@@ -164,7 +164,7 @@ last_by run w (u ∷ added) is ends = inr (u ∷ added, is, (0, omega arith, sub
 pub last_moment : (run : Run) (v w : TreeState) → IsRunFrom v run → HoldsNow run.now (λ u. u ≡ w) → IsMomentOf run w
 last_moment run v w is_run ends = by is_run.reads
   where
-    by : AreStatesOfRecoveryOrCommittingRun (IsOutcomeFrom v run) (effect_of_arguments (command_of run.words)) (output run.words) v run.old run.now → IsMomentOf run w
+    by : AreStatesAsRecoveredOrOfCommittingRun (IsOutcomeFrom v run) (effect_of_arguments (command_of run.words)) (output run.words) v run.old run.now → IsMomentOf run w
     by (inl since) = last_by run w since.added since.is ends
     by (inr (o, one, commits, since)) = last_by run w since.added since.is ends
 

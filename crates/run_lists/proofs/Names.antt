@@ -4,14 +4,14 @@ use Rattle.std.specs.Prelude.{IsTrue, if◌then◌else◌}
 use Rattle.std.specs.Str.{bytes_eq}
 use Rattle.std.proofs.lemmas.Bool.{false≢true, or_right, or_left}
 use Rattle.std.proofs.lemmas.Slice.Eq.{bytes_eq-Decides}
-use Rattle.apk_front.specs.Moments.{IgnoresScratchNameOfOutput, ignored_except_output}
+use Rattle.apk_front.specs.Moments.{IgnoresOutputScratchNameButNotIntent, ignored_except_output}
 use Rattle.apk_front.specs.declared.answer.Answer.{Answer}
 use Rattle.apk_front.specs.declared.answer.Answer.TheVariants.{Ok as Done, Refused, TreeFault, OutFault, Memory}
 use Rattle.apk_front.proofs.file_replacement.Suffix.{intent_is_no_scratch}
 use Rattle.command_core.specs.Command.{CommandLine}
 use Rattle.apk_front.specs.journal_core.Recovery.{intent_name}
 use Rattle.apk_front.specs.journal_core.Replacing.{scratch_name_of}
-use Rattle.apk_front.specs.outcome.Effect.{Effect, Computes, OnlyReadsFiles, AsksRoot, Makes, Changes, does_only_read, effect_of_arguments, effect_of, output, output_name_of_arguments, output_name_for_effect, reads_only}
+use Rattle.apk_front.specs.outcome.Effect.{Effect, Computes, OnlyReadsFiles, AsksRoot, Makes, Changes, does_neither_recover_nor_write, effect_of_arguments, effect_of, output, output_name_of_arguments, output_name_for_effect, do_arguments_neither_recover_nor_write}
 use Rattle.run_lists.specs.Events.{Crashes, Edits, Ends, RootEvent, HasNoUnfinishedOutputOrTouchSinceSync, Run, Stops, Touches, ignored_after, ignored_after_answer, names_of_others_outside_journal, nothing_ignored, ignored_with_all_touched, ignored_with_scratch, ignored_with_touched}
 use Rattle.run_lists.proofs.Facts.{AreMore, Ignored}
 use Rattle.run_lists.proofs.Touched.{intent_off}
@@ -27,7 +27,7 @@ scratch_hides None ignored off = off
 scratch_hides (Some name) ignored off =
     neither (bytes_eq intent_name (scratch_name_of name)) (ignored intent_name) (λ is. intent_is_no_scratch name ((bytes_eq-Decides intent_name (scratch_name_of name)).0 is)) off
 
-pub hides : (o : Option (List ℕ)) (ignored : Ignored) → ignored intent_name ≡ false → IgnoresScratchNameOfOutput o (ignored_with_scratch o ignored)
+pub hides : (o : Option (List ℕ)) (ignored : Ignored) → ignored intent_name ≡ false → IgnoresOutputScratchNameButNotIntent o (ignored_with_scratch o ignored)
 hides None ignored off = tt
 hides (Some name) ignored off = record {
   scratch = or_left (bytes_eq (scratch_name_of name) (scratch_name_of name)) (ignored (scratch_name_of name)) ((bytes_eq-Decides (scratch_name_of name) (scratch_name_of name)).1 refl);
@@ -139,7 +139,7 @@ pub output_makes : (command : Result CommandLine ℕ) (name : List ℕ) → outp
 output_makes (Ok command) name is = effect_makes (effect_of command.applet) command name is
 output_makes (Err place) name is = cc
 
-reader_effect : (effect : Effect) (command : CommandLine) → IsTrue (does_only_read effect) → output_name_for_effect effect command ≡ None
+reader_effect : (effect : Effect) (command : CommandLine) → IsTrue (does_neither_recover_nor_write effect) → output_name_for_effect effect command ≡ None
 reader_effect Computes command reads = refl
 reader_effect OnlyReadsFiles command reads = refl
 reader_effect AsksRoot command reads = absurd (false≢true reads)
@@ -147,6 +147,6 @@ reader_effect Makes command reads = absurd (false≢true reads)
 reader_effect Changes command reads = absurd (false≢true reads)
 
 -- a command that only reads has none
-pub reader_output : (command : Result CommandLine ℕ) → IsTrue (reads_only command) → output_name_of_arguments command ≡ None
+pub reader_output : (command : Result CommandLine ℕ) → IsTrue (do_arguments_neither_recover_nor_write command) → output_name_of_arguments command ≡ None
 reader_output (Ok command) reads = reader_effect (effect_of command.applet) command reads
 reader_output (Err place) reads = refl

@@ -2,7 +2,7 @@
 use Rattle.std.proofs.Common.{◌≡◌, ◌⊎◌, inl, inr, ⊎_elim, ℕ, true, false, List, Option, refl, sym, subst, ◌∙◌, arith}
 use Rattle.std.specs.Prelude.{is_some}
 use Rattle.apk_front.specs.Answers.{IsAnswerOfSomeOutcomeOrFailure, answer_of}
-use Rattle.apk_front.specs.Moments.{IsOkRefusedOrOutputFault, AreStatesOldOrLeadToOutcome, IgnoresScratchNameOfOutput, IsDurableAndLeavesFiles, LeavesDurableStateIfCommitted, LeavesDurableFilesOnceAnswered, MustOutcomeBeDurable, ignored_except_output}
+use Rattle.apk_front.specs.Moments.{IsOkRefusedOrOutputFault, AreStatesOldOrLeadToOutcome, IgnoresOutputScratchNameButNotIntent, IsDurableAndLeavesFiles, LeavesDurableStateAndOutputIfCommitted, LeavesDurableFilesOnceAnsweredOrRefused, MustOutcomeBeDurable, ignored_except_output}
 use Rattle.apk_front.specs.declared.answer.Answer.{Answer}
 use Rattle.apk_front.specs.declared.answer.Answer.TheVariants.{Ok as Done, Refused, TreeFault, OutFault, Memory}
 use Rattle.base_core.specs.Calls.{HoldsNow}
@@ -18,7 +18,7 @@ use Rattle.apk_front.specs.outcome.Effect.{Effect, effect_of_arguments, output}
 use Rattle.apk_front.specs.outcome.Outcome.{Outcome}
 use Rattle.apk_front.specs.words_core.Grammar.{command_of}
 use Rattle.run_lists.specs.Events.{HasOutcomeThatCommits, IsRunWithoutCommit, IsMomentOf, IsOutcomeFrom, IsRunFrom, Run, ignored_during_run, ignored_with_scratch}
-use Rattle.run_lists.specs.Safety.{HasStateAsReadOrOutcome, IsAtomic, LeavesOldOrOutcome, IsSafeRun, LeavesFilesOfAnsweredOutcome}
+use Rattle.run_lists.specs.Safety.{HasStateAsReadOrOutcome, IsAtomic, LeavesOldOrOutcome, IsSafeRun, AnswersOutcomeAndLeavesItsFiles}
 use Rattle.run_lists.proofs.AtMoments.{History, at_last, at_moment, now_at, now_map, now_under, now_with}
 use Rattle.run_lists.proofs.Facts.{Facts, Ignored}
 use Rattle.run_lists.proofs.Names.{but_same, hides, scratch_more}
@@ -52,7 +52,7 @@ module _ (ignored : Ignored) (v : TreeState) (run : Run) (is_run : IsRunFrom v r
 
   idle_still : IsRunWithoutCommit v run → Since (StateIsUnchanged ignored v) run.old run.now
   idle_still (inl none) = is_run.left none ignored is_durable
-  idle_still (inr (none, never)) = uncommitted never (is_run.crash ignored is_durable (subst (λ (o : Option (List ℕ)). IgnoresScratchNameOfOutput o ignored) (sym none) tt))
+  idle_still (inr (none, never)) = uncommitted never (is_run.crash ignored is_durable (subst (λ (o : Option (List ℕ)). IgnoresOutputScratchNameButNotIntent o ignored) (sym none) tt))
 
   pub idle_moment : IsRunWithoutCommit v run → (m : TreeState) → IsMomentOf run m → StateIsUnchanged ignored v m
   idle_moment idle m moment = at_moment (StateIsUnchanged ignored v) run v m is_run.begins (still_self ignored v is_durable) (idle_still idle) moment
@@ -78,14 +78,14 @@ module _ (IsOne : Outcome → Type 0) (unique : (a b : Outcome) → IsOne a → 
     lasts_for : (o p : Outcome) → o ≡ p → (MustOutcomeBeDurable effect ignored v o → HoldsNow now (EachCrashLeavesStateOf ignored o.files)) → MustOutcomeBeDurable effect ignored v p → HoldsNow now (EachCrashLeavesStateOf ignored p.files)
     lasts_for o p same last = subst (λ (x : Outcome). (MustOutcomeBeDurable effect ignored v x → HoldsNow now (EachCrashLeavesStateOf ignored x.files))) same last
 
-    pub lasts : (answer : Answer) → LeavesDurableFilesOnceAnswered IsOne effect ignored v now answer → IsOkRefusedOrOutputFault answer → (p : Outcome) → IsOne p → MustOutcomeBeDurable effect ignored v p → HoldsNow now (EachCrashLeavesStateOf ignored p.files)
+    pub lasts : (answer : Answer) → LeavesDurableFilesOnceAnsweredOrRefused IsOne effect ignored v now answer → IsOkRefusedOrOutputFault answer → (p : Outcome) → IsOne p → MustOutcomeBeDurable effect ignored v p → HoldsNow now (EachCrashLeavesStateOf ignored p.files)
     lasts Done is answers p one = lasts_for is.0 p (unique is.0 p is.1 one) is.3
     lasts (Refused r) is answers p one = lasts_for is.0 p (unique is.0 p is.1 one) is.3
     lasts OutFault is answers p one = lasts_for is.0 p (unique is.0 p is.1 one) is.2
     lasts TreeFault is answers p one = absurd answers
     lasts Memory is answers p one = absurd answers
 
-  pub rests : (o : Option (List ℕ)) (ignored : Ignored) (now : History) → LeavesDurableStateIfCommitted IsOne o ignored now → (p : Outcome) → IsOne p → p.commits ≡ true → HoldsNow now (IsDurableAndLeavesFiles (ignored_except_output o ignored) p.files)
+  pub rests : (o : Option (List ℕ)) (ignored : Ignored) (now : History) → LeavesDurableStateAndOutputIfCommitted IsOne o ignored now → (p : Outcome) → IsOne p → p.commits ≡ true → HoldsNow now (IsDurableAndLeavesFiles (ignored_except_output o ignored) p.files)
   rests o ignored now is p one =
       subst (λ (x : Outcome). (x.commits ≡ true → HoldsNow now (IsDurableAndLeavesFiles (ignored_except_output o ignored) x.files))) (unique is.0 p is.1 one) is.2
 
@@ -98,7 +98,7 @@ module _ (facts : Facts) (ignored : Ignored) (v : TreeState) (run : Run) (is_run
   pub now_durable : IsDurable (StateDependsOn Now) v
   now_durable = more_durable facts (output run.words) ignored v is_durable
 
-  pub now_hides : IgnoresScratchNameOfOutput (output run.words) Now
+  pub now_hides : IgnoresOutputScratchNameButNotIntent (output run.words) Now
   now_hides = hides (output run.words) ignored hidden
 
   ones : (a b : Outcome) → IsOutcomeFrom v run a → IsOutcomeFrom v run b → a ≡ b
@@ -121,16 +121,16 @@ module _ (facts : Facts) (ignored : Ignored) (v : TreeState) (run : Run) (is_run
       (at_moment (IsMomentOfReplacing Now o.files v) run v m is_run.begins (record { is_durable = now_durable; old_or_new = λ image is. inl (image, is, refl); made = omega arith }) (replacing o one) moment).is_durable
 
   -- the outcome that was answered, and what holds of the last state
-  pub answered : IsOkRefusedOrOutputFault run.answer → HoldsNow run.now (LeavesFilesOfAnsweredOutcome ignored v run)
+  pub answered : IsOkRefusedOrOutputFault run.answer → HoldsNow run.now (AnswersOutcomeAndLeavesItsFiles ignored v run)
   answered answers =
       let t = told (IsOutcomeFrom v run) ones _ _ run.answer run.out run.err is_run.stated answers in
       with_outcome t.0 t.1 t.2 t.3 answers
     where
-      with_outcome : (o : Outcome) → IsOutcomeFrom v run o → Told run.answer o → HoldsNow run.now (λ w. files_of w ≡ o.files) → IsOkRefusedOrOutputFault run.answer → HoldsNow run.now (LeavesFilesOfAnsweredOutcome ignored v run)
+      with_outcome : (o : Outcome) → IsOutcomeFrom v run o → Told run.answer o → HoldsNow run.now (λ w. files_of w ≡ o.files) → IsOkRefusedOrOutputFault run.answer → HoldsNow run.now (AnswersOutcomeAndLeavesItsFiles ignored v run)
       with_outcome o one was reads answers =
           now_with run.now (λ w. files_of w ≡ o.files)
           (λ w. (MustOutcomeBeDurable (effect_of_arguments (command_of run.words)) Now v o → EachCrashLeavesStateOf Now o.files w) × (o.commits ≡ true → IsDurableAndLeavesFiles (ignored_except_output (output run.words) ignored) o.files w))
-          (LeavesFilesOfAnsweredOutcome ignored v run)
+          (AnswersOutcomeAndLeavesItsFiles ignored v run)
           (λ w read last. record { outcome = o; is_outcome = one; answered = was; reads = read; settled = last.0; durable_state = last.1 })
           reads
           (now_with run.now

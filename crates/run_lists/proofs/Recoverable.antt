@@ -23,7 +23,7 @@ use Rattle.apk_front.specs.outcome.Work.{fault_of_intent, recovery_fault}
 use Rattle.report_core.specs.declared.refusal.Refusal.{Refusal}
 use Rattle.report_core.specs.declared.refusal.Refusal.TheVariants.{IntentBad}
 use Rattle.apk_front.specs.words_core.Grammar.{command_of}
-use Rattle.run_lists.specs.Events.{Crashes, Edits, Ends, RootEvent, Reaches, ReachesWithoutCommit, IsEventWithoutCommit, IsMomentOf, IsOutcomeFrom, IsRunFrom, IsPossibleStop, IsTransition, Run, Stops, Touches, ignored_after, ignored_during_run, nothing_ignored, ignored_with_all_touched, ignored_with_touched}
+use Rattle.run_lists.specs.Events.{Crashes, Edits, Ends, RootEvent, Reaches, ReachesWithoutCommitOrEdit, IsEventWithoutCommitOrEdit, IsMomentOf, IsOutcomeFrom, IsRunFrom, IsPossibleStop, IsTransition, Run, Stops, Touches, ignored_after, ignored_during_run, nothing_ignored, ignored_with_all_touched, ignored_with_touched}
 use Rattle.run_lists.specs.Reading.{HasBadIntent}
 use Rattle.run_lists.specs.Recovered.{ReachesWithNoBadIntentPutByOthers, HasStateOfSomeCrashBefore, HasStateOfCrashBeforeOrOutcome, HasSameState, IsRecoveredBy, IsNotRefusedForIntent, EachCrashLeavesNoBadIntent, PutsNoBadIntentIfEditByOthers}
 use Rattle.run_lists.specs.Safety.{HasStateAsReadOrOutcome, LeavesOldOrOutcome}
@@ -195,7 +195,7 @@ record QuietOn (ignored : Ignored) (m w : TreeState) : Type 0 where
   is_durable : IsDurable (StateDependsOn ignored) w
 
 module _ (facts : Facts) (crash_quiet : (ignored : Ignored) (v w : TreeState) → IsAfterCrash v w → EachCrashLeavesOld ignored v w) (start : Ignored) where
-  led_quiet : (earlier : List RootEvent) (m v : TreeState) (event : RootEvent) (w : TreeState) → QuietOn (ignored_with_all_touched earlier start) m v → IsEventWithoutCommit v event → IsTransition v event w → QuietOn (ignored_with_all_touched (event ∷ earlier) start) m w
+  led_quiet : (earlier : List RootEvent) (m v : TreeState) (event : RootEvent) (w : TreeState) → QuietOn (ignored_with_all_touched earlier start) m v → IsEventWithoutCommitOrEdit v event → IsTransition v event w → QuietOn (ignored_with_all_touched (event ∷ earlier) start) m w
   led_quiet earlier m v (Ends run) w on idle (is_run, ends) =
       let names = ignored_with_all_touched earlier start in
       let is_unchanged = idle_end names v run is_run on.is_durable idle w ends in
@@ -216,7 +216,7 @@ module _ (facts : Facts) (crash_quiet : (ignored : Ignored) (v w : TreeState) �
         is_durable = touch_durable theirs v w touch few on.is_durable;
       }
 
-  seen_quiet : (m w : TreeState) (later : List RootEvent) → IsDurable (StateDependsOn start) m → ReachesWithoutCommit m later w → QuietOn (ignored_with_all_touched later start) m w
+  seen_quiet : (m w : TreeState) (later : List RootEvent) → IsDurable (StateDependsOn start) m → ReachesWithoutCommitOrEdit m later w → QuietOn (ignored_with_all_touched later start) m w
   seen_quiet m w [] is_durable is = subst (QuietOn start m) (sym is) (record { quiet = quiet_self start m; is_durable = is_durable })
   seen_quiet m w (event ∷ earlier) is_durable (v, seen, idle, leads) = led_quiet earlier m v event w (seen_quiet m v earlier is_durable seen) idle leads
 
@@ -225,7 +225,7 @@ module _ (facts : Facts) (crash_quiet : (ignored : Ignored) (v w : TreeState) �
       → IsOkRefusedOrOutputFault run.answer → HasOutcomeWithoutCommit (IsOutcomeFrom v run) → HoldsNow run.now (λ w. files_of w ≡ unstaged_files (files_of v))) where
     -- from a moment of a run on, over what crashes and idle runs leave
     pub next_recovers : (m w : TreeState) (later : List RootEvent) (next : Run) → IsDurable (StateDependsOn start) m → EachCrashLeavesNoBadIntent m
-        → ReachesWithoutCommit m later w → IsRunFrom w next → does_recover (effect_of_arguments (command_of next.words)) ≡ true → (image : Files) × IsCrashImage m image × IsRecoveredBy (HasSameState (ignored_with_all_touched later start) image) w next
+        → ReachesWithoutCommitOrEdit m later w → IsRunFrom w next → does_recover (effect_of_arguments (command_of next.words)) ≡ true → (image : Files) × IsCrashImage m image × IsRecoveredBy (HasSameState (ignored_with_all_touched later start) image) w next
     next_recovers m w later next is_durable good seen is_next recovers =
         let names = ignored_with_all_touched later start in
         let on = seen_quiet m w later is_durable seen in
@@ -259,7 +259,7 @@ module _ (facts : Facts) (same : HasSameBadIntent) (committed : CommitsNoIntent)
     (recovered : (v : TreeState) (run : Run) → IsRunFrom v run → does_recover (effect_of_arguments (command_of run.words)) ≡ true → recovery_fault (effect_of_arguments (command_of run.words)) (files_of v) ≡ None
     → IsOkRefusedOrOutputFault run.answer → HasOutcomeWithoutCommit (IsOutcomeFrom v run) → HoldsNow run.now (λ w. files_of w ≡ unstaged_files (files_of v)))
     (start : Ignored) (off : start intent_name ≡ false) (first : TreeState) (is_durable : IsDurable (StateDependsOn start) first) (good : EachCrashLeavesNoBadIntent first) where
-  pub stopped_left : (v m w : TreeState) (events later : List RootEvent) (run next : Run) → ReachesWithNoBadIntentPutByOthers first events v → IsRunFrom v run → IsPossibleStop run m → ReachesWithoutCommit m later w
+  pub stopped_left : (v m w : TreeState) (events later : List RootEvent) (run next : Run) → ReachesWithNoBadIntentPutByOthers first events v → IsRunFrom v run → IsPossibleStop run m → ReachesWithoutCommitOrEdit m later w
       → IsRunFrom w next → does_recover (effect_of_arguments (command_of next.words)) ≡ true → (image : Files) × IsCrashImage m image × IsRecoveredBy (HasSameState (ignored_with_all_touched later (ignored_during_run run (ignored_after start events))) image) w next
   stopped_left v m w events later run next seen is_run (at, moment, torn) idly is_next recovers =
       let names = ignored_after start events in
@@ -270,7 +270,7 @@ module _ (facts : Facts) (same : HasSameBadIntent) (committed : CommitsNoIntent)
       next_recovers facts crash_quiet (ignored_during_run run names) same (scratch_hides (output run.words) names shown) only sound recovered m w later next
       (torn_durable at m torn (ignored_during_run run names) order) (torn_good at m torn is_good) idly is_next recovers
 
-  pub stopped_recovers : (v m w : TreeState) (events later : List RootEvent) (run next : Run) → ReachesWithNoBadIntentPutByOthers first events v → IsRunFrom v run → IsPossibleStop run m → ReachesWithoutCommit m later w
+  pub stopped_recovers : (v m w : TreeState) (events later : List RootEvent) (run next : Run) → ReachesWithNoBadIntentPutByOthers first events v → IsRunFrom v run → IsPossibleStop run m → ReachesWithoutCommitOrEdit m later w
       → IsRunFrom w next → does_recover (effect_of_arguments (command_of next.words)) ≡ true → IsRecoveredBy (HasStateOfCrashBeforeOrOutcome (ignored_with_all_touched later (ignored_during_run run (ignored_after start events))) v run) w next
   stopped_recovers v m w events later run next seen is_run (at, moment, torn) idly is_next recovers =
       let few = ignored_during_run run (ignored_after start events) in

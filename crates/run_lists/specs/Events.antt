@@ -4,7 +4,7 @@
 use Rattle.std.specs.Prelude.{◌≡◌, ◌≢◌, ◌⊎◌, ◌++◌, ◌||◌, ℕ, Bool, true, false, if◌then◌else◌, List, [], ◌∷◌, Option, Some, None, Contains, IsSome, IsTrue, is_some}
 use Rattle.std.specs.Str.{bytes_eq}
 use Rattle.apk_front.specs.Answers.{IsAnswerOfSomeOutcomeOrFailure, LeavesFiles}
-use Rattle.apk_front.specs.Moments.{IsOkRefusedOrOutputFault, AreStatesOfRecoveryOrCommittingRun, AreStatesOldOrLeadToOutcome, FindsValidIntentToRecover, IsRefusedOutOfMemoryOrCommitsNothing, HasNothingToRecover, IgnoresScratchNameOfOutput, LeavesDurableStateIfCommitted, LeavesDurableFilesOnceAnswered, NamesAreDurableWithoutIntentExcept, ignored_except_output}
+use Rattle.apk_front.specs.Moments.{IsOkRefusedOrOutputFault, AreStatesAsRecoveredOrOfCommittingRun, AreStatesOldOrLeadToOutcome, RecoversAndFindsValidIntent, IsRefusedOutOfMemoryOrCommitsNothing, HasNothingToRecover, IgnoresOutputScratchNameButNotIntent, LeavesDurableStateAndOutputIfCommitted, LeavesDurableFilesOnceAnsweredOrRefused, NamesAreDurableWithoutIntentExcept, ignored_except_output}
 use Rattle.apk_front.specs.declared.answer.Answer.{Answer}
 use Rattle.apk_front.specs.declared.answer.Answer.TheVariants.{Ok, TreeFault}
 use Rattle.base_core.specs.Calls.{HoldsNow}
@@ -17,7 +17,7 @@ use Rattle.base_core.specs.Undone.{IsAfterCrash, IsDurable, IsCrashMap}
 use Rattle.apk_front.specs.journal_core.Quiet.{StateIsUnchanged}
 use Rattle.apk_front.specs.journal_core.Recovery.{StateDependsOn, intent_name, is_staged}
 use Rattle.apk_front.specs.journal_core.Replacing.{scratch_name_of}
-use Rattle.apk_front.specs.outcome.Effect.{effect_of_arguments, output, reads_only}
+use Rattle.apk_front.specs.outcome.Effect.{effect_of_arguments, output, do_arguments_neither_recover_nor_write}
 use Rattle.apk_front.specs.outcome.Outcome.{Outcome}
 use Rattle.apk_front.specs.outcome.Words.{IsOutcome}
 use Rattle.apk_front.specs.outcome.Work.{recovery_fault}
@@ -61,15 +61,15 @@ pub record IsRunFrom (v : TreeState) (run : Run) : Type 0 where
   pub stated : IsAnswerOfSomeOutcomeOrFailure (IsOutcomeFrom v run) (LeavesFiles run.now)
       (IsFaultCountedWithCause run.before run.after) run.answer run.out run.err
   -- a command that only reads leaves the tree unchanged
-  pub same : IsTrue (reads_only (command_of run.words)) → run.now ≡ run.old
+  pub same : IsTrue (do_arguments_neither_recover_nor_write (command_of run.words)) → run.now ≡ run.old
   -- with nothing to recover, a run that is refused, runs out of memory or commits nothing writes nothing
   pub idle : IsRefusedOutOfMemoryOrCommitsNothing (IsOutcomeFrom v run) run.answer
       → HasNothingToRecover (effect_of_arguments (command_of run.words)) v → run.now ≡ run.old
   -- if the intent (journal entry) is bad, nothing is written
   pub bad_intent : IsSome (recovery_fault (effect_of_arguments (command_of run.words)) (files_of v))
       → run.now ≡ run.old
-  -- the files as read at each moment are as *AreStatesOfRecoveryOrCommittingRun* says
-  pub reads : AreStatesOfRecoveryOrCommittingRun (IsOutcomeFrom v run)
+  -- the files as read at each moment are as *AreStatesAsRecoveredOrOfCommittingRun* says
+  pub reads : AreStatesAsRecoveredOrOfCommittingRun (IsOutcomeFrom v run)
       (effect_of_arguments (command_of run.words))
       (output run.words) v run.old run.now
   -- if the intent is present at the start: at each moment at which it is absent, a crash undoes no change of a name,
@@ -82,25 +82,29 @@ pub record IsRunFrom (v : TreeState) (run : Run) : Type 0 where
       → IsDurable (StateDependsOn ignored) v → Since (StateIsUnchanged ignored v) run.old run.now
   -- a crash of a durable tree during the run leaves an old state, or that of an outcome that commits
   pub crash : (ignored : List ℕ → Bool)
-      → IsDurable (StateDependsOn ignored) v → IgnoresScratchNameOfOutput (output run.words) ignored
+      → IsDurable (StateDependsOn ignored) v
+      → IgnoresOutputScratchNameButNotIntent (output run.words) ignored
       → AreStatesOldOrLeadToOutcome (IsOutcomeFrom v run) (is_some (output run.words)) ignored v run.old
       run.now
   -- a durable tree is durable after the run
   pub is_durable : (ignored : List ℕ → Bool)
-      → IsDurable (StateDependsOn ignored) v → IgnoresScratchNameOfOutput (output run.words) ignored
+      → IsDurable (StateDependsOn ignored) v
+      → IgnoresOutputScratchNameButNotIntent (output run.words) ignored
       → HoldsNow run.now (IsDurable (StateDependsOn ignored))
   -- once an outcome is answered, each crash leaves its files, if they must be durable
   pub settled : (ignored : List ℕ → Bool)
-      → IsDurable (StateDependsOn ignored) v → IgnoresScratchNameOfOutput (output run.words) ignored
-      → LeavesDurableFilesOnceAnswered (IsOutcomeFrom v run)
+      → IsDurable (StateDependsOn ignored) v
+      → IgnoresOutputScratchNameButNotIntent (output run.words) ignored
+      → LeavesDurableFilesOnceAnsweredOrRefused (IsOutcomeFrom v run)
       (effect_of_arguments (command_of run.words)) ignored v
       run.now
       run.answer
   -- once an outcome that commits is answered, each crash leaves its files, also under the output's name
   pub durable_state : (ignored : List ℕ → Bool)
-      → IsDurable (StateDependsOn ignored) v → IgnoresScratchNameOfOutput (output run.words) ignored
+      → IsDurable (StateDependsOn ignored) v
+      → IgnoresOutputScratchNameButNotIntent (output run.words) ignored
       → IsOkRefusedOrOutputFault run.answer
-      → LeavesDurableStateIfCommitted (IsOutcomeFrom v run) (output run.words) ignored run.now
+      → LeavesDurableStateAndOutputIfCommitted (IsOutcomeFrom v run) (output run.words) ignored run.now
 
 -- m is a moment of a run: the state in which the run begins, or a state that the run made
 abbrev pub IsMomentOf : Run → TreeState → Type 0
@@ -193,19 +197,19 @@ IsRunWithoutCommit v run =
     ⊎ ((output run.words ≡ None) × (HasOutcomeThatCommits v run → ⊥))
 
 -- the event, which finds the state v, is a crash, a run that commits nothing, or a touch by others
-abbrev pub IsEventWithoutCommit : TreeState → RootEvent → Type 0
-IsEventWithoutCommit v (Ends run) = IsRunWithoutCommit v run
-IsEventWithoutCommit v (Stops run) = IsRunWithoutCommit v run
-IsEventWithoutCommit v Crashes = Unit {0}
-IsEventWithoutCommit v Edits = ⊥
-IsEventWithoutCommit v (Touches theirs) = Unit {0}
+abbrev pub IsEventWithoutCommitOrEdit : TreeState → RootEvent → Type 0
+IsEventWithoutCommitOrEdit v (Ends run) = IsRunWithoutCommit v run
+IsEventWithoutCommitOrEdit v (Stops run) = IsRunWithoutCommit v run
+IsEventWithoutCommitOrEdit v Crashes = Unit {0}
+IsEventWithoutCommitOrEdit v Edits = ⊥
+IsEventWithoutCommitOrEdit v (Touches theirs) = Unit {0}
 
 -- a root that was in the state `first` has seen these events, the newest first, and is in state w; each event is a
 -- crash, a touch by others, or a run that commits nothing
-abbrev pub ReachesWithoutCommit : TreeState → List RootEvent → TreeState → Type 0
-ReachesWithoutCommit first [] w = w ≡ first
-ReachesWithoutCommit first (event ∷ earlier) w =
-    (v : TreeState) × ReachesWithoutCommit first earlier v × IsEventWithoutCommit v event
+abbrev pub ReachesWithoutCommitOrEdit : TreeState → List RootEvent → TreeState → Type 0
+ReachesWithoutCommitOrEdit first [] w = w ≡ first
+ReachesWithoutCommitOrEdit first (event ∷ earlier) w =
+    (v : TreeState) × ReachesWithoutCommitOrEdit first earlier v × IsEventWithoutCommitOrEdit v event
     × IsTransition v event w
 
 -- ---- when a crash leaves one state
@@ -217,7 +221,7 @@ EnsuresOneCrashState v (Ends run) =
     IsOkRefusedOrOutputFault run.answer
     × (HasOutcomeThatCommits v run
     ⊎ ((output run.words ≡ None)
-    × FindsValidIntentToRecover (effect_of_arguments (command_of run.words)) v))
+    × RecoversAndFindsValidIntent (effect_of_arguments (command_of run.words)) v))
 EnsuresOneCrashState v (Stops run) = ⊥
 EnsuresOneCrashState v Crashes = Unit {0}
 EnsuresOneCrashState v Edits = Unit {0}

@@ -67,7 +67,7 @@ HasStateOfCrashBeforeOrOutcome ignored v run files =
     × HasSameState ignored outcome.files files)
 
 -- files are recovered: there is no intent, the staging area is empty, and the files have this state
-pub record AreRecoveredWithState (HasState : Files → Type 0) (files : Files) : Type 0 where
+pub record HaveStateWithoutIntentOrStagedFiles (HasState : Files → Type 0) (files : Files) : Type 0 where
   -- there is no intent
   pub intent : files intent_name ≡ None
   -- there is no staged file
@@ -76,7 +76,7 @@ pub record AreRecoveredWithState (HasState : Files → Type 0) (files : Files) :
   pub state : HasState files
 
 -- The run `next`, which finds the root in the state w, is not refused for an intent. It works on the recovered files,
--- and these are as *AreRecoveredWithState* says. If its outcome commits nothing, the files as read once this is
+-- and these are as *HaveStateWithoutIntentOrStagedFiles* says. If its outcome commits nothing, the files as read once this is
 -- answered are the recovered ones.
 pub record IsRecoveredBy (HasState : Files → Type 0) (w : TreeState) (next : Run) :
     Type 0 where
@@ -85,7 +85,7 @@ pub record IsRecoveredBy (HasState : Files → Type 0) (w : TreeState) (next : R
   -- the intent, if there is one, is not bad
   pub works : recovery_fault (effect_of_arguments (command_of next.words)) (files_of w) ≡ None
   -- recovery leaves files of this state, without an intent and staged files
-  pub files : AreRecoveredWithState HasState (unstaged_files (files_of w))
+  pub files : HaveStateWithoutIntentOrStagedFiles HasState (unstaged_files (files_of w))
   -- after an answer whose outcome commits nothing, the files as read are the recovered ones
   pub read : IsOkRefusedOrOutputFault next.answer → HasOutcomeWithoutCommit (IsOutcomeFrom w next)
       → HoldsNow next.now (λ u. files_of u ≡ unstaged_files (files_of w))

@@ -29,7 +29,7 @@ LeavesOldOrOutcome ignored v run m =
 
 -- At the moment m of a run that began in v, a crash leaves a state from before the run. The files as read
 -- have the state of v.
-pub record KeepsStateFromBefore (ignored : List ℕ → Bool) (v m : TreeState) : Type 0 where
+pub record KeepsStateAsReadAndAtEachCrash (ignored : List ℕ → Bool) (v m : TreeState) : Type 0 where
   -- each crash leaves an old state
   pub quiet : EachCrashLeavesOld ignored v m
   -- the files as read have the same state as in v
@@ -37,7 +37,7 @@ pub record KeepsStateFromBefore (ignored : List ℕ → Bool) (v m : TreeState) 
 
 -- the run's outcome was answered, or a fault of a sink in its place, and the files as read in w are those of the
 -- outcome
-pub record LeavesFilesOfAnsweredOutcome (ignored : List ℕ → Bool) (v : TreeState) (run : Run)
+pub record AnswersOutcomeAndLeavesItsFiles (ignored : List ℕ → Bool) (v : TreeState) (run : Run)
     (w : TreeState) : Type 0 where
   -- an outcome of the run
   pub outcome : Outcome
@@ -64,10 +64,10 @@ pub record IsSafeRun (ignored : List ℕ → Bool) (v : TreeState) (run : Run) :
       → LeavesOldOrOutcome (ignored_during_run run ignored) v run m
   -- after Ok, a refusal, or a fault of a sink, the files as read are those of the outcome
   pub answered : IsOkRefusedOrOutputFault run.answer
-      → HoldsNow run.now (LeavesFilesOfAnsweredOutcome ignored v run)
+      → HoldsNow run.now (AnswersOutcomeAndLeavesItsFiles ignored v run)
   -- a run without a commit keeps the state at each moment
   pub left : IsRunWithoutCommit v run
-      → (m : TreeState) → IsMomentOf run m → KeepsStateFromBefore ignored v m
+      → (m : TreeState) → IsMomentOf run m → KeepsStateAsReadAndAtEachCrash ignored v m
 
 -- ---- from one state
 
@@ -106,8 +106,8 @@ IsSafeAfterAnyEvents v run =
 
 -- Suppose that a root has reached the state v by any list of events, after which each crash leaves one state. Then a
 -- run that begins in v is all or nothing.
-abbrev pub IsAtomicAfterAnyEvents : TreeState → Run → Type 0
-IsAtomicAfterAnyEvents v run =
+abbrev pub IsAtomicFromOneCrashState : TreeState → Run → Type 0
+IsAtomicFromOneCrashState v run =
     (ignored : List ℕ → Bool) (first : TreeState) (events : List RootEvent)
     → ignored intent_name ≡ false → IsDurableAndLeavesFiles ignored (files_of first) first
     → ReachesOneCrashState first events v

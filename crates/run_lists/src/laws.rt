@@ -2,7 +2,7 @@
 //! state in which a run begins, and `ignored` are the names ignored at the start of the list. The
 //! rules are in `docs/crash-safety.md`, "Recovery", its last two paragraphs.
 ghost use Rattle.std.specs.Prelude.{◌≡◌, ℕ, Bool, false, true, List, None, Option, IsSome, IsTrue};
-ghost use Rattle.apk_front.specs.Moments.{IsOkRefusedOrOutputFault, HasOutcomeWithoutCommit, IgnoresScratchNameOfOutput, IsDurableAndLeavesFiles};
+ghost use Rattle.apk_front.specs.Moments.{IsOkRefusedOrOutputFault, HasOutcomeWithoutCommit, IgnoresOutputScratchNameButNotIntent, IsDurableAndLeavesFiles};
 ghost use Rattle.base_core.specs.Calls.{HoldsNow};
 ghost use Rattle.base_core.specs.Undone.{IsDurable, IsCrashImage};
 ghost use Rattle.base_core.specs.Files.{Files};
@@ -10,14 +10,14 @@ ghost use Rattle.base_core.specs.Tree.{TreeState, files_of};
 ghost use Rattle.apk_front.specs.journal_core.Kept.{IsJournalName};
 ghost use Rattle.apk_front.specs.journal_core.Recovery.{EachCrashLeavesStateOf, StateDependsOn, intent_name, state_of};
 ghost use Rattle.apk_front.specs.journal_core.Staged.{unstaged_files};
-ghost use Rattle.apk_front.specs.outcome.Effect.{does_recover, effect_of_arguments, output, reads_only};
+ghost use Rattle.apk_front.specs.outcome.Effect.{does_recover, effect_of_arguments, output, do_arguments_neither_recover_nor_write};
 ghost use Rattle.apk_front.specs.outcome.Outcome.{Outcome};
 ghost use Rattle.apk_front.specs.outcome.Words.{IsOutcome};
 ghost use Rattle.apk_front.specs.outcome.Work.{recovery_fault};
-ghost use Rattle.run_lists.specs.Events.{AreNamesAmong, RootEvent, HasNoUnfinishedOutputOrTouchSinceSync, HasNoUnfinishedRunSinceCrash, Reaches, ReachesWithoutCommit, ReachesOneCrashState, IsRunWithoutCommit, IsMomentOf, IsOutcomeFrom, IsRunFrom, IsPossibleStop, Run, ignored_after, ignored_during_run, nothing_ignored, ignored_with_all_touched, ignored_with_scratch};
+ghost use Rattle.run_lists.specs.Events.{AreNamesAmong, RootEvent, HasNoUnfinishedOutputOrTouchSinceSync, HasNoUnfinishedRunSinceCrash, Reaches, ReachesWithoutCommitOrEdit, ReachesOneCrashState, IsRunWithoutCommit, IsMomentOf, IsOutcomeFrom, IsRunFrom, IsPossibleStop, Run, ignored_after, ignored_during_run, nothing_ignored, ignored_with_all_touched, ignored_with_scratch};
 ghost use Rattle.run_lists.specs.Reading.{HasBadIntent, HasOldRecoveredOrOutcomeBytes, ReachesByRuns, IsUnrestrictedRun, HasDurableRecoveredOrOutcomeBytes, IsNoJournalOutputOrIgnoredName, IsNoJournalOrTemporaryName, HoldsAsReadAndAsRecovered, EachCommitPassesTestAtName};
 ghost use Rattle.run_lists.specs.Recovered.{ReachesWithNoBadIntentPutByOthers, HasStateOfCrashBeforeOrOutcome, HasSameState, IsRecoveredBy, IsNotRefusedForIntent, EachCrashLeavesNoBadIntent};
-ghost use Rattle.run_lists.specs.Safety.{HasStateAsReadOrOutcome, IsAtomicAfterAnyEvents, IsSafeAfterAnyEvents};
+ghost use Rattle.run_lists.specs.Safety.{HasStateAsReadOrOutcome, IsAtomicFromOneCrashState, IsSafeAfterAnyEvents};
 ghost use Rattle.apk_front.specs.words_core.Grammar.{command_of};
 
 use apk_front::{
@@ -50,7 +50,8 @@ pub fn a_run_is_safe_after_any_events()
         → IsDurable (StateDependsOn ignored) first
         → Reaches first events v
         → let names = ignored_with_scratch (output words) (ignored_after ignored events) in
-        IsDurable (StateDependsOn names) v × IgnoresScratchNameOfOutput (output words) names }
+        IsDurable (StateDependsOn names) v
+        × IgnoresOutputScratchNameButNotIntent (output words) names }
 
     // On an ordinary root no name is ignored at first. None becomes ignored until a run with an
     // output is stopped, or ends by an I/O error of the tree.
@@ -79,7 +80,8 @@ pub fn a_run_is_safe_after_any_events()
         → ReachesOneCrashState first events v }
 
     // If each crash leaves one state before the next run, this run is all or nothing (*IsAtomic*).
-    ensures atomic { (v : TreeState) (run : Run) → IsRunFrom v run → IsAtomicAfterAnyEvents v run }
+    ensures atomic { (v : TreeState) (run : Run) → IsRunFrom v run
+        → IsAtomicFromOneCrashState v run }
 {
     // Laws that the proof needs; they have no effect at run time.
     a_crash_leaves_a_durable_settled_tree();
@@ -95,7 +97,7 @@ pub fn a_root_that_commits_nothing_keeps_its_state()
     // Crashes, and runs that commit nothing, ended or stopped, leave the state unchanged, apart
     // from names that others touched.
     ensures again { (ignored : List ℕ → Bool) (v w : TreeState) (events : List RootEvent)
-        → IsDurableAndLeavesFiles ignored (files_of v) v → ReachesWithoutCommit v events w
+        → IsDurableAndLeavesFiles ignored (files_of v) v → ReachesWithoutCommitOrEdit v events w
         → IsDurableAndLeavesFiles (ignored_with_all_touched events ignored) (files_of v) w }
 
     // Suppose that two trees come from the same tree by events without a commit. They have the same
@@ -103,13 +105,14 @@ pub fn a_root_that_commits_nothing_keeps_its_state()
     // lists.
     ensures agree { (ignored names : List ℕ → Bool) (v w u : TreeState)
         (events others : List RootEvent) → IsDurableAndLeavesFiles ignored (files_of v) v
-        → ReachesWithoutCommit v events w → ReachesWithoutCommit v others u
+        → ReachesWithoutCommitOrEdit v events w → ReachesWithoutCommitOrEdit v others u
         → AreNamesAmong (ignored_with_all_touched events ignored) names
         → AreNamesAmong (ignored_with_all_touched others ignored) names
         → state_of names (files_of w) ≡ state_of names (files_of u) }
 
     // A run commits nothing if its command only reads.
-    ensures readers { (v : TreeState) (run : Run) → IsTrue (reads_only (command_of run.words))
+    ensures readers { (v : TreeState) (run : Run)
+        → IsTrue (do_arguments_neither_recover_nor_write (command_of run.words))
         → IsRunWithoutCommit v run }
 
     // A state of files has, under each name that is not ignored, the recovered file.
@@ -234,7 +237,7 @@ pub fn a_stopped_run_is_recovered()
         (events later : List RootEvent) (run next : Run) → ignored intent_name ≡ false
         → IsDurable (StateDependsOn ignored) first
         → EachCrashLeavesNoBadIntent first → ReachesWithNoBadIntentPutByOthers first events v
-        → IsRunFrom v run → IsPossibleStop run m → ReachesWithoutCommit m later w
+        → IsRunFrom v run → IsPossibleStop run m → ReachesWithoutCommitOrEdit m later w
         → IsRunFrom w next → does_recover (effect_of_arguments (command_of next.words)) ≡ true
         → let names = ignored_during_run run (ignored_after ignored events) in
         IsRecoveredBy (HasStateOfCrashBeforeOrOutcome
@@ -246,7 +249,7 @@ pub fn a_stopped_run_is_recovered()
         (events later : List RootEvent) (run next : Run) → ignored intent_name ≡ false
         → IsDurable (StateDependsOn ignored) first
         → EachCrashLeavesNoBadIntent first → ReachesWithNoBadIntentPutByOthers first events v
-        → IsRunFrom v run → IsPossibleStop run m → ReachesWithoutCommit m later w
+        → IsRunFrom v run → IsPossibleStop run m → ReachesWithoutCommitOrEdit m later w
         → IsRunFrom w next → does_recover (effect_of_arguments (command_of next.words)) ≡ true
         → let names = ignored_during_run run (ignored_after ignored events) in
         (image : Files) × IsCrashImage m image

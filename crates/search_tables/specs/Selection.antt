@@ -145,16 +145,16 @@ IsBestMember pool selection need c =
 
 -- the last list is the rest of the walk of the selection after the choices `chosen`. For each next need, this rest
 -- has the best member in rank that meets the need, until no need is left
-abbrev pub IsSelectionWithChosenAndRestOfWalk : SealedPool → List ℕ → List ℕ → List ℕ → Type 0
-IsSelectionWithChosenAndRestOfWalk pool selection chosen [] = next_need pool chosen ≡ None
-IsSelectionWithChosenAndRestOfWalk pool selection chosen (c ∷ rest) =
+abbrev pub IsRestOfSelectionWalkAfterChosen : SealedPool → List ℕ → List ℕ → List ℕ → Type 0
+IsRestOfSelectionWalkAfterChosen pool selection chosen [] = next_need pool chosen ≡ None
+IsRestOfSelectionWalkAfterChosen pool selection chosen (c ∷ rest) =
     (need : Need) × (next_need pool chosen ≡ Some need) × IsBestMember pool selection need c
-    × IsSelectionWithChosenAndRestOfWalk pool selection (chosen ++ c ∷ []) rest
+    × IsRestOfSelectionWalkAfterChosen pool selection (chosen ++ c ∷ []) rest
 
 -- the walk of a selection, from no choices on: for each next need, the walk has the best member that meets the need,
 -- until no need is left
-abbrev pub IsSelectionWithWalk : SealedPool → List ℕ → List ℕ → Type 0
-IsSelectionWithWalk pool selection walk = IsSelectionWithChosenAndRestOfWalk pool selection [] walk
+abbrev pub IsSelectionWalk : SealedPool → List ℕ → List ℕ → Type 0
+IsSelectionWalk pool selection walk = IsRestOfSelectionWalkAfterChosen pool selection [] walk
 
 -- two walks begin with the choices `chosen`. The rest of one walk is preferred to the rest `other` of the other walk
 -- if, at the first place where they differ, the first rest has the candidate that is better in rank for the next need
@@ -175,8 +175,8 @@ pub record IsFirstPreferredSelection (pool : SealedPool) (trace : List ℕ) : Ty
   -- the selection satisfies the world
   pub satisfies : IsSatisfying pool trace
   -- the members are in the order of the walk: for each next need, the best member that meets it
-  pub walked : IsSelectionWithWalk pool trace trace
+  pub walked : IsSelectionWalk pool trace trace
   -- the walk of each satisfying selection is equal to `trace`, or `trace` is preferred to it
   pub first :
-      (selection walk : List ℕ) → IsSatisfying pool selection → IsSelectionWithWalk pool selection walk →
+      (selection walk : List ℕ) → IsSatisfying pool selection → IsSelectionWalk pool selection walk →
       (walk ≡ trace) ⊎ IsWalkPreferredTo pool trace walk

@@ -11,7 +11,7 @@ use Rattle.search_choices.specs.candidate_core.Candidates.{Need, is_eligible}
 use Rattle.search_choices.specs.candidate_core.Rank.{SealedPool, is_better, meets_at, rank_cmp}
 use Rattle.search_choices.specs.candidate_core.Options.{IsSortedBestFirst, IsIn, options_for, places_passing_counted_from}
 use Rattle.search_choices.specs.search_tables.Reasons.{HasOptions}
-use Rattle.search_choices.specs.search_tables.Selection.{AreAllMembersOf, IsWalkPreferredTo, IsAfterChosenRestOfWalkPreferredToOther, IsFirstPreferredSelection, IsSatisfying, IsSelectionWithWalk, IsSelectionWithChosenAndRestOfWalk, next_need}
+use Rattle.search_choices.specs.search_tables.Selection.{AreAllMembersOf, IsWalkPreferredTo, IsAfterChosenRestOfWalkPreferredToOther, IsFirstPreferredSelection, IsSatisfying, IsSelectionWalk, IsRestOfSelectionWalkAfterChosen, next_need}
 use Rattle.search_choices.proofs.search_tables.Theory as law
 use Rattle.search_choices.proofs.search_tables.Turns.{PoolFacts}
 use Rattle.search_choices.proofs.search_tables.PoolFacts.{pool_facts}
@@ -61,20 +61,20 @@ module _ (pool : SealedPool) (total : (need : Need) → IsTotalOrder (rank_cmp p
     facts : PoolFacts pool
     facts = pool_facts pool has
 
-    pub walk_satisfies : (selection walk : List ℕ) → IsSatisfying pool selection → IsSelectionWithWalk pool selection walk → IsSatisfying pool walk
+    pub walk_satisfies : (selection walk : List ℕ) → IsSatisfying pool selection → IsSelectionWalk pool selection walk → IsSatisfying pool walk
     walk_satisfies selection walk s walked =
         satisfying_of_closed pool walk (law.law facts selection walk (tt, (λ c h. absurd h), λ a b h. absurd h) (closed_of_satisfying pool selection s) walked)
 
-    pub walk_of_walk : (selection walk : List ℕ) → IsSelectionWithWalk pool selection walk → IsSelectionWithWalk pool walk walk
+    pub walk_of_walk : (selection walk : List ℕ) → IsSelectionWalk pool selection walk → IsSelectionWalk pool walk walk
     walk_of_walk selection walk walked = law.walk_idem facts selection walk walked
 
-    pub has_a_walk : (selection : List ℕ) → IsSatisfying pool selection → (walk : List ℕ) × IsSelectionWithWalk pool selection walk
+    pub has_a_walk : (selection : List ℕ) → IsSatisfying pool selection → (walk : List ℕ) × IsSelectionWalk pool selection walk
     has_a_walk selection s = law.walk_of_sat facts (λ q. sorted_of (is_better pool q) (options_for pool q) (has q).best_first) selection (closed_of_satisfying pool selection s)
 
-    pub has_one_walk : (selection walk other : List ℕ) → IsSelectionWithWalk pool selection walk → IsSelectionWithWalk pool selection other → walk ≡ other
+    pub has_one_walk : (selection walk other : List ℕ) → IsSelectionWalk pool selection walk → IsSelectionWalk pool selection other → walk ≡ other
     has_one_walk selection walk other a b = law.walk_unique facts one_way selection [] walk other a b
 
-    pub walks_compare : (selection other walk second : List ℕ) → IsSatisfying pool selection → IsSatisfying pool other → IsSelectionWithWalk pool selection walk → IsSelectionWithWalk pool other second → (walk ≡ second) ⊎ (IsWalkPreferredTo pool walk second ⊎ IsWalkPreferredTo pool second walk)
+    pub walks_compare : (selection other walk second : List ℕ) → IsSatisfying pool selection → IsSatisfying pool other → IsSelectionWalk pool selection walk → IsSelectionWalk pool other second → (walk ≡ second) ⊎ (IsWalkPreferredTo pool walk second ⊎ IsWalkPreferredTo pool second walk)
     walks_compare selection other walk second s o a b =
         law.before_total facts (λ q c d gc gd mc md. one_of q c d) selection other [] walk second (closed_of_satisfying pool selection s) (closed_of_satisfying pool other o) a b
 
@@ -86,7 +86,7 @@ module _ (pool : SealedPool) (total : (need : Need) → IsTotalOrder (rank_cmp p
 
     -- of a selection that has the choices in front and another option, the walk takes these choices
     -- too, and then none that is better than the option
-    as_good : (trace selection u front rest w : List ℕ) (c o : ℕ) (need : Need) → IsSelectionWithChosenAndRestOfWalk pool trace u (front ++ c ∷ rest) → IsSelectionWithChosenAndRestOfWalk pool selection u w → (w ≡ front ++ c ∷ rest) ⊎ IsAfterChosenRestOfWalkPreferredToOther pool u (front ++ c ∷ rest) w → next_need pool (u ++ front) ≡ Some need → AreAllMembersOf (front ++ o ∷ []) selection → meets_at pool o need ≡ true → (o ≡ c) ⊎ (is_better pool need c o ≡ true)
+    as_good : (trace selection u front rest w : List ℕ) (c o : ℕ) (need : Need) → IsRestOfSelectionWalkAfterChosen pool trace u (front ++ c ∷ rest) → IsRestOfSelectionWalkAfterChosen pool selection u w → (w ≡ front ++ c ∷ rest) ⊎ IsAfterChosenRestOfWalkPreferredToOther pool u (front ++ c ∷ rest) w → next_need pool (u ++ front) ≡ Some need → AreAllMembersOf (front ++ o ∷ []) selection → meets_at pool o need ≡ true → (o ≡ c) ⊎ (is_better pool need c o ≡ true)
     as_good trace selection u [] rest [] c o need tw sw first next in_it meets = elim first [
       | inl e ↦ absurd (cc)
       | inr b ↦ absurd b
@@ -115,7 +115,7 @@ module _ (pool : SealedPool) (total : (need : Need) → IsTotalOrder (rank_cmp p
     as_good trace selection u (f ∷ front) rest (d ∷ w) c o need tw sw first next in_it meets =
         let further : next_need pool ((u ++ f ∷ []) ++ front) ≡ Some need = subst (λ (z : List ℕ). next_need pool z ≡ Some need) (sym (append_assoc u (f ∷ []) front)) next in
         let on : f ≡ d → (w ≡ front ++ c ∷ rest) ⊎ IsAfterChosenRestOfWalkPreferredToOther pool (u ++ f ∷ []) (front ++ c ∷ rest) w → (o ≡ c) ⊎ (is_better pool need c o ≡ true) = λ e after.
-        as_good trace selection (u ++ f ∷ []) front rest w c o need tw.3 (subst (λ (z : ℕ). IsSelectionWithChosenAndRestOfWalk pool selection (u ++ z ∷ []) w) (sym e) sw.3) after further (λ k h. in_it k (inr h)) meets in
+        as_good trace selection (u ++ f ∷ []) front rest w c o need tw.3 (subst (λ (z : ℕ). IsRestOfSelectionWalkAfterChosen pool selection (u ++ z ∷ []) w) (sym e) sw.3) after further (λ k h. in_it k (inr h)) meets in
         elim first [
           | inl e ↦ let is : f ≡ d = cc in let rest_is : w ≡ front ++ c ∷ rest = cc in on is (inl rest_is)
           | inr b ↦ elim b [

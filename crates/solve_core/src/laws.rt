@@ -4,7 +4,7 @@
 ghost use Rattle.std.specs.Prelude.{◌≡◌, ◌⊎◌, ℕ, true, List, [], ◌∷◌, ◌++◌, Some};
 ghost use Rattle.search_choices.specs.candidate_core.Candidates.{Need};
 ghost use Rattle.search_choices.specs.candidate_core.Rank.{SealedPool, is_better, meets_at};
-ghost use Rattle.search_choices.specs.search_tables.Selection.{AreAllMembersOf, IsWalkPreferredTo, IsFirstPreferredSelection, IsSatisfying, IsSelectionWithWalk, next_need};
+ghost use Rattle.search_choices.specs.search_tables.Selection.{AreAllMembersOf, IsWalkPreferredTo, IsFirstPreferredSelection, IsSatisfying, IsSelectionWalk, next_need};
 
 use crate::selection::options_are_as_promised;
 use search_choices::rank_is_total;
@@ -13,11 +13,11 @@ use search_choices::rank_is_total;
 pub fn walks_satisfy()
     // The walk of a satisfying selection is a satisfying selection too.
     ensures satisfies { (pool : SealedPool) (selection walk : List ℕ) →
-        IsSatisfying pool selection → IsSelectionWithWalk pool selection walk
+        IsSatisfying pool selection → IsSelectionWalk pool selection walk
         → IsSatisfying pool walk }
     // The walk of a selection is its own walk.
     ensures walked { (pool : SealedPool) (selection walk : List ℕ) →
-        IsSelectionWithWalk pool selection walk → IsSelectionWithWalk pool walk walk }
+        IsSelectionWalk pool selection walk → IsSelectionWalk pool walk walk }
 {
     // Laws that the proof needs; they have no effect at run time.
     options_are_as_promised();
@@ -28,10 +28,10 @@ pub fn walks_satisfy()
 pub fn each_selection_has_one_walk()
     // Each satisfying selection has a walk.
     ensures some { (pool : SealedPool) (selection : List ℕ) →
-        IsSatisfying pool selection → (walk : List ℕ) × IsSelectionWithWalk pool selection walk }
+        IsSatisfying pool selection → (walk : List ℕ) × IsSelectionWalk pool selection walk }
     // A selection has at most one walk.
     ensures one { (pool : SealedPool) (selection walk other : List ℕ) →
-        IsSelectionWithWalk pool selection walk → IsSelectionWithWalk pool selection other → walk
+        IsSelectionWalk pool selection walk → IsSelectionWalk pool selection other → walk
         ≡ other }
 {
     // Laws that the proof needs; they have no effect at run time.
@@ -45,7 +45,7 @@ pub fn walks_have_one_order()
     // Of the walks of two satisfying selections, one is preferred to the other, or they are equal.
     ensures one_of { (pool : SealedPool) (selection other walk second : List ℕ) →
         IsSatisfying pool selection → IsSatisfying pool other →
-        IsSelectionWithWalk pool selection walk → IsSelectionWithWalk pool other second →
+        IsSelectionWalk pool selection walk → IsSelectionWalk pool other second →
         (walk ≡ second) ⊎ (IsWalkPreferredTo pool walk second
         ⊎ IsWalkPreferredTo pool second walk) }
     // Of two walks, at most one is preferred to the other.

@@ -3,7 +3,7 @@ use Rattle.std.proofs.Common.{◌≡◌, ◌⊎◌, inl, inr, ℕ, zero, suc, �
 use Rattle.std.specs.Prelude.{Option, Some, None, Result, Ok, Err, IfOk, IfSome, MatchBool, MatchOption, Vec, ◌==◌, slice_get}
 use Rattle.std.specs.declared.alloc.Global.{Global}
 use Rattle.dep_core.specs.Repositories.{Repository}
-use Rattle.unmet_world.specs.Lines.{IsExplanationOfUnmetWorld, explanation_text}
+use Rattle.unmet_world.specs.Lines.{IsExplanationOfUnmetWorldOfPool, explanation_text}
 use Rattle.std.proofs.lemmas.Bool.Decides.{eqb_tells}
 use Rattle.search_tables.specs.candidate_core.Candidates.{entry}
 use Rattle.search_tables.specs.candidate_core.Rank.{SealedPool}
@@ -77,6 +77,6 @@ never pool (Ok found) none = λ index first. absurd (none index first.unmet)
 never pool (Err e) none = tt
 
 -- the text that is printed of what was found explains the world
-pub explained : {E : Type 0} (pool : SealedPool) (listed : List Dependency) (repositories : List Repository) (found : Option Refutation) (r : Result (Vec ℕ Global) E) → IfSome found (IsRefutation pool) → ((index : ℕ) → IsFirstUnmetOfWorld pool index → MatchOption found ⊥ (λ x. (x.steps.items ≡ []) × (x.end ≡ want_of_world_entry index))) → IfOk r (λ text. text.items ≡ explanation_text pool listed repositories found) → IfOk r (λ text. IsExplanationOfUnmetWorld pool listed repositories text.items)
+pub explained : {E : Type 0} (pool : SealedPool) (listed : List Dependency) (repositories : List Repository) (found : Option Refutation) (r : Result (Vec ℕ Global) E) → IfSome found (IsRefutation pool) → ((index : ℕ) → IsFirstUnmetOfWorld pool index → MatchOption found ⊥ (λ x. (x.steps.items ≡ []) × (x.end ≡ want_of_world_entry index))) → IfOk r (λ text. text.items ≡ explanation_text pool listed repositories found) → IfOk r (λ text. IsExplanationOfUnmetWorldOfPool pool listed repositories text.items)
 explained pool listed repositories found (Ok text) refutes named says = record { found = found; refutes = refutes; named = named; says = says }
 explained pool listed repositories found (Err e) refutes named says = tt

@@ -9,7 +9,7 @@ use Rattle.search_tables.specs.candidate_core.Candidates.{Candidate, is_eligible
 use Rattle.search_tables.specs.candidate_core.Rank.{SealedPool}
 use Rattle.search_tables.specs.candidate_core.Options.{IsIn}
 use Rattle.search_tables.specs.Selection.{IsSatisfying, install_if_applies, names_whose_install_if_applies, positive_needs}
-use Rattle.unmet_world.specs.Lines.{IsExplanationOfUnmetWorld, explanation_text, missing_lines, most_printed_lines, need_lines, printed_line, text_of_at_most_ten_lines, refutation_lines, step_lines, want_lines, with_texts, world_lines}
+use Rattle.unmet_world.specs.Lines.{IsExplanationOfUnmetWorldOfPool, explanation_text, missing_lines, most_printed_lines, need_lines, printed_line, text_of_at_most_ten_lines, refutation_lines, step_lines, want_lines, with_texts, world_lines}
 use Rattle.unmet_world.specs.Refutation.{IsRefutation, wanted}
 use Rattle.unmet_world.specs.declared.refutation.Refutation.{Refutation}
 
@@ -87,7 +87,7 @@ refutation_has_line pool listed repositories r is none =
     first None d at e = absurd (cc)
     first (Some found) d at e = more_than_none _ [] (missing_lines pool listed found) e
 
-pub has_line : (pool : SealedPool) (listed : List Dependency) (repositories : List Repository) (text : List ℕ) → IsExplanationOfUnmetWorld pool listed repositories text → ((selection : List ℕ) → IsSatisfying pool selection → ⊥) → text ≡ [] → ⊥
+pub has_line : (pool : SealedPool) (listed : List Dependency) (repositories : List Repository) (text : List ℕ) → IsExplanationOfUnmetWorldOfPool pool listed repositories text → ((selection : List ℕ) → IsSatisfying pool selection → ⊥) → text ≡ [] → ⊥
 has_line pool listed repositories text h unmet empty = by h.found h.refutes (sym h.says ∙ empty)
   where
     by : (found : Option Refutation) → IfSome found (IsRefutation pool) → explanation_text pool listed repositories found ≡ [] → ⊥

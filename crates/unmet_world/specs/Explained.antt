@@ -17,7 +17,7 @@ use Rattle.command_core.specs.declared.command.Applet.TheVariants.{Add, Del, Upg
 use Rattle.change_inputs.specs.package_files.Runs.{HoldsOfSomeReadsOfTree}
 use Rattle.report_core.specs.declared.refusal.Refusal.{Refusal}
 use Rattle.hint_core.specs.Repositories.{no_index_line}
-use Rattle.unmet_world.specs.Lines.{IsExplanationOfUnmetWorld}
+use Rattle.unmet_world.specs.Lines.{IsExplanationOfUnmetWorldOfPool}
 
 -- a text explains why no selection satisfies the world of a pool. `listed` has the entries of the file of world, and
 -- the candidates are from these repositories
@@ -25,7 +25,7 @@ pub record ExplainsPool (listed : List Dependency) (repositories : List Reposito
     (pool : SealedPool) (text : List ℕ) : Type 0 where
   -- the explanation itself
   pub front : List ℕ
-  pub explains : IsExplanationOfUnmetWorld pool listed repositories front
+  pub explains : IsExplanationOfUnmetWorldOfPool pool listed repositories front
   -- the line on repositories follows it
   pub whole : text ≡ front ++ no_index_line repositories
 

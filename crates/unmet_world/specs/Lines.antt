@@ -276,7 +276,7 @@ explanation_text pool listed repositories found =
 
 -- a text explains why no selection satisfies the world of a pool: the text is that of a refutation, or, without one,
 -- that of the entries of world. `listed` has the entries of the file of world
-pub record IsExplanationOfUnmetWorld (pool : SealedPool) (listed : List Dependency)
+pub record IsExplanationOfUnmetWorldOfPool (pool : SealedPool) (listed : List Dependency)
     (repositories : List Repository) (text : List ℕ) : Type 0 where
   -- the refutation that was found, if one was
   pub found : Option Refutation

@@ -5,7 +5,7 @@ ghost use Rattle.dep_core.specs.Dependency.{Dependency};
 ghost use Rattle.dep_core.specs.Repositories.{Repository};
 ghost use Rattle.search_tables.specs.candidate_core.Rank.{SealedPool};
 ghost use Rattle.search_tables.specs.Selection.{IsSatisfying};
-ghost use Rattle.unmet_world.specs.Lines.{IsExplanationOfUnmetWorld};
+ghost use Rattle.unmet_world.specs.Lines.{IsExplanationOfUnmetWorldOfPool};
 ghost use Rattle.unmet_world.specs.Refutation.{IsRefutation};
 ghost use Rattle.unmet_world.specs.declared.refutation.Refutation.{Refutation};
 
@@ -22,6 +22,6 @@ pub fn a_refuted_world_has_no_selection()
 /// If no selection satisfies a world, each text that explains the world has a line.
 pub fn an_explanation_has_a_line()
     ensures { (pool : SealedPool) (listed : List Dependency) (repositories : List Repository)
-        (text : List ℕ) → IsExplanationOfUnmetWorld pool listed repositories text →
+        (text : List ℕ) → IsExplanationOfUnmetWorldOfPool pool listed repositories text →
         ((selection : List ℕ) → IsSatisfying pool selection → ⊥) → text ≡ [] → ⊥ }
 {}

@@ -1,7 +1,7 @@
 //! Why no selection satisfies a world: a refutation. The rules are in `docs/selection.md`, "What
 //! satisfies world" and "`unable to select packages`".
 ghost use Rattle.std.specs.Prelude.{◌≡◌, ℕ, [], IfOk, IfSome, MatchBool, MatchOption};
-ghost use Rattle.unmet_world.specs.Lines.{IsExplanationOfUnmetWorld};
+ghost use Rattle.unmet_world.specs.Lines.{IsExplanationOfUnmetWorldOfPool};
 ghost use Rattle.unmet_world.specs.Refutation.{IsFirstUnmetOfWorld, IsRefutation, IsUnmet, want_of_world_entry};
 
 use crate::lines::explanation;
@@ -56,7 +56,7 @@ pub fn explanation_of(
     // The world is the one with which the pool was sealed.
     requires { world.now ≡ pool.now.world }
     ensures { IfOk result (λ text.
-        IsExplanationOfUnmetWorld pool.now listed.now repositories.now text.items) }
+        IsExplanationOfUnmetWorldOfPool pool.now listed.now repositories.now text.items) }
 {
     let found = why_unmet(alloc, pool, world)?;
     let sources = Sources {

@@ -8,7 +8,7 @@ use Rattle.version_core.specs.Order.{is_version, tokens}
 use Rattle.version_core.specs.Token.{later_component_lexeme, next_lexeme, number_lexeme}
 use Rattle.v2_lines.specs.make_info.Fields.{FieldValue, text, text_value_if}
 use Rattle.v2_lines.specs.InfoFields.{field_of_letter, is_list_info_field}
-use Rattle.v2_lines.specs.Lines.{info_line, record_line_of_letter, record_line_of}
+use Rattle.v2_lines.specs.Lines.{info_line, record_line_or_skipped_if_letter_unknown, record_line_of}
 use Rattle.v2_lines.specs.declared.field.InfoField.{InfoField}
 use Rattle.v2_lines.specs.declared.field.InfoField.TheVariants as Fields
 use Rattle.v2_core.specs.Reading.{records_from_unfinished_record, records_followed_by, record_with_text_line}
@@ -26,11 +26,11 @@ pub record Completed (n : ℕ) (r : Record) (front : List (List ℕ)) : Type 0 w
 -- ---- a name and a version are added if they are lacking
 
 name_line : (name : List ℕ) → is_package_name name ≡ true → record_line_of (80 ∷ 58 ∷ name) ≡ Some (info_line Fields.Name (text name ∷ []))
-unfolding record_line_of_letter field_of_letter
+unfolding record_line_or_skipped_if_letter_unknown field_of_letter
 name_line name h = ap (λ b. option_map (info_line Fields.Name) (text_value_if b name)) h
 
 version_line : (version : List ℕ) → is_version version ≡ true → record_line_of (86 ∷ 58 ∷ version) ≡ Some (info_line Fields.Version (text version ∷ []))
-unfolding record_line_of_letter field_of_letter
+unfolding record_line_or_skipped_if_letter_unknown field_of_letter
 version_line version h = ap (λ b. option_map (info_line Fields.Version) (text_value_if b version)) h
 
 with_one : (r : Record) (f : InfoField) (values : List FieldValue) → is_list_info_field f ≡ false → has_line_of_field f r.info ≡ false → with_record_line r (info_line f values) ≡ Some (record_from_parts true (r.info ++ info_line_from_parts f values ∷ []) r.folders)

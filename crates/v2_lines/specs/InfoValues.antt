@@ -26,27 +26,27 @@ sha1_in_text (q ∷ one ∷ encoded) =
     if (q == 81) && (one == 49) then bytes_if_twenty (base64_bytes standard encoded) else None
 
 -- the values of a field that has one text
-abbrev pub single_text_value : List ℕ → List FieldValue
-single_text_value bytes = text bytes ∷ []
+abbrev pub list_of_one_text_value : List ℕ → List FieldValue
+list_of_one_text_value bytes = text bytes ∷ []
 
 -- the values of a field that has one number
-abbrev pub single_number_value : ℕ → List FieldValue
-single_number_value n = number n ∷ []
+abbrev pub list_of_one_number_value : ℕ → List FieldValue
+list_of_one_number_value n = number n ∷ []
 
 -- the values of a commit, by the result of decoding its text: the bytes, if the text consists of pairs of
 -- hexadecimal digits. Another text is dropped, and has no value
 abbrev pub commit_values : Result (List ℕ) FromHexError → List FieldValue
-commit_values (Ok bytes) = single_text_value bytes
+commit_values (Ok bytes) = list_of_one_text_value bytes
 commit_values (Err e) = []
 
 -- the values that a text after the colon of a line gives, by the grammar of the line's field; None if the text is
 -- not in the grammar
 abbrev pub values_under_grammar : Grammar → List ℕ → Option (List FieldValue)
-values_under_grammar Grammars.Sha1Text value = option_map single_text_value (sha1_in_text value)
+values_under_grammar Grammars.Sha1Text value = option_map list_of_one_text_value (sha1_in_text value)
 values_under_grammar Grammars.PackageName value = text_value_if (is_package_name value) value
 values_under_grammar Grammars.PackageVersion value = text_value_if (is_version value) value
 values_under_grammar Grammars.AnyText value = text_value_if true value
-values_under_grammar Grammars.Number value = option_map single_number_value (decimal_number value)
+values_under_grammar Grammars.Number value = option_map list_of_one_number_value (decimal_number value)
 values_under_grammar Grammars.Commit value = Some (commit_values (hex_bytes value))
 values_under_grammar Grammars.Dependencies value =
     dependency_values_in (nonempty_parts_between_spaces value)

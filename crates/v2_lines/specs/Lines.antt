@@ -32,23 +32,25 @@ file_line_if_one_part name = if is_one_part name then Some (file_line name) else
 
 -- the meaning of a line on the package itself, by its field and the text after its colon. A line with an unlisted
 -- letter has no field, and is skipped
-abbrev pub info_record_line : Option InfoField → List ℕ → Option RecordLine
-info_record_line None value = Some other_line
-info_record_line (Some f) value = option_map (info_line f) (values_under_grammar (grammar_of f) value)
+abbrev pub info_line_or_skipped_if_no_field : Option InfoField → List ℕ → Option RecordLine
+info_line_or_skipped_if_no_field None value = Some other_line
+info_line_or_skipped_if_no_field (Some f) value =
+    option_map (info_line f) (values_under_grammar (grammar_of f) value)
 
 -- the meaning of a line with this letter and this value; None if the value is not in the letter's
 -- grammar
-unfoldable pub record_line_of_letter : ℕ → List ℕ → Option RecordLine
-record_line_of_letter letter value =
+unfoldable pub record_line_or_skipped_if_letter_unknown : ℕ → List ℕ → Option RecordLine
+record_line_or_skipped_if_letter_unknown letter value =
     if letter == FOLDER then folder_line_if_path value else
     if letter == FOLDER_ACCESS then option_map folder_access_line (access_in value) else
     if letter == FILE then file_line_if_one_part value else
     if letter == FILE_ACCESS then option_map file_access_line (access_in value) else
     if letter == FILE_HASH then option_map file_hash_line (sha1_in_text value) else
-    info_record_line (field_of_letter letter) value
+    info_line_or_skipped_if_no_field (field_of_letter letter) value
 
 -- the meaning of a line, which is a letter, a colon (`MARK`) and a value; None if the line is bad
 abbrev pub record_line_of : List ℕ → Option RecordLine
 record_line_of [] = None
 record_line_of (letter ∷ []) = None
-record_line_of (letter ∷ mark ∷ value) = if mark == MARK then record_line_of_letter letter value else None
+record_line_of (letter ∷ mark
+    ∷ value) = if mark == MARK then record_line_or_skipped_if_letter_unknown letter value else None

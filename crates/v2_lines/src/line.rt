@@ -6,7 +6,7 @@ ghost use Rattle.std.specs.Option.{option_map};
 ghost use Rattle.std.specs.Prelude.{◌≡◌, IfOk};
 ghost use Rattle.v2_lines.specs.InfoFields.{field_of_letter};
 ghost use Rattle.v2_lines.specs.InfoValues.{sha1_in_text};
-ghost use Rattle.v2_lines.specs.Lines.{file_hash_line, folder_line_if_path, file_line_if_one_part, info_record_line, record_line_of_letter, record_line_of};
+ghost use Rattle.v2_lines.specs.Lines.{file_hash_line, folder_line_if_path, file_line_if_one_part, info_line_or_skipped_if_no_field, record_line_or_skipped_if_letter_unknown, record_line_of};
 ghost use Rattle.v2_lines.specs.Views.{line_view};
 
 use crate::access::{Access, read_access};
@@ -64,7 +64,7 @@ pub fn read_line<'a>(alloc: Global, line: &'a [u8]) -> Result<Option<Line<'a>>, 
 }
 
 // Reads the value of a line by its letter. A line with an unlisted letter is read as `Other`.
-#[tactic(auto, unfolding(crate::specs::Lines::record_line_of_letter))]
+#[tactic(auto, unfolding(crate::specs::Lines::record_line_or_skipped_if_letter_unknown))]
 fn read_by_letter<'a>(
     alloc: Global,
     letter: u8,
@@ -72,7 +72,7 @@ fn read_by_letter<'a>(
 ) -> Result<Option<Line<'a>>, AllocError>
     // On Ok, the result is the meaning of the line; None if the value is not in the grammar.
     ensures { IfOk result (λ found. option_map line_view found
-        ≡ record_line_of_letter letter value.entry.now) }
+        ≡ record_line_or_skipped_if_letter_unknown letter value.entry.now) }
 {
     match letter {
         FOLDER => Ok(folder_line(value)),
@@ -120,7 +120,7 @@ fn read_file_hash<'a>(alloc: Global, value: &[u8]) -> Result<Option<Line<'a>>, A
 fn read_info<'a>(alloc: Global, letter: u8, value: &'a [u8]) -> Result<Option<Line<'a>>, AllocError>
     // On Ok, the result is the meaning of the line; None if the value is not in the grammar.
     ensures { IfOk result (λ found. option_map line_view found
-        ≡ info_record_line (field_of_letter letter) value.entry.now) }
+        ≡ info_line_or_skipped_if_no_field (field_of_letter letter) value.entry.now) }
 {
     let Some(field) = InfoField::of(letter) else {
         return Ok(Some(Line::Other));

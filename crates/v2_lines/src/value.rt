@@ -9,7 +9,7 @@ ghost use Rattle.make_info.specs.Reading.{nonempty_part};
 ghost use Rattle.std.specs.Option.{option_map};
 ghost use Rattle.std.specs.Prelude.{◌≡◌, ◌++◌, ◌==◌, IfOk, None, Some, if◌then◌else◌, length};
 ghost use Rattle.v2_lines.specs.InfoFields.{grammar_of};
-ghost use Rattle.v2_lines.specs.InfoValues.{commit_values, single_number_value, single_text_value, sha1_in_text, bytes_if_twenty, values_under_grammar, with_needs};
+ghost use Rattle.v2_lines.specs.InfoValues.{commit_values, list_of_one_number_value, list_of_one_text_value, sha1_in_text, bytes_if_twenty, values_under_grammar, with_needs};
 ghost use Rattle.v2_lines.specs.Views.{bytes_view, needs_view, line_value_view};
 
 use crate::field::{Grammar, InfoField};
@@ -76,7 +76,7 @@ fn text_value_if(text: &[u8], is_good: bool) -> Option<Value<'_>>
 fn number_value<'a>(digits: &[u8]) -> Option<Value<'a>>
     // The result is the number in these digits, or None.
     ensures { option_map line_value_view result
-        ≡ option_map single_number_value (decimal_number digits.now) }
+        ≡ option_map list_of_one_number_value (decimal_number digits.now) }
 {
     let n = read_number(digits)?;
     Some(Value::Number(n))
@@ -86,7 +86,7 @@ fn number_value<'a>(digits: &[u8]) -> Option<Value<'a>>
 fn read_bytes<'a>(alloc: Global, text: &[u8]) -> Result<Option<Value<'a>>, AllocError>
     // On Ok, the result has the SHA-1 in the text, or is None.
     ensures { IfOk result (λ found. option_map line_value_view found
-        ≡ option_map single_text_value (sha1_in_text text.now)) }
+        ≡ option_map list_of_one_text_value (sha1_in_text text.now)) }
 {
     match read_sha1(alloc, text)? {
         Some(bytes) => Ok(Some(Value::Bytes(bytes))),

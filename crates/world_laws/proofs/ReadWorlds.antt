@@ -2,7 +2,7 @@
 use Rattle.std.proofs.Common.{◌≡◌, ℕ, List, Result, Ok, Err, refl, ap, subst}
 use Rattle.engine_core.specs.change_inputs.Chains.{and_then, with_error_as_refusal}
 use Rattle.engine_core.specs.change_inputs.Database.{root_database}
-use Rattle.engine_core.specs.change_inputs.Inputs.{Inputs, Root, database_read_number, indexes_of, inputs_from_parts, inputs_of, repositories_read_number, root_from_parts, root_for, text_database_read_number, world_read_number}
+use Rattle.engine_core.specs.change_inputs.Inputs.{Inputs, Root, database_read_number, indexes_of, inputs_from_parts, inputs_of, repositories_read_number, root_with_new_world_of_command, root_for, text_database_read_number, world_read_number}
 use Rattle.engine_core.specs.change_inputs.Repositories.{root_repositories}
 use Rattle.engine_core.specs.change_inputs.World.{root_world, found_text_or_empty}
 use Rattle.command_core.specs.Command.{CommandLine}
@@ -31,8 +31,8 @@ module _ (command : CommandLine) (read : Reads) where
   of_root root e =
       let database = and_then_ok (root_database command.flags.initdb (read database_read_number database_name) (read text_database_read_number text_database_name)) _ root e in
       let world = and_then_ok (root_world text) _ root database.2 in
-      let listed = and_then_ok (root_repositories command.flags.allow_untrusted (found_text_or_empty (read repositories_read_number repositories_name))) (λ repositories. Ok (root_from_parts command database.0 text world.0 repositories)) root world.2 in
-      let same : root_from_parts command database.0 text world.0 listed.0 ≡ root = (let last = listed.2 in cc) in
+      let listed = and_then_ok (root_repositories command.flags.allow_untrusted (found_text_or_empty (read repositories_read_number repositories_name))) (λ repositories. Ok (root_with_new_world_of_command command database.0 text world.0 repositories)) root world.2 in
+      let same : root_with_new_world_of_command command database.0 text world.0 listed.0 ≡ root = (let last = listed.2 in cc) in
       let is : world_of text ≡ Ok world.0 = refused_ok _ (world_of text) world.0 world.1 in
       subst (HasReadAndRequestedWorld command read) same (record {
         file = is;

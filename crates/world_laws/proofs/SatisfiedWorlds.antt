@@ -10,7 +10,7 @@ use Rattle.engine_core.specs.candidate_core.Candidates.{Candidate, Need, entry, 
 use Rattle.engine_core.specs.candidate_core.Options.{IsIn}
 use Rattle.engine_core.specs.candidate_core.Rank.{SealedPool, candidate_at, candidate_at_passes, meets_at}
 use Rattle.engine_core.specs.package_changes.Placed.{candidates_at}
-use Rattle.engine_core.specs.search_tables.Selection.{IsBestMember, IsSatisfying, IsSelectionWithChosenAndRestOfWalk, is_conflict_of_first_met_by_second, depends_at, install_if_applies, is_met, names_whose_install_if_applies, next_need, positive_needs}
+use Rattle.engine_core.specs.search_tables.Selection.{IsBestMember, IsSatisfying, IsRestOfSelectionWalkAfterChosen, is_conflict_of_first_met_by_second, depends_at, install_if_applies, is_met, names_whose_install_if_applies, next_need, positive_needs}
 use Rattle.engine_core.proofs.search_tables.PoolFacts.{any_in, in_filter, in_map}
 use Rattle.world_laws.specs.NextNeed.{IsFirstUnmet, IsMetByChoice, IsNextNeedOrNone}
 use Rattle.world_laws.specs.SatisfiedWorld.{InstallIfApplies, IsNeededByWorldOrPackages, IsMetByOne, MeetsOneDependency, SatisfyWorld}
@@ -193,7 +193,7 @@ module _ (pool : SealedPool) (trace : List ℕ) (are : IsSatisfying pool trace) 
       | inr behind ↦ elim behind [ inl is ↦ subst (λ (x : ℕ). IsIn x trace) (sym is) here | inr none ↦ absurd none ]
     ]
 
-    needed_from : (chosen rest : List ℕ) → AreOfTrace chosen → IsSelectionWithChosenAndRestOfWalk pool trace chosen rest → (place : ℕ) (c : Candidate) → IsIn place rest → candidate_at pool place ≡ Some c → IsNeededByWorldOrPackages pool.candidates pool.world packages c
+    needed_from : (chosen rest : List ℕ) → AreOfTrace chosen → IsRestOfSelectionWalkAfterChosen pool trace chosen rest → (place : ℕ) (c : Candidate) → IsIn place rest → candidate_at pool place ≡ Some c → IsNeededByWorldOrPackages pool.candidates pool.world packages c
     needed_from chosen [] of_trace walk place c here e = absurd here
     needed_from chosen (p ∷ rest) of_trace walk place c (inl is) e =
         let best : IsBestMember pool trace walk.0 p = walk.2 in
@@ -203,5 +203,5 @@ module _ (pool : SealedPool) (trace : List ℕ) (are : IsSatisfying pool trace) 
         let best : IsBestMember pool trace walk.0 p = walk.2 in
         needed_from (chosen ++ p ∷ []) rest (more_of chosen p of_trace best.0) walk.3 place c behind e
 
-    pub needed : IsSelectionWithChosenAndRestOfWalk pool trace [] trace → (c : Candidate) → IsIn c packages → IsNeededByWorldOrPackages pool.candidates pool.world packages c
+    pub needed : IsRestOfSelectionWalkAfterChosen pool trace [] trace → (c : Candidate) → IsIn c packages → IsNeededByWorldOrPackages pool.candidates pool.world packages c
     needed walk c here = let place = in_at pool trace c here in needed_from [] trace (λ x none. absurd none) walk place.0 c place.1 place.2

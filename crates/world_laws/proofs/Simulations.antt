@@ -7,7 +7,7 @@ use Rattle.engine_core.specs.change_files.PlanLists.{paths_with_apk_new_file, ke
 use Rattle.engine_core.specs.change_inputs.Chains.{and_then}
 use Rattle.engine_core.specs.change_inputs.Inputs.{Inputs, inputs_of}
 use Rattle.engine_core.specs.change_outcome.Made.{IsChangeMade}
-use Rattle.engine_core.specs.change_outcome.ChangeOutcome.{ChangeDone, ChangeWishes, change_or_refusal, change_report, file_change, member_installed_size, touched_paths}
+use Rattle.engine_core.specs.change_outcome.ChangeOutcome.{ChangeDone, ChangeWishes, change_or_refusal, change_report, packages_before_and_after_with_purge, member_installed_size, touched_paths}
 use Rattle.engine_core.specs.change_outcome.ConfigurationLines.{lines_of_apk_new_and_kept_paths}
 use Rattle.engine_core.specs.change_outcome.Triggers.{trigger_lines}
 use Rattle.command_core.specs.Command.{CommandLine}
@@ -17,18 +17,18 @@ use Rattle.engine_core.specs.Selecting.{pool_of_command}
 use Rattle.engine_core.specs.Wishes.{wishes_of}
 use Rattle.engine_core.specs.make_info.Reads.{Reads}
 use Rattle.engine_core.specs.package_changes.Changes.{Replacement, changes_of}
-use Rattle.engine_core.specs.package_changes.Report.{candidate_installed_size, simulated_report, still_needed_lines}
+use Rattle.engine_core.specs.package_changes.Report.{candidate_installed_size, simulated_report, lines_on_names_that_stay}
 use Rattle.engine_core.specs.path_clashes.Clash.{NamePair}
 use Rattle.engine_core.specs.candidate_core.Rank.{SealedPool}
 use Rattle.report_core.specs.Reports.{change_lines, report_line, bytes_and_package_count_text}
 use Rattle.report_core.specs.declared.refusal.Refusal.{Refusal}
-use Rattle.world_laws.specs.Simulation.{IsReportPredicted, with_simulation}
+use Rattle.world_laws.specs.Simulation.{ReportBeginsWithSimulationExceptLastLine, with_simulation}
 use Rattle.world_laws.proofs.ReadWorlds.{and_then_ok}
 
-pub reports_alike : (r : Replacement) (wishes : ChangeWishes) (change : FileChange) (files : Files) → IsReportPredicted (simulated_report r wishes.to_remove) (change_report r wishes change files)
+pub reports_alike : (r : Replacement) (wishes : ChangeWishes) (change : FileChange) (files : Files) → ReportBeginsWithSimulationExceptLastLine (simulated_report r wishes.to_remove) (change_report r wishes change files)
 unfolding simulated_report
 reports_alike r wishes change files =
-    let told = change_lines (changes_of r) ++ still_needed_lines r.before r.selected wishes.to_remove in
+    let told = change_lines (changes_of r) ++ lines_on_names_that_stay r.before r.selected wishes.to_remove in
     let configuration = lines_of_apk_new_and_kept_paths (paths_with_apk_new_file change files) (kept_left_over_paths_of change files) in
     let triggers = trigger_lines (touched_paths change files) change.members in
     let sum = report_line (bytes_and_package_count_text (sum_by member_installed_size change.members) (length change.members)) in
@@ -62,16 +62,16 @@ unfolding inputs_of
 pool_alike command read = refl
 
 by_selected : IsMadeKnown → (command : CommandLine) (read : Reads) (files : Files) (other clash : Option NamePair) (s : InputsAndReplacement) (simulation done : ChangeDone) → command.flags.simulate ≡ false
-    → change_of_selected (with_simulation command) read files other s ≡ Ok simulation → change_of_selected command read files clash s ≡ Ok done → IsReportPredicted simulation.report done.report
+    → change_of_selected (with_simulation command) read files other s ≡ Ok simulation → change_of_selected command read files clash s ≡ Ok done → ReportBeginsWithSimulationExceptLastLine simulation.report done.report
 by_selected known command read files other clash s simulation done real e d =
     let first : simulated_change s.replacement (wishes_of command) files ≡ simulation = cc in
     let is : change_or_refusal s.inputs s.replacement (wishes_of command) read clash files ≡ Ok done =
     sym (ap (λ (b : Bool). if b then Ok (simulated_change s.replacement (wishes_of command) files) else change_or_refusal s.inputs s.replacement (wishes_of command) read clash files) real) ∙ d in
     let made = known s.inputs s.replacement (wishes_of command) read clash files done is in
-    let change = file_change s.inputs (wishes_of command) made.found in
+    let change = packages_before_and_after_with_purge s.inputs (wishes_of command) made.found in
     let report : change_report s.replacement (wishes_of command) change files ≡ done.report = sym (ap (λ (x : ChangeDone). x.report) made.is) in
-    subst (IsReportPredicted simulation.report) report
-    (subst (λ (l : List ℕ). IsReportPredicted l (change_report s.replacement (wishes_of command) change files)) (ap (λ (x : ChangeDone). x.report) first)
+    subst (ReportBeginsWithSimulationExceptLastLine simulation.report) report
+    (subst (λ (l : List ℕ). ReportBeginsWithSimulationExceptLastLine l (change_report s.replacement (wishes_of command) change files)) (ap (λ (x : ChangeDone). x.report) first)
     (reports_alike s.replacement (wishes_of command) change files))
 
 module _ (one : IsOneChoice) (command : CommandLine) (read : Reads) (files : Files) (expected chosen : Option (List ℕ)) (other clash : Option NamePair) where
@@ -80,7 +80,7 @@ module _ (one : IsOneChoice) (command : CommandLine) (read : Reads) (files : Fil
 
   pub foretold : IsMadeKnown → (simulation done : ChangeDone) → command.flags.simulate ≡ false
       → IsPreferredChoiceUnlessRefused (pool_of_command (with_simulation command) read) expected → IsPreferredChoiceUnlessRefused (pool_of_command command read) chosen
-      → change_of_command (with_simulation command) read files expected other ≡ Ok simulation → change_of_command command read files chosen clash ≡ Ok done → IsReportPredicted simulation.report done.report
+      → change_of_command (with_simulation command) read files expected other ≡ Ok simulation → change_of_command command read files chosen clash ≡ Ok done → ReportBeginsWithSimulationExceptLastLine simulation.report done.report
   unfolding change_of_command
   foretold known simulation done real a b e d =
       let first = and_then_ok (selected_from_reads_by_choice (with_simulation command) read expected) (change_of_selected (with_simulation command) read files other) simulation e in

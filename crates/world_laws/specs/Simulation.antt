@@ -12,7 +12,7 @@ with_simulation command = record command { flags = with_flag Simulate command.fl
 
 -- The report of a simulation predicts the report of the change. All lines of the simulation's report except the last
 -- one, which is a sum, are the beginning of the change's report. This report ends with a sum of its own.
-pub record IsReportPredicted (simulation report : List ℕ) : Type 0 where
+pub record ReportBeginsWithSimulationExceptLastLine (simulation report : List ℕ) : Type 0 where
   -- the bytes of the lines with which both reports begin
   pub told : List ℕ
   -- the number of bytes in the last line of the simulation's report

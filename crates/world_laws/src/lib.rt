@@ -29,7 +29,7 @@ ghost use Rattle.engine_core.specs.package_changes.Report.{simulated_report};
 ghost use Rattle.engine_core.specs.path_clashes.Clash.{NamePair};
 ghost use Rattle.report_core.specs.declared.refusal.Refusal.{Refusal};
 ghost use Rattle.report_core.specs.declared.refusal.Refusal.TheVariants.{Unsatisfied};
-ghost use Rattle.world_laws.specs.Simulation.{IsReportPredicted, with_simulation};
+ghost use Rattle.world_laws.specs.Simulation.{ReportBeginsWithSimulationExceptLastLine, with_simulation};
 ghost use Rattle.engine_core.specs.change_inputs.Candidates.{candidates_of};
 ghost use Rattle.engine_core.specs.change_inputs.Inputs.{Inputs, inputs_of};
 ghost use Rattle.engine_core.specs.change_inputs.World.{new_world};
@@ -58,13 +58,13 @@ pub fn the_next_need_is_the_first_that_is_unmet()
 
 /// A law: the report of a simulation predicts that of the change. The report of the change begins
 /// with the lines of the simulation's report, to the byte, all but the last one, which is a sum
-/// (*IsReportPredicted*).
+/// (*ReportBeginsWithSimulationExceptLastLine*).
 pub fn a_simulation_predicts_the_change()
     // For one replacement, and any wishes, plan of files (`change`) and files: the report of the
     // simulation predicts that of the change.
     ensures reports { (r : Replacement) (wishes : ChangeWishes) (change : FileChange)
         (files : Files)
-        → IsReportPredicted (simulated_report r wishes.to_remove)
+        → ReportBeginsWithSimulationExceptLastLine (simulated_report r wishes.to_remove)
         (change_report r wishes change files) }
     // For one command, with and without `--simulate`, over the same reads and files: if neither is
     // refused, the report of the former predicts that of the latter. `expected` and `chosen` are
@@ -76,7 +76,7 @@ pub fn a_simulation_predicts_the_change()
         → IsPreferredChoiceUnlessRefused (pool_of_command command read) chosen
         → change_of_command (with_simulation command) read files expected other ≡ Ok simulation
         → change_of_command command read files chosen clash ≡ Ok done
-        → IsReportPredicted simulation.report done.report }
+        → ReportBeginsWithSimulationExceptLastLine simulation.report done.report }
 {
     // Laws that the proof needs; they have no effect at run time.
     a_change_that_is_made_passes_each_test();

@@ -1,6 +1,6 @@
 use Rattle.std.proofs.Common.{◌≡◌, ◌∙◌, Some, None, Ok, Err, refl, ap, sym}
 use Rattle.std.specs.Prelude.{option_map}
-use Rattle.change_outcome.specs.MembersAfter.{member_of_removed_name, kept_member_found}
+use Rattle.change_outcome.specs.MembersAfter.{no_member_unless_removal_needs_script, kept_member_found}
 use Rattle.change_outcome.specs.db_core.Seen.{packages_of}
 use Rattle.change_outcome.specs.package_changes.Placed.{package_at_old_place}
 use Rattle.change_outcome.specs.package_changes.Seen.{change_seen, placed_name_seen}
@@ -25,7 +25,7 @@ returns-in_err-test_removed-in-None-clause-found g c =
     let h = g.T.Tree.history c.args.tree.now in
     let before = packages_of c.args.db.now in
     let n = placed_name_seen c.args.name.now in
-    let test = member_of_removed_name c.args.no_scripts n.name (change_seen c.in-Some.change) (package_at_old_place before n) in
+    let test = no_member_unless_removal_needs_script c.args.no_scripts n.name (change_seen c.in-Some.change) (package_at_old_place before n) in
     test_refused {U = Unit {0}} (λ _. None) (IsNameRead h before) h (λ read k. test) (member_of_name_by_read before c.args.pool.now c.args.repositories.now c.args.no_scripts n) test test
     c.from_residual.result c.in_err-test_removed-in-None.field-0.0 c.from_residual.ensures.1 (by_any_read h _ _ (λ read k. refl)) c.in_err-test_removed-in-None.ensures
     (λ read k refusal same is. goes before c.args.pool.now c.args.repositories.now c.args.no_scripts n (change_seen c.in-Some.change) (ap (option_map change_seen) c.in-Some.is) (sym c.candidate.ensures ∙ ap (option_map candidate_value) c.in-None.is) read k ∙ is)

@@ -3,7 +3,7 @@ use Rattle.std.specs.Prelude.{IfOk}
 use Rattle.std.specs.List.{filter_map}
 use Rattle.std.specs.declared.alloc.AllocError.{AllocError}
 use Rattle.adb_view.specs.Plain.{Plain}
-use Rattle.change_report.specs.change_outcome.ChangeOutcome.{change_report, file_change}
+use Rattle.change_report.specs.change_outcome.ChangeOutcome.{change_report, packages_before_and_after_with_purge}
 use Rattle.change_report.specs.package_changes.Placed.{PlacedChange, candidates_at, change_in}
 use Rattle.change_report.specs.package_changes.Seen.{placed_replacement_from_parts}
 use Rattle.engine_core.specs.Preparing.{inputs_of_plan, wishes_of_plan}
@@ -16,7 +16,7 @@ returns c =
     let s = p.packages.now.selection.now in
     let wishes = wishes_of_plan p in
     λ history found files planned.
-    let change = file_change (inputs_of_plan p) wishes found in
+    let change = packages_before_and_after_with_purge (inputs_of_plan p) wishes found in
     c.into_text.ensures
     ∙ (c.in_ok-report.ensures s.again wishes change files (record {
       changes = ap (map (λ (p : PlacedChange). p.change)) (c.in_ok-changes.ensures ∙ ap (filter_map change_in) planned.arrived.read.placed)

@@ -3,7 +3,7 @@ use Rattle.std.proofs.lemmas.Result.{err_from_is_err_and}
 use Rattle.adb_values.specs.Drafts.{DraftState, empty_draft}
 use Rattle.adb_values.specs.adb_write.Canonical.{ByteAndValueCounts}
 use Rattle.adb_values.specs.adb_write.File.{file_of}
-use Rattle.gen_core.specs.Generated.{IsGenFault, dumped_root, file_unless_too_large, generated_file, schema_word_or_zero}
+use Rattle.gen_core.specs.Generated.{IsGenFault, dumped_root, file_of_schema_and_payload_unless_too_large, generated_file, schema_word_or_zero}
 use Rattle.gen_core.specs.Reads.{IsTextFault, table_and_draft_of_root}
 use Rattle.gen_core.specs.declared.generate.GenFault.{GenFault}
 use Rattle.gen_core.proofs.Reading.{handed_on}
@@ -24,7 +24,7 @@ returns-in_ok-file_of-in-Ok-clause-ok c =
     let r : RootOf t which c.read_text.new.draft = root_of_text t which c.read_text.new.draft (subst (λ (d : DraftState). table_and_draft_of_root (dumped_root t) d ≡ Ok (which, c.read_text.new.draft)) c.new-draft.ensures c.in_ok-which.ensures.ok) in
     let bytes : file_of (schema_word_or_zero which) c.in-Ok.payload.items ≡ c.in_ok-file_of-in-Ok.field-0.items =
     ap (λ (word : ℕ). file_of word c.in-Ok.payload.items) (sym c.schema_word_or_zero.ensures) ∙ ap (file_of c.schema_word_or_zero.result) (sym c.deref.ensures.value) ∙ sym c.in_ok-file_of-in-Ok.ensures in
-    r.file ∙ ap (file_unless_too_large (schema_word_or_zero which)) (c.in-Ok.ensures.written r.value r.draft) ∙ ap (λ (file : List ℕ). Ok file) bytes
+    r.file ∙ ap (file_of_schema_and_payload_unless_too_large (schema_word_or_zero which)) (c.in-Ok.ensures.written r.value r.draft) ∙ ap (λ (file : List ℕ). Ok file) bytes
 
 pub returns-in-Err-clause-err : goal.returns-in-Err-clause-err
 returns-in-Err-clause-err c =

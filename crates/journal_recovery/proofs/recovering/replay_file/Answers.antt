@@ -4,7 +4,7 @@ use Rattle.std.proofs.Common.{inl, refl}
 use Rattle.journal_recovery.proofs.Replaying.{no_fault}
 use Rattle.journal_recovery.proofs.Synced.{alone_bytes, alone_moments, alone_proper, alone_reads, found_moments, found_proper, found_replayed, found_settled, found_since, sync_bytes, sync_lasts, sync_moments, sync_proper, sync_reads, then_lasts}
 use Rattle.base_core.specs.Tree.{files_of}
-use Rattle.journal_core.specs.Kept.{HasOldOrNewBytesOutsideJournal, RecoversTo}
+use Rattle.journal_core.specs.Kept.{ReadsOldOrNewBytesOutsideJournal, RecoversTo}
 use Rattle.journal_core.specs.Recovery.{recovered_files}
 use Rattle.journal_core.proofs.Carried.{act_failed, act_proper, act_reads, end_moments, end_reads, end_proper, end_replayed, end_settled, none_acted}
 use Rattle.journal_recovery.proofs.recovering.replay_file.Goals as goal
@@ -102,17 +102,17 @@ returns-clause-journal g c = record {
 
 pub returns-in_err-apply_all-clause-bytes : goal.returns-in_err-apply_all-clause-bytes
 returns-in_err-apply_all-clause-bytes g c =
-    found_since _ _ _ _ _ c.in_ok-sync_all_names.ensures.moves (λ v. HasOldOrNewBytesOutsideJournal (files_of v) (recovered_files (files_of v))) (λ v q shown. inl refl) (λ v w b. b)
+    found_since _ _ _ _ _ c.in_ok-sync_all_names.ensures.moves (λ v. ReadsOldOrNewBytesOutsideJournal (files_of v) (recovered_files (files_of v))) (λ v q shown. inl refl) (λ v w b. b)
     (found_bytes _ _ c.in_ok-stage.ensures.intent c.in_ok-stage.ensures.none _ _ c.apply_all.ensures.actions.bytes)
 
 pub returns-in_err-finish-clause-bytes : goal.returns-in_err-finish-clause-bytes
 returns-in_err-finish-clause-bytes g c =
-    found_since _ _ _ _ _ c.in_ok-sync_all_names.ensures.moves (λ v. HasOldOrNewBytesOutsideJournal (files_of v) (recovered_files (files_of v))) (λ v q shown. inl refl) (λ v w b. b)
+    found_since _ _ _ _ _ c.in_ok-sync_all_names.ensures.moves (λ v. ReadsOldOrNewBytesOutsideJournal (files_of v) (recovered_files (files_of v))) (λ v q shown. inl refl) (λ v w b. b)
     (found_bytes _ _ c.in_ok-stage.ensures.intent c.in_ok-stage.ensures.none _ _ (bytes_end _ _ _ _ c.apply_all.ensures.actions.bytes c.finish.ensures.shown))
 
 pub returns-clause-bytes : goal.returns-clause-bytes
 returns-clause-bytes g c =
-    found_since _ _ _ _ _ c.in_ok-sync_all_names.ensures.moves (λ v. HasOldOrNewBytesOutsideJournal (files_of v) (recovered_files (files_of v))) (λ v q shown. inl refl) (λ v w b. b)
+    found_since _ _ _ _ _ c.in_ok-sync_all_names.ensures.moves (λ v. ReadsOldOrNewBytesOutsideJournal (files_of v) (recovered_files (files_of v))) (λ v q shown. inl refl) (λ v w b. b)
     (found_bytes _ _ c.in_ok-stage.ensures.intent c.in_ok-stage.ensures.none _ _ (bytes_end _ _ _ _ c.apply_all.ensures.actions.bytes c.finish.ensures.shown))
 
 pub returns-in_err-sync_all_names-clause-moments : goal.returns-in_err-sync_all_names-clause-moments

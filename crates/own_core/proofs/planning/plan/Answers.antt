@@ -17,8 +17,8 @@ use Rattle.own_core.proofs.PlanParts.{has_claims}
 use Rattle.own_core.proofs.WholePlan.{firsts_over}
 use Rattle.own_core.proofs.planning.plan.Goals as goal
 
-pub first_reserved_added_path-requires-clause-files : goal.first_reserved_added_path-requires-clause-files
-first_reserved_added_path-requires-clause-files g c =
+pub first_reserved_added_path_in_byte_order-requires-clause-files : goal.first_reserved_added_path_in_byte_order-requires-clause-files
+first_reserved_added_path_in_byte_order-requires-clause-files g c =
     are_claims (members_of c.args.after.now) (map claim_seen c.deref.result.now) c.listed_paths_are_names-2.ensures (ap (map claim_seen) c.deref.ensures.value ∙ c.in_ok-found.ensures.claims)
 
 pub one_of_each_path-requires : goal.one_of_each_path-requires

@@ -4,14 +4,14 @@ use Rattle.std.specs.List.{filter, flat_map}
 use Rattle.change_files.specs.PlanLists.{sorted_distinct_names}
 use Rattle.change_files.specs.db_core.Seen.{packages_of}
 use Rattle.package_changes.specs.Placed.{candidates_at}
-use Rattle.package_changes.specs.Report.{still_needed_lines_of_name, was_installed}
+use Rattle.package_changes.specs.Report.{lines_on_name_that_stays, was_installed}
 use Rattle.package_changes.specs.SelectedNames.{place_paired_with_name}
 use Rattle.package_changes.proofs.StayingNames.{only_selected_stay}
 use Rattle.package_changes.proofs.stays.push_stay_lines.Goals as goal
 
 pub returns : goal.returns
 returns c =
-    let lines : List (List ℕ) → List ℕ = λ names. flat_map (still_needed_lines_of_name (candidates_at c.args.pool.now c.args.trace.now)) (filter (was_installed (packages_of c.args.db.now)) names) in
+    let lines : List (List ℕ) → List ℕ = λ names. flat_map (lines_on_name_that_stays (candidates_at c.args.pool.now c.args.trace.now)) (filter (was_installed (packages_of c.args.db.now)) names) in
     c.in_ok-push_lines_of_names.ensures
     ∙ ap (λ z. c.args.report.now ++ z)
     (ap (λ names. lines (map (λ (n : Bor (List ℕ)). n.now) names)) (c.deref-2.ensures.value ∙ (c.in_ok-staying.ensures ∙ ap (filter (λ (n : Bor (List ℕ)). is_some (place_paired_with_name n.now c.in_ok-selected.selected))) c.deref.ensures.value))

@@ -1,6 +1,6 @@
 use Rattle.std.proofs.Common.{◌∙◌, ◌+◌, ◌<◌, ◌≤◌, ap, sym, length, arith, rules}
 use Rattle.package_files.specs.Packed.{IsPackedFile, ArePackedFiles}
-use Rattle.package_files.specs.Sources.{source_file_read_at, sources_at_place_from_read}
+use Rattle.package_files.specs.Sources.{source_file_at_place_by_read, source_files_at_place_from_read}
 use Rattle.package_files.proofs.ReadLemmas.{so_far_none, explained, explained_as, same_fault, memory_fault, told_as}
 use Rattle.package_files.proofs.PackLemmas.{file_own, packed_none, packed_more, count_more, files_go_on, files_stop, names_whole}
 use Rattle.package_files.proofs.packing.pack_files.Goals as goal
@@ -9,7 +9,7 @@ pub loop-i-init : goal.loop-i-init
 loop-i-init g c = record {
   tree = search rules;
   count = ap length c.new-files.ensures.items;
-  so_far = so_far_none _ (λ name. 1) (source_file_read_at c.args.place) (file_own c.args.place) (ArePackedFiles c.args.folder c.args.blocks.now.items c.args.blocks.now.items c.new-files.result) (packed_none _ _ _ c.new-files.ensures.items);
+  so_far = so_far_none _ (λ name. 1) (source_file_at_place_by_read c.args.place) (file_own c.args.place) (ArePackedFiles c.args.folder c.args.blocks.now.items c.args.blocks.now.items c.new-files.result) (packed_none _ _ _ c.new-files.ensures.items);
 }
 
 pub returns-in_err-file-clause-read : goal.returns-in_err-file-clause-read
@@ -45,4 +45,4 @@ pub returns-clause-read : goal.returns-clause-read
 returns-clause-read g c = λ n.
     let le : length c.args.names.now ≤ c.loop-i.i = omega arith in
     explained_as _ _ _ (c.loop-i.invariant.so_far n)
-    (λ read e. (e.0, ap (sources_at_place_from_read c.args.place read n) (sym (names_whole c.args.names.now c.loop-i.i le)) ∙ e.1, e.2))
+    (λ read e. (e.0, ap (source_files_at_place_from_read c.args.place read n) (sym (names_whole c.args.names.now c.loop-i.i le)) ∙ e.1, e.2))

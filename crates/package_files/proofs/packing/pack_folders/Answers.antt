@@ -2,7 +2,7 @@ use Rattle.std.proofs.Common.{◌∙◌, ◌+◌, ◌<◌, ◌≤◌, ap, sym, l
 use Rattle.package_files.specs.Folders.{FolderListing}
 use Rattle.package_files.specs.BorrowedNames.{listings_of}
 use Rattle.package_files.specs.Packed.{IsPackedFolder, ArePackedFolders, IsPacking}
-use Rattle.package_files.specs.Sources.{source_folder_read_at, source_folders_at_place_from_read}
+use Rattle.package_files.specs.Sources.{source_folder_at_place_by_read, source_folders_at_place_from_read}
 use Rattle.package_files.proofs.ReadLemmas.{so_far_none, explained, explained_as, same_fault, memory_fault, told_as}
 use Rattle.package_files.proofs.PackLemmas.{folder_own, folders_none, folders_packed_more, folder_count_more, folders_go_on, folders_stop, listed_here, listed_within, listed_whole, reads_in, now_of}
 use Rattle.package_files.proofs.packing.pack_folders.Goals as goal
@@ -11,7 +11,7 @@ pub loop-i-init : goal.loop-i-init
 loop-i-init g c = record {
   tree = search rules;
   count = ap length c.new-packed.ensures.items;
-  so_far = so_far_none _ reads_in (source_folder_read_at c.args.place) (folder_own c.args.place) (ArePackedFolders c.new-blocks.result.items c.new-packed.result) (folders_none _ _ c.new-blocks.ensures.items c.new-packed.ensures.items);
+  so_far = so_far_none _ reads_in (source_folder_at_place_by_read c.args.place) (folder_own c.args.place) (ArePackedFolders c.new-blocks.result.items c.new-packed.result) (folders_none _ _ c.new-blocks.ensures.items c.new-packed.ensures.items);
 }
 
 pub returns-in_err-folder-clause-read : goal.returns-in_err-folder-clause-read

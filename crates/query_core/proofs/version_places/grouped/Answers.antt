@@ -8,7 +8,7 @@ use Rattle.pool_core.proofs.candidate_core.Steps.{get_at}
 use Rattle.pool_core.specs.option_ranks.Ranking.{Ranking}
 use Rattle.pool_core.proofs.option_ranks.RankedOptions.{place_of}
 use Rattle.query_core.specs.Order.{sorted_places_passing}
-use Rattle.query_core.specs.Policy.{has_own_name_and_version_text, has_own_name, versions_without_earlier_repeats}
+use Rattle.query_core.specs.Policy.{has_own_name_and_version_text, has_own_name, versions_except_those_repeated_later}
 use Rattle.query_core.specs.QueryRanking.{AreInQueryOrder}
 use Rattle.query_core.specs.VersionPlaces.{ListsPlacesOfVersion, VersionPlaces}
 use Rattle.query_core.proofs.Gathered.{candidates_of}
@@ -51,7 +51,7 @@ loop-start-preserved c =
     (λ q. ap (λ (w : Option (List ℕ)). list_any q (filter (has_own_name_and_version_text name w) cs)) version ∙ run_is c.order_is_total.ensures cs name rs ordered.read places c.args.ordered.now.key ordered start end s found.after found.within first found.one found.other c.loop-start.invariant.apart q)
     c.in_ok-placed_version.ensures.places in
     let text : VersionPlaces → Option (List ℕ) = λ (w : VersionPlaces). w.version in
-    let later : List (Option (List ℕ)) = versions_without_earlier_repeats (map version_of (drop end rs)) in
+    let later : List (Option (List ℕ)) = versions_except_those_repeated_later (map version_of (drop end rs)) in
     record {
       same = c.loop-start.invariant.same;
       within = found.within;
@@ -75,5 +75,5 @@ returns-clause-versions c =
     let vs : List VersionPlaces = c.loop-start.versions.items in
     let none : drop c.loop-start.start rs ≡ [] = nothing_left rs c.loop-start.start (omega arith) in
     sym (append-nil (map text vs))
-    ∙ (ap (λ (qs : List Ranking). map text vs ++ versions_without_earlier_repeats (map version_of qs)) (sym none)
+    ∙ (ap (λ (qs : List Ranking). map text vs ++ versions_except_those_repeated_later (map version_of qs)) (sym none)
     ∙ (c.loop-start.invariant.versions ∙ sym (versions_are c.order_is_total.ensures cs name rs ordered.read places)))

@@ -6,7 +6,7 @@ use Rattle.base_core.specs.Tree.{files_of}
 use Rattle.journal_core.specs.Acting.{stage_with_actions_done}
 use Rattle.journal_core.specs.Recovery.{EachCrashLeavesStateOf, files_after_actions, intent_name}
 use Rattle.journal_core.specs.Kept.{RecoversTo}
-use Rattle.journal_core.specs.Staged.{Staging, HasEmptyStageAndFreeJournalPaths, IsCarryingOutActions, IsOldUntilCommit, IsHistoryThatCommitsFiles}
+use Rattle.journal_core.specs.Staged.{Staging, HasEmptyStageAndFreeJournalPaths, IsCarryingOutActions, IsOldUntilCommit, IsHistoryThatPublishesIntentForFiles}
 use Rattle.journal_core.proofs.Again.{acting_published, publish_as, publish_durable}
 use Rattle.journal_core.proofs.stage.Stage.publish.Goals as goal
 
@@ -27,7 +27,7 @@ returns-in_err-publish_intent-clause-proper g c =
 pub returns-clause-publishing : goal.returns-clause-publishing
 returns-clause-publishing g c = record {
   moments = publish_durable (λ ignored i v. SinceGivenEarlier (IsOldUntilCommit ignored (files_after_actions i (files_of v)) v) (g.T.Tree.history c.args.tree.now) (g.T.Tree.history c.publish_intent.new.tree)) c.self.inside.intent c.args.self.now _ (ap (λ (s : Staging). s.intent) c.self.view_is) c.requires.all c.in_ok-publish_intent.ensures.publishing.moments;
-  published = publish_durable (λ ignored i v. IsHistoryThatCommitsFiles ignored (files_after_actions i (files_of v)) v (g.T.Tree.history c.args.tree.now) (g.T.Tree.history c.publish_intent.new.tree)) c.self.inside.intent c.args.self.now _ (ap (λ (s : Staging). s.intent) c.self.view_is) c.requires.all c.in_ok-publish_intent.ensures.publishing.published;
+  published = publish_durable (λ ignored i v. IsHistoryThatPublishesIntentForFiles ignored (files_after_actions i (files_of v)) v (g.T.Tree.history c.args.tree.now) (g.T.Tree.history c.publish_intent.new.tree)) c.self.inside.intent c.args.self.now _ (ap (λ (s : Staging). s.intent) c.self.view_is) c.requires.all c.in_ok-publish_intent.ensures.publishing.published;
   settled = publish_durable (λ ignored i v. HoldsNow (g.T.Tree.history c.publish_intent.new.tree) (EachCrashLeavesStateOf ignored (files_after_actions i (files_of v)))) c.self.inside.intent c.args.self.now _ (ap (λ (s : Staging). s.intent) c.self.view_is) c.requires.all c.in_ok-publish_intent.ensures.publishing.settled;
   reads = publish_as (λ i base v. Since (λ w. IsSome (w.names intent_name) → RecoversTo (files_after_actions i (files_of v)) w) (g.T.Tree.history c.args.tree.now) (g.T.Tree.history c.publish_intent.new.tree)) c.self.inside.intent c.args.self.now _ (ap (λ (s : Staging). s.intent) c.self.view_is) c.requires.all c.in_ok-publish_intent.ensures.publishing.reads;
   names = c.in_ok-publish_intent.ensures.publishing.names;

@@ -3,7 +3,7 @@ use Rattle.change_files.specs.db_core.Seen.{members_of}
 use Rattle.path_claim_lists.specs.path_claims.Seen.{claim_seen}
 use Rattle.path_claim_lists.proofs.path_claims.Places.{seen_at}
 use Rattle.own_core.proofs.Refusals.{none_reserved, not_reserved_here, reserved_here}
-use Rattle.own_core.proofs.planning.first_reserved_added_path.Goals as goal
+use Rattle.own_core.proofs.planning.first_reserved_added_path_in_byte_order.Goals as goal
 
 pub is_added_and_reserved-requires : goal.is_added_and_reserved-requires
 is_added_and_reserved-requires c = c.requires.files c.loop-claim.claim-index _ (seen_at claim_seen c.args.claims.now c.loop-claim.claim-index _ c.loop-claim-test.true)

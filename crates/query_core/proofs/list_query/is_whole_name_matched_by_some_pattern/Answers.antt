@@ -2,7 +2,7 @@ use Rattle.std.proofs.Common.{◌≡◌, ◌∙◌, Bool, List, ℕ, ap, sym}
 use Rattle.pool_core.proofs.candidate_core.LoopTests.{any_at, none_next}
 use Rattle.command_core.specs.declared.operands.Operand.{Operand}
 use Rattle.star_patterns.specs.Patterns.{is_whole_text_matched}
-use Rattle.query_core.proofs.list_query.is_whole_name_matched.Goals as goal
+use Rattle.query_core.proofs.list_query.is_whole_name_matched_by_some_pattern.Goals as goal
 
 pub returns-then-matches : goal.returns-then-matches
 returns-then-matches c =
